@@ -7,10 +7,10 @@ use Rattle.record_delta.specs.Entries.{Entries}
 use Rattle.blsm_model.specs.declared.op.Op.{Op}
 use Rattle.blsm_model.specs.declared.op.Op.TheVariants.{Hold, Next, Release, Work}
 use Rattle.gear_sched.specs.Gears.{first_debt, second_debt}
-use Rattle.tree_machine.specs.Machine.{Catalogue, Machine, WorkSoFar, no_work, opened, work_of}
+use Rattle.tree_machine.specs.Machine.{Catalogue, Machine, WorkSoFar, no_work, opened, work_of, owes}
 use Rattle.tree_machine.specs.Stands.{work_at}
 use Rattle.tree_machine.specs.Steps.{Well, admit, do_hold, work_end, work_turn, look}
-use Rattle.alone_run.specs.Alone.{AlonePays, all_paid, alone, done_alone, is_over, turned}
+use Rattle.alone_run.specs.Alone.{all_paid, alone, done_alone, is_over, turned}
 use Rattle.alone_run.proofs.Fuel.{all_paid_even, paid_synced}
 use Rattle.alone_run.proofs.Moves.{Synced}
 use Rattle.alone_run.proofs.Payments.{IsEven, not_owing, paid_seen}
@@ -116,7 +116,8 @@ module _ (s : ℕ) (caller : s < callers) where
 pub opened_goes : (s : ℕ) (caller : s < callers) (sizes : Sizes) (c1 c2 : Entries) (catalogue : Catalogue) (faults : ℕ) (room : Room) → IsGoing s caller (opened sizes c1 c2 catalogue faults room)
 opened_goes s caller sizes c1 c2 catalogue faults room = record { runs = refl; works = refl; synced = (refl, refl); even = (replicated s, replicated s) }
 
-pub alone_pays : AlonePays
+pub alone_pays : (sizes : Sizes) (c1 c2 : Entries) (catalogue : Catalogue) (faults : ℕ) (room : Room) (seat : ℕ) (ops : List Op) → seat < callers
+    → ((alone seat (opened sizes c1 c2 catalogue faults room) ops).stopped ≡ None) × (owes seat (alone seat (opened sizes c1 c2 catalogue faults room) ops) ≡ false)
 alone_pays sizes c1 c2 catalogue faults room s ops caller =
     let begin = opened sizes c1 c2 catalogue faults room in
     let goes = alone_goes s caller ops begin (opened_goes s caller sizes c1 c2 catalogue faults room) in

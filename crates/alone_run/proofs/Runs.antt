@@ -17,7 +17,7 @@ use Rattle.tree_machine.specs.declared.step.Step.{Step}
 use Rattle.tree_machine.specs.Machine.{Catalogue, Machine, WorkSoFar, no_work, opened, totals, work_of}
 use Rattle.tree_machine.specs.Plays.{is_help, may, may_step, played, played_one, stepped, stepped_as}
 use Rattle.tree_machine.specs.Steps.{Outcome, Well, do_hold}
-use Rattle.alone_run.specs.Alone.{alone, EndsAlone, IsAsAlone, NoneHelps, RunsAlone, SameText, but_left, is_trouble, ops_in}
+use Rattle.alone_run.specs.Alone.{alone, EndsAlone, IsAsAlone, NoneHelps, but_left, is_trouble, ops_in}
 use Rattle.alone_run.proofs.Going.{alone_same, opened_goes}
 use Rattle.alone_run.proofs.Resumed.{alone_resumed}
 use Rattle.alone_run.proofs.Cases.{Before, IsAlone, Leads, admits, end_leads, even_pays, free_reads, leaves, no_other_turns, own_pays, own_turns, turning_caller, looks}
@@ -118,7 +118,12 @@ as_alone end one alike = record {
   state = alike;
 }
 
-pub runs_alone : RunsAlone
+-- Whatever steps led from an opening to an end that only this seat asked, and in whatever order the callers came and left: it is the end to which
+-- the seat's commands lead, done alone.
+pub runs_alone : (sizes : Sizes) (c1 c2 : Entries) (catalogue : Catalogue) (faults : ℕ) (room : Room) (seat : ℕ) (made : List (Step × Outcome)) → seat < callers → NoneHelps made
+    → EndsAlone seat (played (opened sizes c1 c2 catalogue faults room) made)
+    → IsAsAlone (played (opened sizes c1 c2 catalogue faults room) made)
+    (alone seat (opened sizes c1 c2 catalogue faults room) (ops_in (played (opened sizes c1 c2 catalogue faults room) made).book.entries))
 runs_alone sizes c1 c2 catalogue faults room s made caller helps ends =
     let begin = opened sizes c1 c2 catalogue faults room in
     let end = played begin made in
@@ -129,7 +134,10 @@ runs_alone sizes c1 c2 catalogue faults room s made caller helps ends =
     ∙ ap (λ es. but_left (alone_resumed s begin (ops_in es))) (sym leads.entries)
     ∙ ap but_left (alone_same s caller (ops_in end.book.entries) begin (opened_goes s caller sizes c1 c2 catalogue faults room) (ap (λ (w : WorkSoFar). w.turns) (of_replicate callers s no_work))))
 
-pub same_text : SameText
+pub same_text : (sizes : Sizes) (c1 c2 : Entries) (catalogue : Catalogue) (faults : ℕ) (room : Room) (seat : ℕ) (made others : List (Step × Outcome)) → seat < callers → NoneHelps made → NoneHelps others
+    → EndsAlone seat (played (opened sizes c1 c2 catalogue faults room) made) → EndsAlone seat (played (opened sizes c1 c2 catalogue faults room) others)
+    → ops_in (played (opened sizes c1 c2 catalogue faults room) made).book.entries ≡ ops_in (played (opened sizes c1 c2 catalogue faults room) others).book.entries
+    → IsAsAlone (played (opened sizes c1 c2 catalogue faults room) made) (played (opened sizes c1 c2 catalogue faults room) others)
 same_text sizes c1 c2 catalogue faults room s made others caller helps help ends end ops =
     let begin = opened sizes c1 c2 catalogue faults room in
     as_alone (played begin made) (played begin others)

@@ -16,7 +16,6 @@ use Rattle.tree_machine.proofs.FrameLemmas.{step_follows}
 use Rattle.tree_machine.specs.declared.step.Kind.{Kind}
 use Rattle.tree_machine.specs.declared.step.Kind.TheVariants as kind
 use Rattle.tree_machine.specs.declared.step.Step.{Step}
-use Rattle.tree_machine.specs.Frames.{turns_of}
 use Rattle.tree_machine.specs.Machine.{Machine, WorkSoFar, is_caller, no_work, seats, work_of}
 use Rattle.tree_machine.specs.Outcomes.{work_choice}
 use Rattle.tree_machine.specs.Plays.{has_room, is_between, is_even, may, may_note, may_step, played, played_one, stepped, stepped_as}
@@ -25,6 +24,7 @@ use Rattle.alone_run.proofs.Moves.{chosen_moves}
 use Rattle.alone_run.proofs.Payments.{pay_as_well, pay_pays}
 use Rattle.alone_run.proofs.Readings.{Seen, entry_of, last_of}
 use Rattle.alone_run.proofs.Turns.{turn_as_well, turn_is}
+use Rattle.tree_machine.proofs.Terms.{turns_of}
 
 -- ---- entries and stops
 

@@ -3,18 +3,15 @@
 use Rattle.std.specs.Prelude.{◌≡◌, ℕ, zero, suc, ◌+◌, ◌<◌, Bool, true, false, not, ◌&&◌, List, [], ◌∷◌, map, None, if◌then◌else◌, nat_lt}
 use Rattle.std.specs.List.{AllByRecursion}
 use Rattle.blsm_model.specs.Format.{callers}
-use Rattle.blsm_model.specs.Sizes.{Sizes}
 use Rattle.blsm_model.specs.declared.history.Entry.{Entry}
 use Rattle.blsm_model.specs.declared.history.Reply.{Reply}
 use Rattle.blsm_model.specs.declared.history.Reply.TheVariants.{Fault, Damaged, NoMemory}
 use Rattle.blsm_model.specs.declared.op.Op.{Op}
 use Rattle.blsm_model.specs.declared.op.Op.TheVariants.{Hold, Next, Release, Work}
-use Rattle.blsm_model.specs.declared.room.Room.{Room}
 use Rattle.gear_sched.specs.Gears.{first_debt, second_debt}
-use Rattle.record_delta.specs.Entries.{Entries}
 use Rattle.tree_machine.specs.declared.step.Step.{Step}
-use Rattle.tree_machine.specs.Machine.{Catalogue, Machine, WorkSoFar, is_worked, opened, owes, totals, work_of}
-use Rattle.tree_machine.specs.Plays.{is_help, played}
+use Rattle.tree_machine.specs.Machine.{Machine, WorkSoFar, is_worked, owes, totals, work_of}
+use Rattle.tree_machine.specs.Plays.{is_help}
 use Rattle.tree_machine.specs.Steps.{Outcome, Well, admit, drop_hold, hold, next_rows, pay, work_end, work_turn, look}
 use Rattle.blsm_model.specs.Legal.{is_look}
 
@@ -86,25 +83,3 @@ pub record IsAsAlone (end alone : Machine) : Type 0 where
   pub quanta : end.book.quanta ≡ alone.book.quanta
   pub totals_are : totals end ≡ totals alone
   pub state : but_left end ≡ but_left alone
-
--- ---- the laws
-
--- Whatever steps led from an opening to an end that only this seat asked, and in whatever order the callers came and left: it is the end to which
--- the seat's commands lead, done alone.
-abbrev pub RunsAlone : Type 0
-RunsAlone = (sizes : Sizes) (c1 c2 : Entries) (catalogue : Catalogue) (faults : ℕ) (room : Room) (seat : ℕ) (made : List (Step × Outcome)) → seat < callers → NoneHelps made
-    → EndsAlone seat (played (opened sizes c1 c2 catalogue faults room) made)
-    → IsAsAlone (played (opened sizes c1 c2 catalogue faults room) made)
-    (alone seat (opened sizes c1 c2 catalogue faults room) (ops_in (played (opened sizes c1 c2 catalogue faults room) made).book.entries))
-
--- So two such runs from one opening that were asked the same commands print the same, and leave the same state but for which callers left.
-abbrev pub SameText : Type 0
-SameText = (sizes : Sizes) (c1 c2 : Entries) (catalogue : Catalogue) (faults : ℕ) (room : Room) (seat : ℕ) (made others : List (Step × Outcome)) → seat < callers → NoneHelps made → NoneHelps others
-    → EndsAlone seat (played (opened sizes c1 c2 catalogue faults room) made) → EndsAlone seat (played (opened sizes c1 c2 catalogue faults room) others)
-    → ops_in (played (opened sizes c1 c2 catalogue faults room) made).book.entries ≡ ops_in (played (opened sizes c1 c2 catalogue faults room) others).book.entries
-    → IsAsAlone (played (opened sizes c1 c2 catalogue faults room) made) (played (opened sizes c1 c2 catalogue faults room) others)
-
--- Done alone, the tree runs on, and each command is paid for in full: the payments never run out.
-abbrev pub AlonePays : Type 0
-AlonePays = (sizes : Sizes) (c1 c2 : Entries) (catalogue : Catalogue) (faults : ℕ) (room : Room) (seat : ℕ) (ops : List Op) → seat < callers
-    → ((alone seat (opened sizes c1 c2 catalogue faults room) ops).stopped ≡ None) × (owes seat (alone seat (opened sizes c1 c2 catalogue faults room) ops) ≡ false)

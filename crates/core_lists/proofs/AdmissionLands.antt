@@ -1,5 +1,5 @@
 -- An admission's moves, over the lists.
-use Rattle.std.specs.Prelude.{is_some, nat_lt}
+use Rattle.std.specs.Prelude.{is_some, nat_lt, ◌∷◌, []}
 use Rattle.std.proofs.lemmas.Grind.{common_steps}
 use Rattle.std.proofs.lemmas.Bool.Decides.{nat_tests}
 use Rattle.std.proofs.Common.{arith}
@@ -15,20 +15,23 @@ use Rattle.gear_sched.specs.Gears.{GearState}
 use Rattle.seat_book.specs.State.{noted_in}
 use Rattle.tree_machine.specs.Machine.{Machine, in_pass, pass_done, deep_done}
 use Rattle.tree_machine.specs.Moves.{begin_pass, swap_deep, swap_pass, take_write, with_peak, note}
-use Rattle.tree_machine.specs.Steps.{deep_swapped, swapped, ready_for, taken_once}
+use Rattle.tree_machine.specs.Steps.{deep_swapped, swapped, ready_for, taken_once, pass_swapped, pass_begun_for, Well, admit_fitting}
 use Rattle.tree_machine.proofs.CarryLemmas.{deep_swapped_carries, swapped_carries, ready_carries}
 use Rattle.tree_file.specs.Tree.{Tree}
-use Rattle.tree_log.specs.Log.{appended}
+use Rattle.tree_log.specs.Log.{appended, IsLogOf}
 use Rattle.tree_runs.specs.Holding.{AreOf}
 use Rattle.core_moves.specs.declared.held.Held.{Held}
 use Rattle.core_moves.specs.Held.{goes_ahead}
-use Rattle.core_moves.specs.Moves.{SettlesDeep, SettlesPass, with_pass_begun, with_book}
-use Rattle.core_lists.specs.Standing.{IsAt}
-use Rattle.core_lists.specs.Lists.{Agrees}
-use Rattle.core_lists.specs.Admissions.{DeepSettlingLands, PassSettlingLands, BeginningLands, ReadyingLands, AdmissionLands}
+use Rattle.core_moves.specs.Moves.{SettlesDeep, SettlesPass, with_pass_begun, with_book, begun_in, WritesIn}
+use Rattle.core_lists.specs.Admissions.{DeepSettlesTree}
 use Rattle.core_lists.proofs.SwapLands.{deep_swap_lands, pass_swap_lands, begin_lands}
 use Rattle.core_lists.proofs.WriteLands.{runs_as, write_lands, book_lands}
 use Rattle.core_lists.proofs.TestLemmas.{tests_agree_with_lists}
+use Rattle.pacing.specs.Pace.{Pace}
+use Rattle.tree_machine.specs.Layers.{IsSound, HasWay}
+use Rattle.core_pace.specs.Pacing.{HasPace}
+use Rattle.blsm_model.specs.declared.op.Op.{Op}
+use Rattle.core_lists.proofs.Terms.{IsAt, Agrees, PassSettlesTree, Readies, IsReadied}
 
 -- a test that doesn't hold fails
 fails : (b : Bool) → (b ≡ true → ⊥) → b ≡ false
@@ -41,7 +44,8 @@ same_tree held new tree next m file after same stays at are_of =
     let here : IsAt new next m file = subst (λ (h : Held). IsAt h next m file) (sym same) there in
     record { are_of = are_of; holds = here.holds }
 
-pub deep_settling_lands : DeepSettlingLands
+pub deep_settling_lands : (old new : Held) (tree next : Tree) (m : Machine) (pace : Pace) (file after : List ℕ) → IsAt old tree m file → IsSound m → HasPace old pace
+    → SettlesDeep old new → DeepSettlesTree old tree next → AreOf new.runs next new.log.a.entries after → IsAt new next (deep_swapped m) after
 deep_settling_lands old new tree next m pace file after at sound has settles trees are_of =
     let agrees : Agrees old m = tests_agree_with_lists old tree m file pace at sound has in
     ⊎_elim (λ done.
@@ -52,7 +56,8 @@ deep_settling_lands old new tree next m pace file after at sound has settles tre
     subst (λ (b : Bool). IsAt new next (cond b (swap_deep m) m) after) (sym is) (same_tree old new tree next m file after rests.1 (trees.rests rests.0) at are_of))
     settles
 
-pub pass_settling_lands : PassSettlingLands
+pub pass_settling_lands : (old new : Held) (tree next : Tree) (m : Machine) (pace : Pace) (file after : List ℕ) → IsAt old tree m file → IsSound m → HasPace old pace → old.gears.sizes ≡ old.runs.sizes
+    → SettlesPass old new → PassSettlesTree old new tree next → AreOf new.runs next new.log.a.entries after → IsAt new next (pass_swapped m) after
 pass_settling_lands old new tree next m pace file after at sound has sizes settles trees are_of =
     let agrees : Agrees old m = tests_agree_with_lists old tree m file pace at sound has in
     ⊎_elim (λ done.
@@ -64,7 +69,9 @@ pass_settling_lands old new tree next m pace file after at sound has sizes settl
     subst (λ (b : Bool). IsAt new next (cond b (swap_pass m) m) after) (sym is) (same_tree old new tree next m file after rests.1 (trees.rests rests.0) at are_of))
     settles
 
-pub beginning_lands : BeginningLands
+-- a pass begins where it is due: the file stays
+pub beginning_lands : (w : ℕ) (held : Held) (tree : Tree) (m : Machine) (file : List ℕ) → IsAt held tree m file → IsSound m → held.gears.sizes ≡ held.runs.sizes
+    → AreOf (begun_in w held).runs tree (begun_in w held).log.a.entries file → IsAt (begun_in w held) tree (pass_begun_for w m) file
 beginning_lands w held tree m file at sound sizes are_of =
     subst (λ (b : Bool). IsAt (cond test (with_pass_begun held) held) tree (cond b (begin_pass m) m) file) (sym same) (by test are_of)
   where
@@ -91,7 +98,9 @@ sizes_after_deep old new settles sizes = grind (arith, common_steps, nat_tests)
 sizes_after_pass : (old new : Held) → SettlesPass old new → old.gears.sizes ≡ old.runs.sizes → new.gears.sizes ≡ new.runs.sizes
 sizes_after_pass old new settles sizes = grind (arith, common_steps, nat_tests)
 
-pub readying_lands : ReadyingLands
+-- The numbers before each swap are some pace's.
+pub readying_lands : (w : ℕ) (old settled ready : Held) (tree middle next : Tree) (m : Machine) (before after : Pace) (file between last : List ℕ) → IsAt old tree m file → IsSound m → HasWay m
+    → old.gears.sizes ≡ old.runs.sizes → HasPace old before → HasPace settled after → Readies w old settled ready tree middle next between last → IsReadied w settled ready middle next m between last
 readying_lands w old settled ready tree middle next m before after file between last at sound way sizes has then_has moves =
     let then_sizes = sizes_after_deep old settled moves.deep sizes in
     let first = deep_settling_lands old settled tree middle m before file between at sound has moves.deep moves.deep_tree moves.after_deep in
@@ -102,7 +111,12 @@ readying_lands w old settled ready tree middle next m before after file between 
       begun = beginning_lands w ready next (swapped m) last second (swapped_carries m sound way).sound (sizes_after_pass settled ready moves.pass then_sizes) moves.begun;
     }
 
-pub admission_lands : AdmissionLands
+-- The admission is the machine's own, where all went well.
+pub admission_lands : (seat : ℕ) (op : Op) (write : Write) (begun written new : Held) (tree : Tree) (m : Machine) (file after : List ℕ) → writes_of op ≡ write ∷ [] → IsSound m → HasWay m
+    → IsAt begun tree (ready_for (total_weight (writes_of op)) m) file → WritesIn seat (key_of write) (record_of write) begun written → new ≡ with_book (noted_in seat op Done written.book) written
+    → (IsLogOf tree begun.log → IsLogOf (appended (goes_ahead (key_of write) begun) (key_of write, record_of write) tree) written.log)
+    → AreOf written.runs (appended (goes_ahead (key_of write) begun) (key_of write, record_of write) tree) written.log.a.entries after
+    → IsAt new (appended (goes_ahead (key_of write) begun) (key_of write, record_of write) tree) (admit_fitting m seat op (total_weight (writes_of op)) Well).state after
 admission_lands seat op write begun written new tree m file after writes sound way at moves noted of_log are_of =
     let w = total_weight (writes_of op) in
     let ready = ready_for w m in

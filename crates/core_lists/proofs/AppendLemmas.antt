@@ -28,14 +28,13 @@ use Rattle.gear_sched.specs.Gears.{first_debt, second_debt}
 use Rattle.pacing.specs.Pace.{Pace, charge as pace_charge}
 use Rattle.pacing.specs.Kept.{IsPaced}
 use Rattle.pacing.specs.Steps.{Admit, Lands, MayAdmit, after as pacing_after, ready_for as pace_ready_for}
-use Rattle.pacing.specs.Fronts.{Fronts, AreFronts, fronts_ready, fronts_written}
+use Rattle.pacing.specs.Fronts.{Fronts, AreFronts}
 use Rattle.pacing.proofs.Admissions.{ready_kept}
 use Rattle.pacing.proofs.Fronts.{step_fronts}
 use Rattle.tree_machine.specs.Lists.{Lists, memory_weight}
-use Rattle.tree_machine.specs.Layers.{Carries}
 use Rattle.tree_machine.specs.Machine.{Machine, charge, is_caller}
 use Rattle.tree_machine.specs.Moves.{goes_to_a, with_write, take_write, with_peak, note}
-use Rattle.tree_machine.specs.Steps.{Well, replied, admit_fitting, unless_stopped as machine_unless, taken_once, ready_for}
+use Rattle.tree_machine.specs.Steps.{Well, replied, admit_fitting, unless_stopped as machine_unless, taken_once, ready_for, admit}
 use Rattle.tree_machine.specs.Plays.{has_room, is_between, may_note, is_even, stepped}
 use Rattle.tree_machine.specs.declared.step.Kind.TheVariants as kind
 use Rattle.tree_machine.specs.declared.step.Step.{Step}
@@ -56,12 +55,16 @@ use Rattle.tree_log.specs.Log.{appended}
 use Rattle.core_moves.specs.declared.held.Held.{Held}
 use Rattle.core_moves.specs.Held.{goes_ahead}
 use Rattle.core_lists.specs.Shown.{HasFronts, ShowsHistory, WeighsWithin, doubted, lanes_weight, most_worked, weight_in_doubt}
-use Rattle.core_lists.specs.Images.{MayAppend, ShowsNoted, with_appended, history_with, AppendShows, UnsureShows}
-use Rattle.core_lists.specs.Going.{GoesOn, AdmissionGoesOn}
+use Rattle.core_lists.specs.Images.{ShowsNoted, history_with}
+use Rattle.core_lists.specs.Going.{GoesOn}
 use Rattle.core_lists.proofs.ShownLemmas.{fronts_grow}
 use Rattle.core_lists.proofs.ShowingLemmas.{ReadsHistory, standing_reads, swapped_reads, begun_lists, shows_by, sure_writes, running_writes}
 use Rattle.core_lists.proofs.FileWeights.{paced_components, ready_counts, ready_weighs, same_work}
 use Rattle.core_lists.proofs.WriteLands.{same_way, write_has_lists}
+use Rattle.tree_file.specs.Places.{HoldsEither}
+use Rattle.core_lists.proofs.Terms.{MayAppend, with_appended}
+use Rattle.tree_machine.proofs.Terms.{Carries}
+use Rattle.pacing.proofs.Terms.{fronts_ready, fronts_written}
 
 -- a test that fails
 pub not_past : (limit n : ℕ) → n ≤ limit → nat_lt limit n ≡ false
@@ -248,12 +251,17 @@ module _ (opening : List (Key × Value)) (m : Machine) (pace : Pace) (fronts : F
     ready_weighs w opening m pace tree (history_with seat op FaultUnsure m) file is.paced is.holds.lists holds,
   )
 
-pub append_goes_on : AdmissionGoesOn
+pub append_goes_on : (opening : List (Key × Value)) (m : Machine) (pace : Pace) (fronts : Fronts) (seat : ℕ) (op : Op) (write : Write) (begun : Held) (tree : Tree) → MayAppend opening m pace fronts seat op write begun tree
+    → (then : Fronts) × GoesOn opening (admit m seat op Well).state (pace_after m pace seat (kind.Admit op) Well) then (with_appended write begun tree)
 append_goes_on opening m pace fronts seat op write begun tree is = goes_on opening m pace fronts seat op write begun tree is
 
-pub append_shows : AppendShows
+-- A file that has the write shows the history with it as done.
+pub append_shows : (opening : List (Key × Value)) (m : Machine) (pace : Pace) (fronts : Fronts) (seat : ℕ) (op : Op) (write : Write) (begun : Held) (tree : Tree) (file : List ℕ) → MayAppend opening m pace fronts seat op write begun tree
+    → HoldsTree m.gears.sizes (with_appended write begun tree) file → ShowsHistory m.gears.sizes opening (history_with seat op Done m) (length m.book.entries + 1) file
 append_shows opening m pace fronts seat op write begun tree file is holds = shows_done opening m pace fronts seat op write begun tree is file holds
 
-pub unsure_shows : UnsureShows
+-- A file that has it or not shows the history with it as unsure.
+pub unsure_shows : (opening : List (Key × Value)) (m : Machine) (pace : Pace) (fronts : Fronts) (seat : ℕ) (op : Op) (write : Write) (begun : Held) (tree : Tree) (file : List ℕ) → MayAppend opening m pace fronts seat op write begun tree
+    → HoldsEither m.gears.sizes tree (with_appended write begun tree) file → ShowsNoted opening seat op FaultUnsure m file
 unsure_shows opening m pace fronts seat op write begun tree file is either =
     ⊎_elim (shows_out opening m pace fronts seat op write begun tree is file) (shows_in opening m pace fronts seat op write begun tree is file) either

@@ -25,7 +25,8 @@ use Rattle.paced_tree.specs.Numbers.{IsPaceOf}
 use Rattle.paced_tree.proofs.Moves.{settled_of, ready_of}
 use Rattle.paced_tree.proofs.Promises.{has_way}
 use Rattle.tree_file.specs.Tree.{Tree, HoldsTree, components_weight, lists_of}
-use Rattle.core_lists.specs.Shown.{CountsAs, WeighsWithin, doubted, most_worked, weight_in_doubt}
+use Rattle.core_lists.specs.Shown.{WeighsWithin, doubted, most_worked, weight_in_doubt}
+use Rattle.core_lists.proofs.Terms.{CountsAs}
 
 -- ---- machines that count the same
 

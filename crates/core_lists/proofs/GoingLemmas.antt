@@ -1,5 +1,5 @@
 -- What goes on from an opening on, step by step.
-use Rattle.std.specs.Prelude.{⊤}
+use Rattle.std.specs.Prelude.{⊤, ◌≤◌, ◌<◌, IsTrue}
 use Rattle.std.proofs.lemmas.Grind.{common_steps}
 use Rattle.std.proofs.lemmas.Bool.Decides.{nat_tests}
 use Rattle.std.proofs.Common.{◌≡◌, ◌∙◌, ℕ, ◌+◌, Bool, true, false, cond, List, Option, None, ap, sym, subst, arith}
@@ -18,13 +18,13 @@ use Rattle.pacing.specs.Pace.{Pace, with_forgiven}
 use Rattle.pacing.specs.Kept.{IsPaced}
 use Rattle.pacing.specs.Steps as pacing
 use Rattle.pacing.specs.Steps.{Move, Pay, Turn, turn_of, is_worker_seat}
-use Rattle.pacing.specs.Fronts.{Fronts, AreFronts, fronts_by}
+use Rattle.pacing.specs.Fronts.{Fronts, AreFronts}
 use Rattle.pacing.proofs.Fronts.{step_fronts}
 use Rattle.tree_machine.specs.Lists.{Lists}
 use Rattle.tree_machine.specs.Machine.{Machine, Failed, BadPage, charge, is_closed}
 use Rattle.tree_machine.specs.Moves.{note}
 use Rattle.tree_machine.specs.Steps as machine
-use Rattle.tree_machine.specs.Steps.{Outcome, Well, Answer, Paid, Settled, Choice, replied, unless_stopped as machine_unless, admit_fitting, chosen, ended_as, worker_turning}
+use Rattle.tree_machine.specs.Steps.{Outcome, Well, Answer, Paid, Settled, Choice, replied, unless_stopped as machine_unless, admit_fitting, chosen, ended_as, worker_turning, admit, worker_turn}
 use Rattle.tree_machine.specs.Plays.{may, stepped_as}
 use Rattle.tree_machine.specs.Stands.{WritesFit}
 use Rattle.tree_machine.specs.declared.step.Kind.{Kind}
@@ -42,13 +42,18 @@ use Rattle.tree_file.specs.Tree.{Tree}
 use Rattle.core_moves.specs.declared.held.Held.{Held}
 use Rattle.core_pace.specs.Turns.{move_in}
 use Rattle.core_lists.specs.Shown.{HasFronts}
-use Rattle.core_lists.specs.Lists.{helped}
-use Rattle.core_lists.specs.Steps.{TurnsTree, choice_of, chosen_by}
-use Rattle.core_lists.specs.Going.{StandingIsSteady, FailuresAreTheMachines, AdmissionFits, AdmissionGoesOn, RefusalGoesOn, ClosedTurnGoesOn, PaymentGoesOn, TurnGoesOn, IsQuiet, QuietGoesOn, kind_of_turn, IsOpenTo}
+use Rattle.core_lists.specs.Steps.{TurnsTree, choice_of}
+use Rattle.core_lists.specs.Going.{GoesOn}
 use Rattle.core_lists.proofs.StepLands.{choices_agree}
 use Rattle.core_lists.proofs.AppendLemmas.{append_goes_on}
+use Rattle.blsm_model.specs.declared.op.Op.{Op}
+use Rattle.blsm_model.specs.declared.op.Write.{Write}
+use Rattle.core_lists.proofs.Terms.{helped, chosen_by, IsSteady, IsQuiet, kind_of_turn, IsOpenTo, AdmissionFails, StandsIn, MayAppend, with_appended}
+use Rattle.pacing.proofs.Terms.{fronts_by}
 
-pub standing_is_steady : StandingIsSteady
+-- Where the core stands so, and runs, its steps over lists have what they rest on.
+pub standing_is_steady : (opening : List (Key × Value)) (held : Held) (m : Machine) (pace : Pace) (fronts : Fronts) (tree : Tree) (file : List ℕ) → StandsIn opening held m pace fronts tree file → m.stopped ≡ None
+    → IsSteady held tree m file × GoesOn opening m pace fronts tree
 standing_is_steady opening held m pace fronts tree file is runs =
     let sizes : pace.gears.sizes ≡ held.runs.sizes = sym (ap (λ (p : Pace). p.gears.sizes) is.paced.of_tree.numbers) ∙ ap (λ (g : GearState). g.sizes) is.at.holds.gears ∙ is.one in (
       record {
@@ -65,13 +70,16 @@ standing_is_steady opening held m pace fronts tree file is runs =
 
 -- ---- an admission
 
-pub admission_fits : AdmissionFits
+-- of a tree that runs, where there is room
+pub admission_fits : (m : Machine) (seat : ℕ) (op : Op) (outcome : Outcome) → m.stopped ≡ None → charge m + total_weight (writes_of op) ≤ charge_limit m.gears.sizes (is_del op)
+    → admit m seat op outcome ≡ admit_fitting m seat op (total_weight (writes_of op)) outcome
 admission_fits m seat op outcome runs room = grind (arith, common_steps, nat_tests)
 
-pub failures_are_the_machines : FailuresAreTheMachines
+pub failures_are_the_machines : (m : Machine) (seat : ℕ) (op : Op) (w faults : ℕ) → AdmissionFails m seat op w faults
 failures_are_the_machines m seat op w faults = grind (arith, common_steps, nat_tests)
 
-pub admission_goes_on : AdmissionGoesOn
+pub admission_goes_on : (opening : List (Key × Value)) (m : Machine) (pace : Pace) (fronts : Fronts) (seat : ℕ) (op : Op) (write : Write) (begun : Held) (tree : Tree) → MayAppend opening m pace fronts seat op write begun tree
+    → (then : Fronts) × GoesOn opening (admit m seat op Well).state (pace_after m pace seat (kind.Admit op) Well) then (with_appended write begun tree)
 admission_goes_on opening m pace fronts seat op write begun tree is = append_goes_on opening m pace fronts seat op write begun tree is
 
 -- ---- a step's pace
@@ -86,7 +94,10 @@ module _ (opening : List (Key × Value)) (m : Machine) (pace : Pace) (seat : ℕ
   made : IsMadeBy seat k (stepped_as m seat k outcome).answer pace (pace_after m pace seat k outcome)
   made = step_made opening m pace seat k outcome paced.stands (has_way opening m pace paced) (record { of_tree = paced.of_tree; paced = paced.paced }) ok fits
 
-pub refusal_goes_on : RefusalGoesOn
+-- a write that is refused for its size
+pub refusal_goes_on : (opening : List (Key × Value)) (m : Machine) (pace : Pace) (fronts : Fronts) (tree : Tree) (seat : ℕ) (op : Op) (outcome : Outcome) → m.stopped ≡ None
+    → charge_limit m.gears.sizes (is_del op) < charge m + total_weight (writes_of op) → IsTrue (may m seat (kind.Admit op)) → WritesFit (kind.Admit op) → GoesOn opening m pace fronts tree
+    → ((admit m seat op outcome).state ≡ note seat op (Full (charge m)) m) × GoesOn opening (admit m seat op outcome).state (pace_after m pace seat (kind.Admit op) outcome) fronts tree
 refusal_goes_on opening m pace fronts tree seat op outcome runs heavy ok fits goes =
     (state, record { paced = then_paced opening m pace seat (kind.Admit op) outcome ok fits goes.paced; within = subst (λ (p : Pace). AreFronts p fronts) (sym same_pace) goes.within; lanes = subst (λ (s : Machine). HasFronts tree s.lists fronts) (sym state) goes.lanes })
   where
@@ -119,7 +130,8 @@ paid_fronts opening m pace then fronts seat answer paced within made = subst (λ
 paid_lists : (m : Machine) (seat : ℕ) (outcome : Outcome) → (stepped_as m seat kind.Pay outcome).state.lists ≡ m.lists
 paid_lists m seat outcome = grind (arith, common_steps, nat_tests)
 
-pub payment_goes_on : PaymentGoesOn
+pub payment_goes_on : (opening : List (Key × Value)) (m : Machine) (pace : Pace) (fronts : Fronts) (tree : Tree) (seat : ℕ) (outcome : Outcome) → IsTrue (may m seat kind.Pay) → GoesOn opening m pace fronts tree
+    → GoesOn opening (stepped_as m seat kind.Pay outcome).state (pace_after m pace seat kind.Pay outcome) fronts tree
 payment_goes_on opening m pace fronts tree seat outcome ok goes = record {
   paced = then_paced opening m pace seat kind.Pay outcome ok tt goes.paced;
   within = paid_fronts opening m pace (pace_after m pace seat kind.Pay outcome) fronts seat (stepped_as m seat kind.Pay outcome).answer goes.paced goes.within (made opening m pace seat kind.Pay outcome ok tt goes.paced);
@@ -168,7 +180,9 @@ turn_paced : (is_worker : Bool) (opening : List (Key × Value)) (m : Machine) (p
 turn_paced true opening m pace seat ok paced = then_paced opening m pace seat kind.WorkerTurn Well ok tt paced
 turn_paced false opening m pace seat ok paced = then_paced opening m pace seat kind.WorkTurn Well ok tt paced
 
-pub turn_goes_on : TurnGoesOn
+pub turn_goes_on : (is_worker : Bool) (opening : List (Key × Value)) (m : Machine) (pace : Pace) (fronts : Fronts) (seat n : ℕ) (old moved : Held) (tree next : Tree) (file : List ℕ) → IsTrue (may m seat (kind_of_turn is_worker))
+    → IsOpenTo is_worker m → IsSteady old tree m file → TurnsTree (move_in is_worker old) n old moved tree next → GoesOn opening m pace fronts tree
+    → (then : Fronts) × GoesOn opening (stepped_as m seat (kind_of_turn is_worker) Well).state (pace_after m pace seat (kind_of_turn is_worker) Well) then next
 turn_goes_on is_worker opening m pace fronts seat n old moved tree next file ok opened is trees goes =
     let c = chosen_by is_worker m in
     let same = choices_agree is_worker old tree m file is in
@@ -185,7 +199,9 @@ turn_goes_on is_worker opening m pace fronts seat n old moved tree next file ok 
     )
 
 -- a closed store's worker only counts its turn
-pub closed_turn_goes_on : ClosedTurnGoesOn
+pub closed_turn_goes_on : (opening : List (Key × Value)) (m : Machine) (pace : Pace) (fronts : Fronts) (tree : Tree) (seat : ℕ) (outcome : Outcome) → m.stopped ≡ None → is_closed m ≡ true
+    → IsTrue (may m seat kind.WorkerTurn) → GoesOn opening m pace fronts tree
+    → ((worker_turn m seat outcome).state ≡ helped seat m) × GoesOn opening (worker_turn m seat outcome).state (pace_after m pace seat kind.WorkerTurn outcome) fronts tree
 closed_turn_goes_on opening m pace fronts tree seat outcome runs closed ok goes =
     (state, record { paced = then_paced opening m pace seat kind.WorkerTurn outcome ok tt goes.paced; within = subst (λ (p : Pace). AreFronts p fronts) (sym same_pace) goes.within; lanes = subst (λ (s : Machine). HasFronts tree s.lists fronts) (sym state) goes.lanes })
   where
@@ -207,7 +223,8 @@ quiet_paced opening m pace seat k outcome ok quiet paced = then_paced opening m 
 quiet_lists : (m : Machine) (seat : ℕ) (k : Kind) (outcome : Outcome) → IsQuiet k → (stepped_as m seat k outcome).state.lists ≡ m.lists
 quiet_lists m seat k outcome h1 = grind (arith, common_steps, nat_tests)
 
-pub quiet_goes_on : QuietGoesOn
+pub quiet_goes_on : (opening : List (Key × Value)) (m : Machine) (pace : Pace) (fronts : Fronts) (tree : Tree) (seat : ℕ) (k : Kind) (outcome : Outcome) → IsTrue (may m seat k) → IsQuiet k → GoesOn opening m pace fronts tree
+    → GoesOn opening (stepped_as m seat k outcome).state pace fronts tree
 quiet_goes_on opening m pace fronts tree seat k outcome ok quiet goes = record {
   paced = quiet_paced opening m pace seat k outcome ok quiet goes.paced;
   within = goes.within;

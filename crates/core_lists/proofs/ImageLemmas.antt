@@ -14,7 +14,7 @@ use Rattle.snow_merge.specs.Pass.{SnowState}
 use Rattle.deep_merge.specs.Merge.{DeepState}
 use Rattle.pacing.specs.Pace.{Pace, pass_done as pace_pass_done}
 use Rattle.pacing.specs.Steps.{deep_settled}
-use Rattle.pacing.specs.Fronts.{Fronts, fronts_turned, fronts_ready}
+use Rattle.pacing.specs.Fronts.{Fronts}
 use Rattle.tree_machine.specs.Lists.{Lists, map_in}
 use Rattle.tree_machine.specs.Merges.{Merge}
 use Rattle.tree_machine.specs.Layers.{IsSound, IsDeepOver}
@@ -27,22 +27,23 @@ use Rattle.paced_tree.specs.Numbers.{with_numbers_of}
 use Rattle.paced_tree.proofs.Moves.{pass_test, settled_of}
 use Rattle.tree_file.specs.Tree.{Tree, FitsSizes, HoldsTree, lists_of, components_weight}
 use Rattle.tree_file.specs.Places.{HoldsEither}
-use Rattle.tree_runs.specs.Holding.{IsPassSwapped}
+use Rattle.tree_runs.specs.Holding.{IsPassSwapped, IsDeepSwapped, IsRotated}
 use Rattle.core_moves.specs.declared.held.Held.{Held}
-use Rattle.core_moves.specs.Held.{IsPassDone, is_run_full}
+use Rattle.core_moves.specs.Held.{IsPassDone, is_run_full, IsDeepDone}
 use Rattle.core_lists.specs.Standing.{IsPassAt, IsDeepAt}
-use Rattle.core_lists.specs.Lists.{Agrees}
 use Rattle.core_lists.specs.Shown.{HasFronts, ShowsWhole, WeighsWithin}
 use Rattle.core_lists.specs.Admissions.{DeepSettlesTree}
-use Rattle.core_lists.specs.Images.{SettledIn, DeepSwapImages, PassSwapImages, RotationImages, SettledFronts, ReadyFronts}
 use Rattle.core_lists.proofs.SwapLands.{deep_swap_has_lists, pass_swap_has_lists, rotation_has_lists}
 use Rattle.core_lists.proofs.TestLemmas.{tests_agree_with_lists}
 use Rattle.core_lists.proofs.ShownLemmas.{steps_show, shown_fits, fronts_stay, fronts_turn}
 use Rattle.core_lists.proofs.ShowingLemmas.{whole_of, standing_shows, settled_shows, swapped_shows}
+use Rattle.core_lists.proofs.Terms.{Agrees, PassSettlesTree, SettledIn, StandsIn}
+use Rattle.pacing.proofs.Terms.{fronts_turned, fronts_ready}
 
 -- ---- the deep merge
 
-pub settled_fronts : SettledFronts
+pub settled_fronts : (opening : List (Key × Value)) (old : Held) (m : Machine) (pace : Pace) (fronts : Fronts) (tree middle : Tree) (file : List ℕ) → StandsIn opening old m pace fronts tree file → DeepSettlesTree old tree middle
+    → HasFronts middle (deep_swapped m).lists fronts
 settled_fronts opening old m pace fronts tree middle file is moves = by (deep_done m) refl
   where
     agrees : Agrees old m
@@ -56,7 +57,9 @@ settled_fronts opening old m pace fronts tree middle file is moves = by (deep_do
         let stays : middle ≡ tree = moves.rests (λ over. false≢true (sym undone ∙ agrees.deep_is_done.0 over)) in
         subst (λ (t : Tree). HasFronts t m.lists fronts) (sym stays) is.lanes
 
-pub deep_swap_images : DeepSwapImages
+-- While the deep merge is swapped in, each image shows the history.
+pub deep_swap_images : (opening : List (Key × Value)) (held : Held) (m : Machine) (pace : Pace) (fronts : Fronts) (tree next : Tree) (file image : List ℕ) → StandsIn opening held m pace fronts tree file
+    → IsDeepDone held → IsDeepSwapped tree next → HoldsEither m.gears.sizes tree next image → ShowsWhole opening m image
 deep_swap_images opening held m pace fronts tree next file image is done swapped either =
     let agrees = tests_agree_with_lists held tree m file is.numbers is.at is.paced.stands.sound is.has in
     let test : deep_done m ≡ true = agrees.deep_is_done.0 done in
@@ -113,10 +116,14 @@ module _ (opening : List (Key × Value)) (old settled : Held) (m : Machine) (pac
       (swapped_shows opening m pace fronts next image is.stood.paced is.stood.within lists (fronts_by_test next (λ yes. turned) (λ never. absurd (never done))))
       either
 
-pub ready_fronts : ReadyFronts
+pub ready_fronts : (opening : List (Key × Value)) (old settled ready : Held) (m : Machine) (pace : Pace) (fronts : Fronts) (tree middle next : Tree) (file between : List ℕ)
+    → SettledIn opening old settled m pace fronts tree middle file between → PassSettlesTree settled ready middle next → HasFronts next (swapped m).lists (fronts_ready pace fronts)
 ready_fronts opening old settled ready m pace fronts tree middle next file between is moves = fronts_by_test opening old settled m pace fronts tree middle file between is next moves.done moves.rests
 
-pub pass_swap_images : PassSwapImages
+-- While the pass is swapped in, each image does, too.
+pub pass_swap_images : (opening : List (Key × Value)) (old settled : Held) (m : Machine) (pace : Pace) (fronts : Fronts) (tree middle next : Tree) (file between image : List ℕ)
+    → SettledIn opening old settled m pace fronts tree middle file between → IsPassDone settled → IsPassSwapped (is_run_full settled) settled.log.a.entries middle next
+    → HoldsEither m.gears.sizes middle next image → ShowsWhole opening m image
 pass_swap_images opening old settled m pace fronts tree middle next file between image is done turned either =
     shows_either opening old settled m pace fronts tree middle file between is next image done turned either
 
@@ -128,7 +135,9 @@ no_pass pass snow h1 h2 = grind (arith, common_steps, nat_tests)
 no_deep : (deep : Option Merge) (merge : Option DeepState) → IsDeepAt deep merge → merge ≡ None → deep ≡ None
 no_deep deep merge h1 h2 = grind (arith, common_steps, nat_tests)
 
-pub rotation_images : RotationImages
+-- And while C1 is rotated by itself: no merge may run then.
+pub rotation_images : (opening : List (Key × Value)) (held : Held) (m : Machine) (pace : Pace) (fronts : Fronts) (tree next : Tree) (file image : List ℕ) → StandsIn opening held m pace fronts tree file
+    → held.runs.pass ≡ None → held.runs.deep ≡ None → IsRotated tree next → HoldsEither m.gears.sizes tree next image → ShowsWhole opening m image
 rotation_images opening held m pace fronts tree next file image is rests unmerged rotated either =
     ⊎_elim (standing_shows opening m pace fronts tree image is.paced is.within is.at.holds.lists is.lanes) (λ holds. whole_of opening m image (record { tree = next; holds = holds; fits = fits; map_is = map_is }) (weighs_within holds)) either
   where

@@ -1,3 +1,4 @@
+pub mod Terms
 pub mod WeighLemmas
 pub mod SwapLands
 pub mod QuantumLands

@@ -8,7 +8,7 @@ use Rattle.record_delta.specs.Entries.{Entries, entries_weight, replayed}
 use Rattle.page_file.specs.Component.{entries_of}
 use Rattle.deep_merge.specs.Merge.{DeepState}
 use Rattle.gear_sched.specs.Gears.{GearState}
-use Rattle.pacing.specs.Pace.{opened as pace_opened}
+use Rattle.pacing.specs.Pace.{opened as pace_opened, Pace}
 use Rattle.pacing.specs.Laws.{IsOpening}
 use Rattle.pacing.proofs.Fronts.{opening_fronts}
 use Rattle.tree_machine.specs.Lists.{Lists, map_in}
@@ -25,8 +25,10 @@ use Rattle.tree_runs.specs.Holding.{AreOf, IsDeepOver}
 use Rattle.core_moves.specs.declared.held.Held.{Held}
 use Rattle.core_lists.specs.Standing.{HoldsMachine, catalogue_of}
 use Rattle.core_pace.specs.Opening.{IsOpened}
-use Rattle.core_lists.specs.Opening.{OpeningStands}
 use Rattle.core_lists.proofs.SwapLands.{same_lists}
+use Rattle.core_pace.specs.Pacing.{HasPace}
+use Rattle.core_lists.proofs.Terms.{StandsIn}
+use Rattle.pacing.proofs.Terms.{no_fronts}
 
 module _ (annals : Book) (faults : ℕ) (held : Held) (tree : Tree) (file : List ℕ) (is : IsOpened annals faults held) (roles : held.log.lanes.roles ≡ held.runs.catalogue.lanes)
     (of : AreOf held.runs tree held.log.a.entries file) (lane_a : tree.lane_a ≡ []) (lane_b : tree.lane_b ≡ []) (opening : IsOpening held.runs.sizes held.runs.catalogue.c1.weight held.runs.catalogue.c2.weight) where
@@ -77,7 +79,11 @@ module _ (annals : Book) (faults : ℕ) (held : Held) (tree : Tree) (file : List
       (subst (λ (l : Lists). IsPacedTree (map_in l) first (pace_opened held.runs.sizes (entries_weight (entries_of tree.c1)) (entries_weight (entries_of tree.c2)))) lists
       (opened_is_paced held.runs.sizes (entries_of tree.c1) (entries_of tree.c2) (catalogue_of held.runs.catalogue) faults annals.room are)))
 
-pub opening_stands : OpeningStands
+-- Where the file holds a tree whose lanes are empty, the machine's history begins with the map of that tree.
+pub opening_stands : (annals : Book) (faults : ℕ) (held : Held) (numbers : Pace) (tree : Tree) (file : List ℕ) → IsOpened annals faults held → held.log.lanes.roles ≡ held.runs.catalogue.lanes → HasPace held numbers
+    → AreOf held.runs tree held.log.a.entries file → tree.lane_a ≡ [] → tree.lane_b ≡ [] → IsOpening held.runs.sizes held.runs.catalogue.c1.weight held.runs.catalogue.c2.weight
+    → StandsIn (map_of_tree tree) held (opened held.runs.sizes (entries_of tree.c1) (entries_of tree.c2) (catalogue_of held.runs.catalogue) faults annals.room)
+    (pace_opened held.runs.sizes held.runs.catalogue.c1.weight held.runs.catalogue.c2.weight) no_fronts tree file
 opening_stands annals faults held numbers tree file is roles has of lane_a lane_b opening = record {
   at = record { are_of = of; holds = holds annals faults held tree file is roles of lane_a lane_b opening };
   paced = paced annals faults held tree file is roles of lane_a lane_b opening;

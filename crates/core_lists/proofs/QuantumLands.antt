@@ -12,20 +12,29 @@ use Rattle.merge_ends.specs.Quantum.{IsQuantum}
 use Rattle.snow_merge.specs.Pass.{SnowState}
 use Rattle.deep_merge.specs.Merge.{DeepState}
 use Rattle.tree_machine.specs.Merges.{Merge, cursor_after, quantum_of}
-use Rattle.tree_machine.specs.Moves.{pass_quantum_of, deep_quantum_of}
-use Rattle.tree_runs.specs.Holding.{PassTakes, PassTook, DeepTakes, DeepTook}
-use Rattle.tree_runs.specs.Laws.{IsOnward, QuantaAgree}
+use Rattle.tree_machine.specs.Moves.{pass_quantum_of, deep_quantum_of, pass_quantum, deep_quantum}
+use Rattle.tree_runs.specs.Holding.{PassTakes, PassTook, DeepTakes, DeepTook, AreOf}
+use Rattle.tree_runs.proofs.QuantaLemmas.{quanta_agree}
 use Rattle.core_lists.specs.Standing.{HoldsMachine, IsPassAt, IsDeepAt}
-use Rattle.core_lists.specs.Lists.{PassQuantumLands, DeepQuantumLands}
 use Rattle.core_lists.proofs.WeighLemmas.{table_a, list_c1, list_c1x, list_c2}
+use Rattle.std.specs.Prelude.{List}
+use Rattle.tree_machine.specs.Layers.{IsSound}
+use Rattle.tree_machine.specs.Machine.{Machine}
+use Rattle.tree_file.specs.Tree.{Tree}
+use Rattle.core_moves.specs.declared.held.Held.{Held}
+use Rattle.core_moves.specs.Moves.{TakesOfPass, TakesOfDeep}
+use Rattle.core_lists.proofs.Terms.{IsAt}
+use Rattle.tree_runs.proofs.Terms.{IsOnward}
 
 -- a quantum over the same numbers, cursor and lists
 same_quantum : (least least2 : ℕ) (from from2 to : Option Key) (newer newer2 older older2 : Entries) (n : ℕ) → least ≡ least2 → from ≡ from2 → newer ≡ newer2 → older ≡ older2
     → IsQuantum least from to newer older n → IsQuantum least2 from2 to newer2 older2 n
 same_quantum least least2 from from2 to newer newer2 older older2 n l f a b is = grind (arith, common_steps, nat_tests)
 
-pub pass_quantum_lands : QuantaAgree → PassQuantumLands
-pass_quantum_lands quanta_agree seat n old new tree m file after at sound sizes positive moves took are_of =
+pub pass_quantum_lands : (seat n : ℕ) (old new : Held) (tree : Tree) (m : Machine) (file after : List ℕ) → IsAt old tree m file → IsSound m → old.gears.sizes ≡ old.runs.sizes → 0 < old.runs.sizes.quantum
+    → TakesOfPass seat n old new → PassTook old.runs.sizes.quantum old.runs.pass new.runs.pass old.log.a.entries (entries_of tree.c1) n
+    → AreOf new.runs tree new.log.a.entries after → IsAt new tree (pass_quantum seat m) after
+pass_quantum_lands seat n old new tree m file after at sound sizes positive moves took are_of =
     record { are_of = are_of; holds = by m.merges.pass old.runs.pass new.runs.pass refl at.holds.pass moves.takes took }
   where
     least_is : old.runs.sizes.quantum ≡ m.gears.sizes.quantum
@@ -51,8 +60,10 @@ pass_quantum_lands quanta_agree seat n old new tree m file after at sound sizes 
         least_is (sym comes) (sym (table_a old tree m file at)) (sym (list_c1 old tree m file at)) took) in
         moved pass snow next is agree.1 agree.0
 
-pub deep_quantum_lands : QuantaAgree → DeepQuantumLands
-deep_quantum_lands quanta_agree seat n old new tree m file after at sound sizes positive moves took are_of =
+pub deep_quantum_lands : (seat n : ℕ) (old new : Held) (tree : Tree) (m : Machine) (file after : List ℕ) → IsAt old tree m file → IsSound m → old.gears.sizes ≡ old.runs.sizes → 0 < old.runs.sizes.quantum
+    → TakesOfDeep seat n old new → DeepTook old.runs.sizes.quantum old.runs.deep new.runs.deep (entries_of tree.c1x) (entries_of tree.c2) n
+    → AreOf new.runs tree new.log.a.entries after → IsAt new tree (deep_quantum seat m) after
+deep_quantum_lands seat n old new tree m file after at sound sizes positive moves took are_of =
     record { are_of = are_of; holds = by m.merges.deep old.runs.deep new.runs.deep refl at.holds.deep moves.takes took }
   where
     least_is : old.runs.sizes.quantum ≡ m.gears.sizes.quantum

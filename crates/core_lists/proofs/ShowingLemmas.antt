@@ -12,12 +12,12 @@ use Rattle.blsm_model.specs.declared.history.Entry.{Entry}
 use Rattle.blsm_model.specs.declared.history.Reply.{Reply}
 use Rattle.blsm_model.specs.Sizes.{Sizes}
 use Rattle.blsm_model.specs.Histories.{is_done, writes_of, counted, counted_writes, written}
-use Rattle.blsm_model.specs.Images.{counted_with}
+use Rattle.blsm_model.specs.Images.{counted_with, is_unsure}
 use Rattle.blsm_model.specs.Legal.{is_running, is_stopping, is_stopped}
 use Rattle.blsm_model.specs.Rows.{map_of, puts_of}
 use Rattle.pacing.specs.Pace.{Pace}
 use Rattle.pacing.specs.Steps.{deep_settled, ready_for as pace_ready_for}
-use Rattle.pacing.specs.Fronts.{Fronts, AreFronts, fronts_ready}
+use Rattle.pacing.specs.Fronts.{Fronts, AreFronts}
 use Rattle.tree_machine.specs.Lists.{Lists}
 use Rattle.tree_machine.specs.Machine.{Machine}
 use Rattle.tree_machine.specs.Steps.{deep_swapped, swapped, ready_for}
@@ -26,9 +26,11 @@ use Rattle.tree_machine.proofs.CarryLemmas.{deep_swapped_carries, ready_carries}
 use Rattle.paced_tree.specs.Kept.{IsPacedTree}
 use Rattle.paced_tree.proofs.Promises.{has_way}
 use Rattle.tree_file.specs.Tree.{Tree, HoldsTree, ReadsAsMap, lists_of}
-use Rattle.core_lists.specs.Shown.{ShowsHistory, ShowsWhole, WeighsWithin, HasFronts, StandingShows, SettledShows, SwappedShows, ShowingIsKept, QuietEntryCountsNone, QuietEntryShows}
+use Rattle.core_lists.specs.Shown.{ShowsHistory, ShowsWhole, WeighsWithin, HasFronts}
 use Rattle.core_lists.proofs.ShownLemmas.{steps_show, deep_swap_shows, ready_shows, images_show}
 use Rattle.core_lists.proofs.FileWeights.{paced_weighs, settled_weighs, ready_weighs}
+use Rattle.std.specs.Prelude.{◌⊎◌, ◌+◌}
+use Rattle.pacing.proofs.Terms.{fronts_ready}
 
 -- ---- what counts
 
@@ -103,11 +105,15 @@ swapped_reads opening m pace fronts next file paced within lists lanes holds =
     (ready_shows opening m pace fronts 0 next paced within (same ∙ lists) (subst (λ (l : Lists). HasFronts next l (fronts_ready pace fronts)) (sym same) lanes))
     (subst (λ (s : Sizes). HoldsTree s next file) (sym carries.sizes) holds))
 
-pub standing_shows : StandingShows
+-- Each file shows it that holds the machine's tree;
+pub standing_shows : (opening : List (Key × Value)) (m : Machine) (pace : Pace) (fronts : Fronts) (tree : Tree) (file : List ℕ) → IsPacedTree opening m pace → AreFronts pace fronts → m.lists ≡ lists_of tree
+    → HasFronts tree m.lists fronts → HoldsTree m.gears.sizes tree file → ShowsWhole opening m file
 standing_shows opening m pace fronts tree file paced within lists lanes holds =
     whole_of opening m file (standing_reads opening m pace fronts tree file paced within lists lanes holds) (paced_weighs m pace tree m.book.entries file paced.of_tree paced.paced lists holds)
 
-pub settled_shows : SettledShows
+-- within an admission the tree after the deep merge's swap, too,
+pub settled_shows : (opening : List (Key × Value)) (m : Machine) (pace : Pace) (fronts : Fronts) (next : Tree) (file : List ℕ) → IsPacedTree opening m pace → AreFronts pace fronts → (deep_swapped m).lists ≡ lists_of next
+    → HasFronts next (deep_swapped m).lists fronts → HoldsTree m.gears.sizes next file → ShowsWhole opening m file
 settled_shows opening m pace fronts next file paced within lists lanes holds =
     let carries = deep_swapped_carries m paced.stands.sound in
     whole_of opening m file (reads_as opening m (deep_swapped m) file carries.sizes carries.book
@@ -115,19 +121,26 @@ settled_shows opening m pace fronts next file paced within lists lanes holds =
     (subst (λ (s : Sizes). HoldsTree s next file) (sym carries.sizes) holds)))
     (settled_weighs opening m pace next m.book.entries file paced lists holds)
 
-pub swapped_shows : SwappedShows
+-- and the one after the pass's.
+pub swapped_shows : (opening : List (Key × Value)) (m : Machine) (pace : Pace) (fronts : Fronts) (next : Tree) (file : List ℕ) → IsPacedTree opening m pace → AreFronts pace fronts → (swapped m).lists ≡ lists_of next
+    → HasFronts next (swapped m).lists (fronts_ready pace fronts) → HoldsTree m.gears.sizes next file → ShowsWhole opening m file
 swapped_shows opening m pace fronts next file paced within lists lanes holds =
     whole_of opening m file (swapped_reads opening m pace fronts next file paced within lists lanes holds) (ready_weighs 0 opening m pace next m.book.entries file paced (begun_lists 0 m ∙ lists) holds)
 
 -- ---- as the history grows
 
-pub showing_is_kept : ShowingIsKept
+-- What shows a history shows each longer one, and no more than fewer entries of it.
+pub showing_is_kept : (sizes : Sizes) (opening : List (Key × Value)) (history longer : List Entry) (n fewer : ℕ) (file : List ℕ) → IsPrefix history longer → fewer ≤ n → ShowsHistory sizes opening history n file
+    → ShowsHistory sizes opening longer fewer file
 showing_is_kept sizes opening history longer n fewer file begins few shows = grind (arith, common_steps, nat_tests)
 
-pub quiet_entry_counts_none : QuietEntryCountsNone
+-- An entry counts no write that writes none, or whose reply is neither done nor unsure.
+pub quiet_entry_counts_none : (entry : Entry) → (writes_of entry.op ≡ []) ⊎ ((is_done entry.reply ≡ false) × (is_unsure entry.reply ≡ false)) → (unsure : Bool) → counted_with unsure entry ≡ []
 quiet_entry_counts_none entry quiet unsure = grind (arith, common_steps, nat_tests)
 
-pub quiet_entry_shows : QuietEntryShows
+-- What shows all of a history shows it with one such entry more.
+pub quiet_entry_shows : (sizes : Sizes) (opening : List (Key × Value)) (history : List Entry) (entry : Entry) (file : List ℕ) → ((unsure : Bool) → counted_with unsure entry ≡ [])
+    → ShowsHistory sizes opening history (length history) file → ShowsHistory sizes opening (history ++ entry ∷ []) (length history + 1) file
 quiet_entry_shows sizes opening history entry file none shows =
     let is = shows.1 in
     let whole : is.front ≡ history = prefix_whole is.front history is.begins is.enough in

@@ -14,7 +14,7 @@ use Rattle.gear_sched.specs.declared.Plan.TheVariants.{Snow, Deep, Nothing}
 use Rattle.pacing.specs.Steps as pacing
 use Rattle.pacing.specs.Steps.{Move}
 use Rattle.tree_machine.specs.Lists.{memory_weight}
-use Rattle.tree_machine.specs.Layers.{Carries}
+use Rattle.tree_machine.specs.Layers.{HasWay}
 use Rattle.tree_machine.specs.Machine.{Machine, Turned, WorkSoFar, in_pass, in_deep, is_closed, pass_done, deep_done, work_of, no_work}
 use Rattle.tree_machine.specs.Moves.{begin_pass, pass_quantum, deep_quantum}
 use Rattle.tree_machine.specs.Steps as machine
@@ -27,30 +27,21 @@ use Rattle.tree_file.specs.Tree.{Tree}
 use Rattle.tree_log.specs.Log.{weight_of_tables}
 use Rattle.tree_runs.specs.Runs.{left_for_pass, left_for_deep}
 use Rattle.tree_runs.specs.Holding.{AreOf}
-use Rattle.tree_runs.specs.Laws.{QuantaAgree}
 use Rattle.core_moves.specs.declared.held.Held.{Held}
 use Rattle.core_moves.specs.Moves.{with_pass_begun, with_debts_forgiven, with_book}
 use Rattle.core_pace.specs.Events.{TakesByPlan, plan_in}
 use Rattle.core_pace.specs.Turns.{move_in, TurnsBy, end_of_move}
-use Rattle.core_lists.specs.Standing.{IsAt}
-use Rattle.core_lists.specs.Lists.{Agrees, helped}
-use Rattle.core_lists.specs.Steps.{IsSteady, BooksAgree, SizesAgree, TotalsAgree, TookByPlan, TurnsTree, PaymentLands, SettlingLands, ChoicesAgree, TurnLands, WorkLands, HelpLands, choice_of, chosen_by}
+use Rattle.core_lists.specs.Steps.{TookByPlan, TurnsTree, choice_of}
 use Rattle.core_lists.proofs.SwapLands.{deep_swap_lands, pass_swap_lands, rotation_lands, begin_in}
 use Rattle.core_lists.proofs.AdmissionLands.{same_tree}
 use Rattle.core_lists.proofs.QuantumLands.{pass_quantum_lands, deep_quantum_lands}
 use Rattle.core_lists.proofs.WriteLands.{book_lands}
 use Rattle.core_lists.proofs.TestLemmas.{tests_agree_with_lists, forgiving_lands}
+use Rattle.core_lists.proofs.Terms.{IsAt, Agrees, helped, IsSteady, chosen_by}
+use Rattle.core_pace.proofs.Terms.{Pays, Works, Helps}
+use Rattle.tree_machine.proofs.Terms.{Carries}
 
 -- ---- the book
-
-pub books_agree : BooksAgree
-books_agree held tree m seat holds = grind (arith, common_steps, nat_tests)
-
-pub sizes_agree : SizesAgree
-sizes_agree held tree m holds one = ap (λ (g : GearState). g.sizes) holds.gears ∙ one
-
-pub totals_agree : TotalsAgree
-totals_agree held tree m file numbers at sound has one = grind (arith, common_steps, nat_tests)
 
 -- ---- a payment
 
@@ -67,24 +58,26 @@ module _ (seat : ℕ) (held : Held) (tree : Tree) (m : Machine) (file : List ℕ
   pub settling : plan_in seat held ≡ Nothing → IsAt (with_debts_forgiven seat held) tree (pay m seat Well).state file
   settling nothing = subst (λ (s : Machine). IsAt (with_debts_forgiven seat held) tree s file) (sym (paid_is ∙ ap (λ (plan : Plan). (pay_planned plan (forgive seat m) seat Well).state) nothing)) forgiven_at
 
-  paid_by : QuantaAgree → (n : ℕ) (taken : Held) (after : List ℕ) (plan : Plan) → TakesByPlan plan seat n (with_debts_forgiven seat held) taken → TookByPlan plan n (with_debts_forgiven seat held) taken tree
+  paid_by : (n : ℕ) (taken : Held) (after : List ℕ) (plan : Plan) → TakesByPlan plan seat n (with_debts_forgiven seat held) taken → TookByPlan plan n (with_debts_forgiven seat held) taken tree
       → AreOf taken.runs tree taken.log.a.entries after → IsAt (with_book (paid_in seat taken.book) taken) tree (pay_planned plan (forgive seat m) seat Well).state after
-  paid_by agree n taken after Nothing takes took are_of = absurd takes
-  paid_by agree n taken after Snow takes took are_of =
+  paid_by n taken after Nothing takes took are_of = absurd takes
+  paid_by n taken after Snow takes took are_of =
       (book_lands taken tree (pass_quantum seat (forgive seat m)) after
-      (pass_quantum_lands agree seat n (with_debts_forgiven seat held) taken tree (forgive seat m) file after forgiven_at (sound_forgiven m seat is.sound) is.one is.positive takes took are_of)).payment seat
-  paid_by agree n taken after Deep takes took are_of =
+      (pass_quantum_lands seat n (with_debts_forgiven seat held) taken tree (forgive seat m) file after forgiven_at (sound_forgiven m seat is.sound) is.one is.positive takes took are_of)).payment seat
+  paid_by n taken after Deep takes took are_of =
       (book_lands taken tree (deep_quantum seat (forgive seat m)) after
-      (deep_quantum_lands agree seat n (with_debts_forgiven seat held) taken tree (forgive seat m) file after forgiven_at (sound_forgiven m seat is.sound) is.one is.positive takes took are_of)).payment seat
+      (deep_quantum_lands seat n (with_debts_forgiven seat held) taken tree (forgive seat m) file after forgiven_at (sound_forgiven m seat is.sound) is.one is.positive takes took are_of)).payment seat
 
-pub settling_lands : SettlingLands
+-- where nothing is owed once what may be forgiven is
+pub settling_lands : (seat : ℕ) (held : Held) (tree : Tree) (m : Machine) (file : List ℕ) → IsSteady held tree m file → plan_in seat held ≡ Nothing → IsAt (with_debts_forgiven seat held) tree (pay m seat Well).state file
 settling_lands seat held tree m file is nothing = settling seat held tree m file is nothing
 
-pub payment_lands : QuantaAgree → PaymentLands
-payment_lands agree seat n old taken new tree m file after is pays took are_of =
+pub payment_lands : (seat n : ℕ) (old taken new : Held) (tree : Tree) (m : Machine) (file after : List ℕ) → IsSteady old tree m file → Pays seat n old taken new
+    → TookByPlan (plan_in seat old) n (with_debts_forgiven seat old) taken tree → AreOf taken.runs tree taken.log.a.entries after → IsAt new tree (pay m seat Well).state after
+payment_lands seat n old taken new tree m file after is pays took are_of =
     subst (λ (h : Held). IsAt h tree (pay m seat Well).state after) (sym pays.counted)
     (subst (λ (s : Machine). IsAt (with_book (paid_in seat taken.book) taken) tree s after) (sym (paid_is seat old tree m file is))
-    (paid_by seat old tree m file is agree n taken after (plan_in seat old) pays.takes took are_of))
+    (paid_by seat old tree m file is n taken after (plan_in seat old) pays.takes took are_of))
 
 -- ---- which turn it is
 
@@ -137,7 +130,8 @@ module _ (held : Held) (tree : Tree) (m : Machine) (file : List ℕ) (is : IsSte
       ∙ by_tests (is_some held.runs.deep && (left_for_deep held.runs.deep == 0)) (is_some held.runs.pass && (left_for_pass held.runs.pass held.log.a.entries == 0))
       (is_some held.runs.deep && (not (is_some held.runs.pass) || deep_is_behind held.gears)) (is_some held.runs.pass) (not (weight_of_tables held.log == 0)) (not (held.runs.catalogue.c1.weight == 0))
 
-pub choices_agree : ChoicesAgree
+-- The code's tests choose as the machine does.
+pub choices_agree : (is_worker : Bool) (held : Held) (tree : Tree) (m : Machine) (file : List ℕ) → IsSteady held tree m file → chosen_by is_worker m ≡ choice_of (move_in is_worker held)
 choices_agree is_worker held tree m file is = choices held tree m file is is_worker
 
 -- ---- the turn
@@ -155,28 +149,29 @@ is_due : (is_worker : Bool) (m : Machine) → IsDue (chosen_by is_worker m) m
 is_due true m = due_choice (nat_lt m.gears.sizes.low m.spring) false m
 is_due false m = due_choice (not (memory_weight m.lists == 0)) (not (entries_weight m.lists.c1 == 0)) m
 
-turned_by : QuantaAgree → (mv : Move) (seat n : ℕ) (old moved : Held) (tree next : Tree) (m : Machine) (file after : List ℕ) → IsSteady old tree m file → IsDue (choice_of mv) m → TurnsBy mv seat n old moved
+turned_by : (mv : Move) (seat n : ℕ) (old moved : Held) (tree next : Tree) (m : Machine) (file after : List ℕ) → IsSteady old tree m file → IsDue (choice_of mv) m → TurnsBy mv seat n old moved
     → TurnsTree mv n old moved tree next → AreOf moved.runs next moved.log.a.entries after → IsAt moved next (chosen (choice_of mv) seat m) after
-turned_by agree pacing.SwapDeep seat n old moved tree next m file after is due moves trees are_of = deep_swap_lands old moved tree next m file after is.at is.sound due moves trees are_of
-turned_by agree pacing.SwapPass seat n old moved tree next m file after is due moves trees are_of = pass_swap_lands old moved tree next m file after is.at is.sound due is.one moves trees.0 trees.1 are_of
-turned_by agree pacing.TakeDeep seat n old moved tree next m file after is due moves trees are_of =
+turned_by pacing.SwapDeep seat n old moved tree next m file after is due moves trees are_of = deep_swap_lands old moved tree next m file after is.at is.sound due moves trees are_of
+turned_by pacing.SwapPass seat n old moved tree next m file after is due moves trees are_of = pass_swap_lands old moved tree next m file after is.at is.sound due is.one moves trees.0 trees.1 are_of
+turned_by pacing.TakeDeep seat n old moved tree next m file after is due moves trees are_of =
     subst (λ (t : Tree). IsAt moved t (deep_quantum seat m) after) (sym trees.0)
-    (deep_quantum_lands agree seat n old moved tree m file after is.at is.sound is.one is.positive moves trees.1 (subst (λ (t : Tree). AreOf moved.runs t moved.log.a.entries after) trees.0 are_of))
-turned_by agree pacing.TakeSnow seat n old moved tree next m file after is due moves trees are_of =
+    (deep_quantum_lands seat n old moved tree m file after is.at is.sound is.one is.positive moves trees.1 (subst (λ (t : Tree). AreOf moved.runs t moved.log.a.entries after) trees.0 are_of))
+turned_by pacing.TakeSnow seat n old moved tree next m file after is due moves trees are_of =
     subst (λ (t : Tree). IsAt moved t (pass_quantum seat m) after) (sym trees.0)
-    (pass_quantum_lands agree seat n old moved tree m file after is.at is.sound is.one is.positive moves trees.1 (subst (λ (t : Tree). AreOf moved.runs t moved.log.a.entries after) trees.0 are_of))
-turned_by agree pacing.Begin seat n old moved tree next m file after is due moves trees are_of =
+    (pass_quantum_lands seat n old moved tree m file after is.at is.sound is.one is.positive moves trees.1 (subst (λ (t : Tree). AreOf moved.runs t moved.log.a.entries after) trees.0 are_of))
+turned_by pacing.Begin seat n old moved tree next m file after is due moves trees are_of =
     let begun : AreOf (with_pass_begun old).runs tree old.log.a.entries after =
     subst (λ (h : Held). AreOf h.runs tree h.log.a.entries after) moves (subst (λ (t : Tree). AreOf moved.runs t moved.log.a.entries after) trees are_of) in
     subst (λ (t : Tree). IsAt moved t (begin_pass m) after) (sym trees) (subst (λ (h : Held). IsAt h tree (begin_pass m) after) (sym moves) (begin_in old tree m file after is.at begun))
-turned_by agree pacing.Rotate seat n old moved tree next m file after is due moves trees are_of = rotation_lands old moved tree next m file after is.at moves trees are_of
-turned_by agree pacing.Idle seat n old moved tree next m file after is due moves trees are_of = same_tree old moved tree next m file after moves trees is.at are_of
+turned_by pacing.Rotate seat n old moved tree next m file after is due moves trees are_of = rotation_lands old moved tree next m file after is.at moves trees are_of
+turned_by pacing.Idle seat n old moved tree next m file after is due moves trees are_of = same_tree old moved tree next m file after moves trees is.at are_of
 
-pub turn_lands : QuantaAgree → TurnLands
-turn_lands agree is_worker seat n old moved tree next m file after is moves trees are_of =
+pub turn_lands : (is_worker : Bool) (seat n : ℕ) (old moved : Held) (tree next : Tree) (m : Machine) (file after : List ℕ) → IsSteady old tree m file → TurnsBy (move_in is_worker old) seat n old moved
+    → TurnsTree (move_in is_worker old) n old moved tree next → AreOf moved.runs next moved.log.a.entries after → IsAt moved next (chosen (chosen_by is_worker m) seat m) after
+turn_lands is_worker seat n old moved tree next m file after is moves trees are_of =
     let same = choices old tree m file is is_worker in
     subst (λ (c : Choice). IsAt moved next (chosen c seat m) after) (sym same)
-    (turned_by agree (move_in is_worker old) seat n old moved tree next m file after is (subst (λ (c : Choice). IsDue c m) same (is_due is_worker m)) moves trees are_of)
+    (turned_by (move_in is_worker old) seat n old moved tree next m file after is (subst (λ (c : Choice). IsDue c m) same (is_due is_worker m)) moves trees are_of)
 
 -- how it ends, and how many quanta it takes
 same_end : (mv : Move) → end_of_move mv ≡ ended_as (choice_of mv)
@@ -185,13 +180,15 @@ same_end mv = grind (arith, common_steps, nat_tests)
 same_quanta : (mv : Move) → quanta_of_move mv ≡ quanta_of (choice_of mv)
 same_quanta mv = grind (arith, common_steps, nat_tests)
 
-pub work_lands : QuantaAgree → WorkLands
-work_lands agree seat n old moved new tree next m file after is way works trees are_of =
+-- With its count it is a turn of a caller's work,
+pub work_lands : (seat n : ℕ) (old moved new : Held) (tree next : Tree) (m : Machine) (file after : List ℕ) → IsSteady old tree m file → HasWay m → Works seat n old moved new
+    → TurnsTree (move_in false old) n old moved tree next → AreOf moved.runs next moved.log.a.entries after → IsAt new next (work_turn m seat Well).state after
+work_lands seat n old moved new tree next m file after is way works trees are_of =
     let c = chosen_by false m in
     let mv = move_in false old in
     let then = chosen c seat m in
     let same = choices old tree m file is false in
-    let there : IsAt moved next then after = turn_lands agree false seat n old moved tree next m file after is works.moves trees are_of in
+    let there : IsAt moved next then after = turn_lands false seat n old moved tree next m file after is works.moves trees are_of in
     let carries : Carries m then = chosen_carries (not (memory_weight m.lists == 0)) (not (entries_weight m.lists.c1 == 0)) seat m is.sound way in
     let ended : end_of_move mv ≡ ended_as c = same_end mv ∙ ap ended_as (sym same) in
     let quanta : quanta_of_move mv ≡ quanta_of c = same_quanta mv ∙ ap quanta_of (sym same) in
@@ -205,10 +202,12 @@ work_lands agree seat n old moved new tree next m file after is way works trees 
     (ap (λ (works : List WorkSoFar). slice_index_or works seat no_work) carries.work)
     ((book_lands moved next then after there).turn seat (ended_as c) (quanta_of c))))
 
-pub help_lands : QuantaAgree → HelpLands
-help_lands agree seat n old moved new tree next m file after is opened helps trees are_of =
+-- or of a worker, before the store is closed.
+pub help_lands : (seat n : ℕ) (old moved new : Held) (tree next : Tree) (m : Machine) (file after : List ℕ) → IsSteady old tree m file → is_closed m ≡ false → Helps seat n old moved new
+    → TurnsTree (move_in true old) n old moved tree next → AreOf moved.runs next moved.log.a.entries after → IsAt new next (worker_turn m seat Well).state after
+help_lands seat n old moved new tree next m file after is opened helps trees are_of =
     let then = chosen (chosen_by true m) seat m in
-    let there : IsAt moved next then after = turn_lands agree true seat n old moved tree next m file after is helps.moves trees are_of in
+    let there : IsAt moved next then after = turn_lands true seat n old moved tree next m file after is helps.moves trees are_of in
     let state : (worker_turn m seat Well).state ≡ helped seat then =
     ap (λ (o : Option Why). helped seat (worker_turning o (is_closed m) m seat Well).state) is.runs ∙ ap (λ (b : Bool). helped seat (worker_turning None b m seat Well).state) opened in
     subst (λ (h : Held). IsAt h next (worker_turn m seat Well).state after) (sym helps.counted)

@@ -17,7 +17,7 @@ use Rattle.tree_machine.specs.Lists.{Lists, memory_weight}
 use Rattle.tree_machine.specs.Merges.{Merge, begun, is_empty}
 use Rattle.tree_machine.specs.Layers.{IsSound}
 use Rattle.tree_machine.specs.Machine.{Machine, Catalogue, pass_done, deep_done, pass_is_done}
-use Rattle.tree_machine.specs.Moves.{begin_pass, end_pass, rotate, committed, turned, output_of}
+use Rattle.tree_machine.specs.Moves.{begin_pass, end_pass, rotate, committed, turned, output_of, swap_deep, swap_pass, rotate_alone}
 use Rattle.merge_ends.proofs.GroupLemmas.{all_up_to}
 use Rattle.tree_machine.proofs.FoldLemmas.{both_hold}
 use Rattle.tree_machine.proofs.WeightLemmas.{pass_output, deep_output}
@@ -26,14 +26,13 @@ use Rattle.tree_file.specs.Tree.{Tree, lists_of}
 use Rattle.tree_file.specs.Places.{TurnsRoles}
 use Rattle.tree_log.specs.Log.{LogState, IsLogOf}
 use Rattle.tree_runs.specs.Runs.{guide_at, made_by_pass}
-use Rattle.tree_runs.specs.Holding.{AreOf, IsPassSwapped, IsPassOver as RunsOver}
+use Rattle.tree_runs.specs.Holding.{AreOf, IsPassSwapped, IsPassOver as RunsOver, IsDeepSwapped, IsRotated}
 use Rattle.core_moves.specs.declared.held.Held.{Held}
 use Rattle.core_moves.specs.Held.{is_run_full}
-use Rattle.core_moves.specs.Moves.{SwapsPassIn, TurnsLog, with_pass_begun}
-use Rattle.core_lists.specs.Standing.{HoldsMachine, IsAt, IsPassAt, IsDeepAt, catalogue_of}
-use Rattle.core_lists.specs.Lists.{DeepSwapLands, PassSwapLands, RotationLands, BeginLands}
-use Rattle.core_lists.specs.Images.{DeepSwapHasLists, PassSwapHasLists, RotationHasLists}
+use Rattle.core_moves.specs.Moves.{SwapsPassIn, TurnsLog, with_pass_begun, SwapsDeepIn, RotatesIn}
+use Rattle.core_lists.specs.Standing.{HoldsMachine, IsPassAt, IsDeepAt, catalogue_of}
 use Rattle.core_lists.proofs.WeighLemmas.{table_a, table_b, list_c1, weight_c1, weight_c2, weight_tables}
+use Rattle.core_lists.proofs.Terms.{IsAt}
 
 -- ---- five lists, one by one
 
@@ -56,10 +55,11 @@ log_stays tree next log after same roles lane_a lane_b is = grind (arith, common
 
 -- ---- the deep merge
 
-pub deep_swap_has_lists : DeepSwapHasLists
+pub deep_swap_has_lists : (held : Held) (tree next : Tree) (m : Machine) → HoldsMachine held tree m → IsSound m → deep_done m ≡ true → IsDeepSwapped tree next → (swap_deep m).lists ≡ lists_of next
 deep_swap_has_lists held tree next m holds sound done swapped = grind (arith, common_steps, nat_tests, same_lists, deep_wrote)
 
-pub deep_swap_lands : DeepSwapLands
+pub deep_swap_lands : (old new : Held) (tree next : Tree) (m : Machine) (file after : List ℕ) → IsAt old tree m file → IsSound m → deep_done m ≡ true
+    → SwapsDeepIn old new → IsDeepSwapped tree next → AreOf new.runs next new.log.a.entries after → IsAt new next (swap_deep m) after
 deep_swap_lands old new tree next m file after at sound done moves swapped are_of =
     let holds = at.holds in
     let roles : next.catalogue.lanes ≡ tree.catalogue.lanes =
@@ -118,7 +118,9 @@ made_of_done held tree m file at sound done =
         ∙ ap (λ (es : Entries). entries_weight (folded_over es (up_to snow.at (entries_of tree.c1)))) of_a
         ∙ ap (λ (es : Entries). entries_weight (folded_over held.log.a.entries es)) of_c1
 
-pub pass_swap_has_lists : PassSwapHasLists
+-- the pass's run, where it is done, weighs as much as the machine's output
+pub pass_swap_has_lists : (held : Held) (tree next : Tree) (m : Machine) (file : List ℕ) → IsAt held tree m file → IsSound m → pass_done m ≡ true → held.gears.sizes ≡ held.runs.sizes
+    → IsPassSwapped (is_run_full held) held.log.a.entries tree next → (swap_pass m).lists ≡ lists_of next
 pass_swap_has_lists held tree next m file at sound done sizes swapped = grind (arith, common_steps, nat_tests, same_full, made_of_done, ended_lists)
 
 module _ (old new : Held) (tree next : Tree) (m : Machine) (file after : List ℕ) (at : IsAt old tree m file) (sound : IsSound m) (done : pass_done m ≡ true)
@@ -153,7 +155,9 @@ module _ (old new : Held) (tree next : Tree) (m : Machine) (file after : List �
     book = ap pass_counted_in at.holds.book ∙ sym moves.book;
   }
 
-pub pass_swap_lands : PassSwapLands
+pub pass_swap_lands : (old new : Held) (tree next : Tree) (m : Machine) (file after : List ℕ) → IsAt old tree m file → IsSound m → pass_done m ≡ true → old.gears.sizes ≡ old.runs.sizes
+    → SwapsPassIn old new → IsPassSwapped (is_run_full old) old.log.a.entries tree next → TurnsLog old.log new.log
+    → AreOf new.runs next new.log.a.entries after → IsAt new next (swap_pass m) after
 pass_swap_lands old new tree next m file after at sound done sizes moves swapped turns are_of =
     let weighs = made_of_done old tree m file at sound done in
     record {
@@ -164,10 +168,11 @@ pass_swap_lands old new tree next m file after at sound done sizes moves swapped
 
 -- ---- C1 by itself
 
-pub rotation_has_lists : RotationHasLists
+pub rotation_has_lists : (held : Held) (tree next : Tree) (m : Machine) → HoldsMachine held tree m → IsRotated tree next → (rotate_alone m).lists ≡ lists_of next
 rotation_has_lists held tree next m holds swapped = grind (arith, common_steps, nat_tests)
 
-pub rotation_lands : RotationLands
+pub rotation_lands : (old new : Held) (tree next : Tree) (m : Machine) (file after : List ℕ) → IsAt old tree m file
+    → RotatesIn old new → IsRotated tree next → AreOf new.runs next new.log.a.entries after → IsAt new next (rotate_alone m) after
 rotation_lands old new tree next m file after at moves swapped are_of =
     let holds = at.holds in
     let roles : next.catalogue.lanes ≡ tree.catalogue.lanes =
@@ -210,5 +215,7 @@ begin_in held tree m file after at are_of =
       };
     }
 
-pub begin_lands : BeginLands
+-- a pass begins: the file stays
+pub begin_lands : (held : Held) (tree : Tree) (m : Machine) (file : List ℕ) → IsAt held tree m file → AreOf (with_pass_begun held).runs tree held.log.a.entries file
+    → IsAt (with_pass_begun held) tree (begin_pass m) file
 begin_lands held tree m file at are_of = begin_in held tree m file file at are_of

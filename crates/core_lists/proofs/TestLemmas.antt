@@ -17,9 +17,10 @@ use Rattle.tree_runs.specs.Runs.{left_for_pass, left_for_deep}
 use Rattle.core_moves.specs.declared.held.Held.{Held}
 use Rattle.core_moves.specs.Held.{IsPassDone, IsDeepDone, is_pass_over, is_deep_over, charge_in}
 use Rattle.core_pace.specs.Pacing.{HasPace}
-use Rattle.core_lists.specs.Standing.{IsAt}
-use Rattle.core_lists.specs.Lists.{TestsAgreeWithLists, ForgivingLands}
 use Rattle.core_lists.proofs.WeighLemmas.{table_a, weight_c1, weight_c1x, weight_c2, weight_tables}
+use Rattle.tree_machine.specs.Steps.{forgive}
+use Rattle.core_moves.specs.Moves.{with_debts_forgiven}
+use Rattle.core_lists.proofs.Terms.{IsAt, Agrees}
 
 module _ (held : Held) (tree : Tree) (m : Machine) (file : List ℕ) (pace : Pace) (at : IsAt held tree m file) (sound : IsSound m) (has : HasPace held pace) where
   gears_are : pace.gears ≡ m.gears
@@ -108,7 +109,7 @@ module _ (held : Held) (tree : Tree) (m : Machine) (file : List ℕ) (pace : Pac
   pub same_charge : charge m ≡ charge_in held
   same_charge = grind (arith, common_steps, nat_tests)
 
-pub tests_agree_with_lists : TestsAgreeWithLists
+pub tests_agree_with_lists : (held : Held) (tree : Tree) (m : Machine) (file : List ℕ) (pace : Pace) → IsAt held tree m file → IsSound m → HasPace held pace → Agrees held m
 tests_agree_with_lists held tree m file pace at sound has = record {
   pass_runs = runs_pass held tree m file pace at sound has;
   deep_runs = runs_deep held tree m file pace at sound has;
@@ -122,7 +123,9 @@ tests_agree_with_lists held tree m file pace at sound has = record {
   charge_is = same_charge held tree m file pace at sound has;
 }
 
-pub forgiving_lands : ForgivingLands
+-- The seat's debts that may be forgiven are.
+pub forgiving_lands : (seat : ℕ) (held : Held) (tree : Tree) (m : Machine) (file : List ℕ) (pace : Pace) → IsAt held tree m file → IsSound m → HasPace held pace
+    → IsAt (with_debts_forgiven seat held) tree (forgive seat m) file
 forgiving_lands seat held tree m file pace at sound has = record {
   are_of = at.are_of;
   holds = record {

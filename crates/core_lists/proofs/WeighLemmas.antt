@@ -11,7 +11,7 @@ use Rattle.tree_machine.specs.Machine.{Machine}
 use Rattle.tree_file.specs.Tree.{Tree, lists_of}
 use Rattle.tree_log.specs.Log.{LogState, IsLogOf, weight_of_tables}
 use Rattle.core_moves.specs.declared.held.Held.{Held}
-use Rattle.core_lists.specs.Standing.{IsAt}
+use Rattle.core_lists.proofs.Terms.{IsAt}
 
 -- the tables of a log weigh what its tree's lists do
 pub tables_weigh : (lists : Lists) (tree : Tree) (log : LogState) → lists ≡ lists_of tree → IsLogOf tree log → memory_weight lists ≡ weight_of_tables log

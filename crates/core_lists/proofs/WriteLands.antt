@@ -15,20 +15,20 @@ use Rattle.tree_machine.specs.Lists.{memory_weight}
 use Rattle.tree_machine.specs.Merges.{Merge}
 use Rattle.tree_machine.specs.Layers.{IsSound}
 use Rattle.tree_machine.specs.Machine.{Machine, Merges}
-use Rattle.tree_machine.specs.Moves.{goes_to_a, take_write, note, stop}
+use Rattle.tree_machine.specs.Moves.{goes_to_a, take_write, note, stop, with_peak}
 use Rattle.tree_machine.specs.Steps.{count_for_write, work_end, leave}
 use Rattle.tree_machine.proofs.WeightLemmas.{weight_of_record}
 use Rattle.seat_book.specs.State.{BookState, book_of, peaked_in, noted_in, stopped_in, paid_in, turned_in, helped_in, ended_in, left_in}
 use Rattle.tree_file.specs.Tree.{Tree, lists_of}
-use Rattle.tree_log.specs.Log.{appended}
+use Rattle.tree_log.specs.Log.{appended, IsLogOf}
 use Rattle.tree_runs.specs.Runs.{RunsState}
-use Rattle.tree_runs.specs.Holding.{cursor_of_pass}
+use Rattle.tree_runs.specs.Holding.{cursor_of_pass, AreOf}
 use Rattle.core_moves.specs.declared.held.Held.{Held}
 use Rattle.core_moves.specs.Held.{goes_ahead}
-use Rattle.core_moves.specs.Moves.{with_book}
-use Rattle.core_lists.specs.Standing.{HoldsMachine, IsAt, IsPassAt, IsDeepAt, catalogue_of}
-use Rattle.core_lists.specs.Lists.{WriteLands, BookLands, turn_noted, helped}
+use Rattle.core_moves.specs.Moves.{with_book, WritesIn}
+use Rattle.core_lists.specs.Standing.{HoldsMachine, IsPassAt, IsDeepAt, catalogue_of}
 use Rattle.core_lists.proofs.WeighLemmas.{tables_weigh}
+use Rattle.core_lists.proofs.Terms.{IsAt, turn_noted, helped, BookMoves}
 
 -- the code sends a write where the machine does
 pub same_way : (pass : Option Merge) (snow : Option SnowState) (key : Key) → IsPassAt pass snow → goes_to_a pass key ≡ is_above (cursor_of_pass snow) key
@@ -42,7 +42,11 @@ pub write_has_lists : (seat : ℕ) (write : Write) (held : Held) (tree : Tree) (
     → (take_write seat write m).lists ≡ lists_of (appended (goes_ahead (key_of write) held) (key_of write, record_of write) tree)
 write_has_lists seat write held tree m holds = grind (arith, common_steps, nat_tests)
 
-pub write_lands : WriteLands
+-- The write is appended where it goes, is in its table, and counts for the peak.
+pub write_lands : (seat : ℕ) (write : Write) (old new : Held) (tree : Tree) (m : Machine) (file after : List ℕ) → IsAt old tree m file → IsSound m → WritesIn seat (key_of write) (record_of write) old new
+    → (IsLogOf tree old.log → IsLogOf (appended (goes_ahead (key_of write) old) (key_of write, record_of write) tree) new.log)
+    → AreOf new.runs (appended (goes_ahead (key_of write) old) (key_of write, record_of write) tree) new.log.a.entries after
+    → IsAt new (appended (goes_ahead (key_of write) old) (key_of write, record_of write) tree) (with_peak (take_write seat write m)) after
 write_lands seat write old new tree m file after at sound moves of_log are_of =
     let key = key_of write in
     let rec = record_of write in
@@ -87,7 +91,7 @@ booked book held tree m next file lists merges gears spring catalogue is at = re
   };
 }
 
-pub book_lands : BookLands
+pub book_lands : (held : Held) (tree : Tree) (m : Machine) (file : List ℕ) → IsAt held tree m file → BookMoves held tree m file
 book_lands held tree m file at = record {
   note = λ seat op reply. booked (noted_in seat op reply held.book) held tree m (note seat op reply m) file refl refl refl refl refl (ap (λ (b : BookState). noted_in seat op reply b) at.holds.book) at;
   stop = λ why. booked (stopped_in why held.book) held tree m (stop why m) file refl refl refl refl refl (ap (λ (b : BookState). stopped_in why b) at.holds.book) at;

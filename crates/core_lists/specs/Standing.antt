@@ -1,22 +1,14 @@
 -- What the core stands for on an honest disk: a state of the machine over lists.
-use Rattle.std.specs.Prelude.{◌≡◌, ⊤, ℕ, List, Option, Some, None}
+use Rattle.std.specs.Prelude.{◌≡◌, ⊤, Option, Some, None}
 use Rattle.blsm_model.specs.Lanes.{a_of, b_of, spare_of}
-use Rattle.blsm_model.specs.declared.key.Key.{Key}
-use Rattle.blsm_model.specs.declared.row.Value.{Value}
-use Rattle.disk_trait.specs.Disk.{DiskState}
 use Rattle.catalog_swap.specs.declared.catalog.Catalog.{Catalog}
 use Rattle.snow_merge.specs.Pass.{SnowState}
 use Rattle.deep_merge.specs.Merge.{DeepState}
-use Rattle.pacing.specs.Pace.{Pace}
-use Rattle.pacing.specs.Fronts.{Fronts, AreFronts}
 use Rattle.tree_machine.specs.Merges.{Merge}
 use Rattle.tree_machine.specs.Machine.{Machine, Catalogue}
-use Rattle.paced_tree.specs.Kept.{IsPacedTree}
-use Rattle.paced_tree.specs.Lanes.{IsLane}
 use Rattle.seat_book.specs.State.{book_of}
 use Rattle.tree_file.specs.Tree.{Tree, lists_of}
 use Rattle.tree_log.specs.Log.{IsLogOf}
-use Rattle.tree_runs.specs.Holding.{AreOf, StandOver}
 use Rattle.core_moves.specs.declared.held.Held.{Held}
 
 -- the version and the lanes of the machine's catalogue
@@ -44,18 +36,3 @@ pub record HoldsMachine (held : Held) (tree : Tree) (m : Machine) : Type 0 where
   pub spring : m.spring ≡ held.spring
   pub catalogue : m.catalogue ≡ catalogue_of held.runs.catalogue
   pub book : book_of m ≡ held.book
-
--- In this file the runs are of the tree, and with its lists the core is the machine's state.
-pub record IsAt (held : Held) (tree : Tree) (m : Machine) (file : List ℕ) : Type 0 where
-  pub are_of : AreOf held.runs tree held.log.a.entries file
-  pub holds : HoldsMachine held tree m
-
--- The disk stands on this tree, and the core stands at the machine's state, which is paced from the opening on; no front of a lane weighs more
--- than these.
-pub record StandsAt (opening : List (Key × Value)) (held : Held) (m : Machine) (pace : Pace) (fronts : Fronts) (tree : Tree) (d : DiskState) : Type 0 where
-  pub over : StandOver held.runs tree held.log.a.entries d
-  pub holds : HoldsMachine held tree m
-  pub paced : IsPacedTree opening m pace
-  pub within : AreFronts pace fronts
-  pub lane_a : IsLane tree.lane_a m.lists.a fronts.lane_a
-  pub lane_b : IsLane tree.lane_b m.lists.b fronts.lane_b

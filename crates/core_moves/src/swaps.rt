@@ -55,6 +55,7 @@ impl Held {
 
     /// Swaps the pass in, which is done: table B is table A then. Where the new C1 is as heavy as its mark it is rotated, and a deep merge
     /// begins. An `Err` leaves what one of `swap_deep` leaves.
+    /// A clause each for the lists of an honest disk, for what is in memory, for the merges, an `Err`, the calls and the faults.
     pub fn swap_pass<D: Disk>(&mut self, disk: &mut D) -> Result<(), Failed>
         requires done { IsPassDone self.old }
         requires way { IsTrue (is_run_full self.old) → self.old.runs.deep ≡ None }

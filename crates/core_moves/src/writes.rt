@@ -52,6 +52,7 @@ impl Held {
     /// Appends the caller's write to the log, and takes it: it is in its table, the caller owes for it, and the peak counts it.
     ///
     /// After an `Err`, whose cause is a fault of the disk, all is as before in memory, and nobody knows whether the log has the write.
+    /// A clause each for what is in memory, for the lists of an honest disk, for an `Err`, the calls and the faults.
     pub fn write<D: Disk>(
         &mut self,
         disk: &mut D,

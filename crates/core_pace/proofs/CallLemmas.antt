@@ -6,11 +6,11 @@ use Rattle.blsm_model.specs.Legal.{is_del}
 use Rattle.disk_trait.specs.Disk.{DiskState}
 use Rattle.record_delta.specs.Records.{weight}
 use Rattle.record_delta.specs.Entries.{entries_weight, with_record}
-use Rattle.gear_sched.specs.Gears.{GearState, first_debt, second_debt, plan_for}
+use Rattle.gear_sched.specs.Gears.{GearState, first_debt, second_debt, plan_for, Owes}
 use Rattle.gear_sched.specs.declared.Plan.TheVariants.{Nothing}
-use Rattle.pacing.specs.Pace.{Pace}
+use Rattle.pacing.specs.Pace.{Pace, with_forgiven}
 use Rattle.pacing.specs.Kept.{IsPaced}
-use Rattle.pacing.specs.Steps.{Lands, ready_for}
+use Rattle.pacing.specs.Steps.{Lands, ready_for, plan_of}
 use Rattle.pacing.proofs.Writes as pacing
 use Rattle.pacing.proofs.Admissions.{ready as pacing_ready}
 use Rattle.pacing.proofs.Counts.{pay}
@@ -19,21 +19,28 @@ use Rattle.pacing.proofs.Payments.{snow_owed, deep_owed}
 use Rattle.paced_tree.specs.After.{no_quantum}
 use Rattle.tree_log.specs.Log.{table_for}
 use Rattle.core_moves.specs.declared.held.Held.{Held}
-use Rattle.core_moves.specs.Held.{goes_ahead}
+use Rattle.core_moves.specs.Held.{goes_ahead, IsDeepDone}
 use Rattle.core_moves.specs.Needs.{IsOn, IsReady}
-use Rattle.core_moves.specs.Moves.{begun_in}
-use Rattle.core_pace.specs.Events.{IsBetween}
-use Rattle.core_pace.specs.Calls.{PacedIsBetween, BetweenFits, SettledIsNotDone, MovesKeepBook, AdmissionFits, PlanAgrees, PayersOwe, SettlingIsPaced}
+use Rattle.core_moves.specs.Moves.{begun_in, SettlesDeep, SettlesPass, with_debts_forgiven}
+use Rattle.core_pace.specs.Events.{MayWrite, plan_in}
 use Rattle.core_pace.proofs.TestLemmas.{forgiving_has_pace}
 use Rattle.core_pace.proofs.WriteLemmas.{lands_by}
 use Rattle.core_pace.proofs.NeedLemmas.{pages_fit, writes_fit}
 use Rattle.core_pace.proofs.CountLemmas.{counts_are_small}
 use Rattle.core_pace.proofs.EventLemmas.{deep_keeps, ready_keeps, may_admit_of, moves_are_told, forgiving_is_paced}
+use Rattle.core_pace.specs.Pacing.{IsPacedHeld, HasPace}
+use Rattle.std.specs.Prelude.{ℕ, ◌<◌}
+use Rattle.blsm_model.specs.declared.key.Key.{Key}
+use Rattle.blsm_model.specs.declared.op.Op.{Op}
+use Rattle.record_delta.specs.declared.record.Rec.{Rec}
+use Rattle.blsm_model.specs.Format.{callers}
+use Rattle.core_pace.proofs.Terms.{IsBetween, CallsFit, KeepsBook, IsWritable}
 
-pub paced_is_between : PacedIsBetween
+-- a step begins between two moves
+pub paced_is_between : (held : Held) (pace : Pace) → IsPacedHeld held pace → IsBetween held pace
 paced_is_between held pace k = record { numbers = k.numbers; told = k.told; one = k.one; version = k.version }
 
-pub between_fits : BetweenFits
+pub between_fits : (held : Held) (pace : Pace) → IsBetween held pace → CallsFit held
 between_fits held pace between = grind (arith, common_steps, nat_tests, pages_fit, counts_are_small)
 
 -- so on a disk where its merges are in order each of them may be made
@@ -42,13 +49,14 @@ between_is_ready held pace d between on = let calls = between_fits held pace bet
 
 -- ---- an admission
 
-pub settled_is_not_done : SettledIsNotDone
+pub settled_is_not_done : (old settled : Held) → SettlesDeep old settled → IsDeepDone settled → ⊥
 settled_is_not_done old settled settles over = grind (arith, common_steps, nat_tests)
 
-pub moves_keep_book : MovesKeepBook
+pub moves_keep_book : (old settled ready : Held) (w : ℕ) → SettlesDeep old settled → SettlesPass settled ready → KeepsBook old.book settled.book × KeepsBook old.book (begun_in w ready).book
 moves_keep_book old settled ready w deep pass = (deep_keeps old settled deep, ready_keeps old settled ready w deep pass)
 
-pub admission_fits : AdmissionFits
+pub admission_fits : (seat : ℕ) (op : Op) (key : Key) (rec : Rec) (old settled ready : Held) (pace : Pace)
+    → IsPacedHeld old pace → MayWrite seat (weight key rec) op old → SettlesDeep old settled → SettlesPass settled ready → IsWritable seat key rec (begun_in (weight key rec) ready)
 admission_fits seat op key rec old settled ready pace k may deep pass = record {
   settled = subst (λ (g : GearState). first_debt g seat + second_debt g seat ≡ 0) between.numbers.gears now.1.settled;
   fits = writes_fit key rec (begun_in (weight key rec) ready) (ready_for pace (weight key rec)) between.numbers between.one between.told.paced now.1.has_room may.heavy;
@@ -69,13 +77,16 @@ admission_fits seat op key rec old settled ready pace k may deep pass = record {
 
 -- ---- a payment
 
-pub plan_agrees : PlanAgrees
+-- the plan of the code is the pacing's
+pub plan_agrees : (seat : ℕ) (held : Held) (pace : Pace) → HasPace held pace → plan_in seat held ≡ plan_of (with_forgiven pace seat) seat
 plan_agrees seat held pace p = sym (ap (λ (g : GearState). plan_for (first_debt g seat) (second_debt g seat)) (forgiving_has_pace seat held pace p).gears)
 
-pub payers_owe : PayersOwe
+-- a seat with something to pay once what may be forgiven is owed it before
+pub payers_owe : (seat : ℕ) (held : Held) → (plan_in seat held ≡ Nothing → ⊥) → Owes held.gears seat
 payers_owe seat held owes = grind (arith, common_steps, nat_tests, falls_at, snow_owed, deep_owed)
 
-pub settling_is_paced : SettlingIsPaced
+-- a payment that finds nothing to pay has forgiven, and the tree goes on
+pub settling_is_paced : (seat : ℕ) (held : Held) (pace : Pace) → seat < callers → IsPacedHeld held pace → IsPacedHeld (with_debts_forgiven seat held) (with_forgiven pace seat)
 settling_is_paced seat held pace caller k =
     let between = (forgiving_is_paced seat held pace caller k).0 in
     record { numbers = between.numbers; told = between.told; counted = pay Nothing pace seat no_quantum k.counted; one = between.one; version = between.version }

@@ -9,13 +9,15 @@ use Rattle.blsm_model.proofs.OpLemmas.{few_counted}
 use Rattle.gear_sched.specs.Gears.{GearState}
 use Rattle.pacing.proofs.Counts.{merged, passed}
 use Rattle.pacing.proofs.Numbers.{small}
-use Rattle.pacing.specs.Laws.{Fits}
 use Rattle.pacing.proofs.Promises.{all_fits}
 use Rattle.pacing.proofs.Spent.{quanta_are_few}
 use Rattle.pacing.specs.Pace.{Pace}
 use Rattle.seat_book.specs.State.{BookState}
-use Rattle.core_pace.specs.Pacing.{IsRunBook}
-use Rattle.core_pace.specs.Needs.{CountsAreSmall}
+use Rattle.core_pace.specs.Pacing.{IsRunBook, HasPace, most_opened}
+use Rattle.core_moves.specs.declared.held.Held.{Held}
+use Rattle.core_moves.specs.Held.{IsOne}
+use Rattle.core_moves.specs.Needs.{AreSmall}
+use Rattle.pacing.proofs.Terms.{Fits}
 
 -- the capacity is a small number
 pub capacity_small : (sizes : Sizes) → IsGeometry sizes → capacity sizes ≤ 2 ^ 33
@@ -35,7 +37,8 @@ work_is_small book pace told =
     let narrow = capacity_small pace.gears.sizes told.paced.within.sizes in
     omega (arith, quanta, product, narrow)
 
-pub counts_are_small : CountsAreSmall
+-- also between the moves of an admission
+pub counts_are_small : (held : Held) (pace : Pace) → HasPace held pace → IsOne held → IsRunBook held.book pace → held.runs.catalogue.version ≤ most_opened + (pace.passes + pace.deeps + pace.rotations) → AreSmall held
 counts_are_small held pace p one told low = record {
   version = omega (arith, low, rotations, deeps, passes, writes, told.few.begins);
   passes = omega (arith, p.passes, passes, writes, told.few.begins);

@@ -3,10 +3,10 @@ use Rattle.std.proofs.Common.{◌≡◌, ◌∙◌, ⊎_elim, ℕ, ◌+◌, ◌-
 use Rattle.std.proofs.lemmas.Grind.{common_steps}
 use Rattle.std.proofs.lemmas.Bool.Decides.{nat_tests}
 use Rattle.std.specs.Prelude.{is_some, nat_le, nat_lt, slice_index, slice_set, sum}
-use Rattle.blsm_model.specs.Format.{most_entries}
+use Rattle.blsm_model.specs.Format.{most_entries, callers}
 use Rattle.blsm_model.specs.Geometry.{c1_mark}
 use Rattle.blsm_model.specs.Book.{Book, noted, HasRoom}
-use Rattle.blsm_model.specs.Histories.{writes_of}
+use Rattle.blsm_model.specs.Histories.{writes_of, is_done}
 use Rattle.blsm_model.specs.Legal.{is_write, total_weight, is_del}
 use Rattle.blsm_model.specs.declared.key.Key.{Key}
 use Rattle.blsm_model.specs.declared.op.Op.{Op}
@@ -16,7 +16,7 @@ use Rattle.catalog_swap.specs.declared.catalog.Catalog.{Catalog}
 use Rattle.record_delta.specs.declared.record.Rec.{Rec}
 use Rattle.record_delta.specs.Records.{weight}
 use Rattle.gear_sched.specs.Gears.{GearState}
-use Rattle.pacing.specs.Pace.{Pace, with_deep_swapped, with_pass_swapped, with_swap_and_rotation, with_rotation, with_pass, with_write, deep_done, pass_done}
+use Rattle.pacing.specs.Pace.{Pace, with_deep_swapped, with_pass_swapped, with_swap_and_rotation, with_rotation, with_pass, with_write, deep_done, pass_done, with_forgiven}
 use Rattle.pacing.specs.Kept.{IsPaced}
 use Rattle.pacing.specs.Counts.{AreFew, IsCounted}
 use Rattle.pacing.specs.Spent.{IsSpent}
@@ -29,20 +29,21 @@ use Rattle.paced_tree.specs.Booking.{IsBookOf}
 use Rattle.paced_tree.specs.Made.{IsAdmission}
 use Rattle.paced_tree.proofs.BookLaws.{moves_book, write_books, note_books}
 use Rattle.tree_machine.specs.Machine.{Seats}
-use Rattle.seat_book.specs.State.{BookState, noted_in}
+use Rattle.seat_book.specs.State.{BookState, noted_in, stopped_in}
 use Rattle.tree_runs.specs.Runs.{RunsState}
 use Rattle.core_moves.specs.declared.held.Held.{Held}
 use Rattle.core_moves.specs.Held.{IsOne, IsDeepDone, IsPassDone, goes_ahead}
-use Rattle.core_moves.specs.Moves.{SwapsDeepIn, SwapsPassIn, with_pass_begun, SettlesDeep, SettlesPass, begun_in, with_book}
+use Rattle.core_moves.specs.Moves.{SwapsDeepIn, SwapsPassIn, with_pass_begun, SettlesDeep, SettlesPass, begun_in, with_book, with_debts_forgiven}
 use Rattle.core_pace.specs.Pacing.{HasPace, IsRunBook, IsPacedHeld, most_opened}
-use Rattle.core_pace.specs.Laws.{weighs_after}
-use Rattle.core_pace.specs.Events.{MayWrite, Admits, IsBetween, MovesAreTold, AdmissionIsPaced, ForgivingIsPaced, EntryIsTold, StopIsTold, done_entry}
-use Rattle.core_pace.specs.Calls.{KeepsBook, SettledIsBetween}
+use Rattle.core_pace.specs.Events.{MayWrite}
 use Rattle.core_pace.proofs.TestLemmas.{each_test_agrees, forgiving_has_pace}
 use Rattle.core_pace.proofs.SwapLemmas.{pass_swap_has_pace, begin_has_pace}
 use Rattle.core_pace.proofs.WriteLemmas.{write_has_pace}
 use Rattle.core_pace.proofs.OneLemmas.{each_move_keeps_one}
 use Rattle.core_pace.proofs.BookLemmas.{rebooked, one_rebooked}
+use Rattle.blsm_model.specs.declared.history.Reply.{Reply}
+use Rattle.blsm_model.specs.declared.history.Why.{Why}
+use Rattle.core_pace.proofs.Terms.{weighs_after, Admits, IsBetween, done_entry, KeepsBook}
 
 not_so : (b : Bool) → (b ≡ true → ⊥) → b ≡ false
 not_so b h1 = grind (arith, common_steps, nat_tests)
@@ -129,7 +130,8 @@ ready_keeps old settled ready w deep pass =
       stopped = ap (λ (b : BookState). b.stopped) three ∙ two.stopped ∙ one.stopped;
     }
 
-pub settled_between : SettledIsBetween
+-- Once the deep merge is swapped in where it was done, the pass may be, whose way is free then.
+pub settled_between : (old settled : Held) (pace : Pace) → IsPacedHeld old pace → SettlesDeep old settled → IsBetween settled (deep_settled pace)
 settled_between old settled pace k deep = record {
   numbers = now.numbers;
   one = now.one;
@@ -141,7 +143,9 @@ settled_between old settled pace k deep = record {
     now : Stands settled (deep_settled pace)
     now = settles_deep old settled pace (stands old pace k) deep
 
-pub moves_are_told : MovesAreTold
+-- An admission that stops after the swap of the deep merge, or before the write, has kept what is told.
+pub moves_are_told : (old settled ready : Held) (pace : Pace) (w : ℕ) → IsPacedHeld old pace → SettlesDeep old settled → SettlesPass settled ready
+    → IsBetween settled (deep_settled pace) × IsBetween (begun_in w ready) (ready_for pace w)
 moves_are_told old settled ready pace w k deep pass = (
   settled_between old settled pace k deep,
   record {
@@ -241,7 +245,11 @@ module _ (seat : ℕ) (op : Op) (key : Key) (rec : Rec) (old settled ready writt
   pub is_admission : IsAdmission seat op pace next
   is_admission = (ahead, after, subst (λ (n : ℕ). MayAdmit pace seat n (is_del op) ahead after × (next ≡ with_write (ready_for pace n) seat n ahead after)) (sym weighs) (may_admit, refl))
 
-pub admission_is_paced : AdmissionIsPaced
+-- A write is one admission of the pacing.
+pub admission_is_paced : (seat : ℕ) (op : Op) (key : Key) (rec : Rec) (old settled ready written new : Held) (pace : Pace)
+    → is_write op ≡ true → total_weight (writes_of op) ≡ weight key rec → IsPacedHeld old pace → MayWrite seat (weight key rec) op old → HasRoom ready.book.book.room (done_entry seat op)
+    → Admits seat op key rec old settled ready written new
+    → (next : Pace) × IsAdmission seat op pace next × IsPacedHeld new next
 admission_is_paced seat op key rec old settled ready written new pace writing weighs k may room admits = (
   with_write (ready_for pace (weight key rec)) seat (weight key rec) (goes_ahead key (begun_in (weight key rec) ready)) (weighs_after key (begun_in (weight key rec) ready) written),
   is_admission seat op key rec old settled ready written new pace writing weighs k may room admits,
@@ -250,7 +258,7 @@ admission_is_paced seat op key rec old settled ready written new pace writing we
 
 -- ---- debts, entries and stops
 
-pub forgiving_is_paced : ForgivingIsPaced
+pub forgiving_is_paced : (seat : ℕ) (held : Held) (pace : Pace) → seat < callers → IsPacedHeld held pace → IsBetween (with_debts_forgiven seat held) (with_forgiven pace seat) × IsPaced (with_forgiven pace seat)
 forgiving_is_paced seat held pace caller k = (
   record {
     numbers = forgiving_has_pace seat held pace k.numbers;
@@ -274,7 +282,9 @@ forgiving_is_paced seat held pace caller k = (
   forgiving_keeps pace seat k.told.paced caller,
 )
 
-pub entry_is_told : EntryIsTold
+-- an entry that is no write that was done
+pub entry_is_told : (b : BookState) (pace : Pace) (seat : ℕ) (op : Op) (reply : Reply) → (is_done reply ≡ true → is_write op ≡ false) → HasRoom b.book.room (record { seat = seat; op = op; reply = reply }) → IsRunBook b pace
+    → IsRunBook (noted_in seat op reply b) pace
 entry_is_told b pace seat op reply is room told = record {
   booked = note_books b.book b.seats pace (record { seat = seat; op = op; reply = reply }) is told.booked;
   paced = told.paced;
@@ -283,5 +293,5 @@ entry_is_told b pace seat op reply is room told = record {
   entries = room_taken b.book (record { seat = seat; op = op; reply = reply }) room told.entries;
 }
 
-pub stop_is_told : StopIsTold
+pub stop_is_told : (b : BookState) (pace : Pace) (why : Why) → IsRunBook b pace → IsRunBook (stopped_in why b) pace
 stop_is_told b pace why told = record { booked = told.booked; paced = told.paced; few = told.few; spent = told.spent; entries = told.entries }

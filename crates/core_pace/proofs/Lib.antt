@@ -1,3 +1,4 @@
+pub mod Terms
 pub mod TestLemmas
 pub mod SwapLemmas
 pub mod QuantumLemmas

@@ -2,7 +2,7 @@
 use Rattle.std.proofs.Common.{◌≡◌, ◌∙◌, ℕ, ◌+◌, ◌-◌, ◌*◌, ◌≤◌, Bool, true, false, ◌&&◌, Option, None, refl, ap, arith}
 use Rattle.std.proofs.lemmas.Grind.{common_steps}
 use Rattle.std.proofs.lemmas.Bool.Decides.{nat_tests}
-use Rattle.std.specs.Prelude.{is_some}
+use Rattle.std.specs.Prelude.{is_some, IsTrue}
 use Rattle.std.proofs.lemmas.Bool.{leb-true}
 use Rattle.record_delta.specs.Records.{weight}
 use Rattle.record_delta.specs.Entries.{entries_weight, with_record}
@@ -15,18 +15,25 @@ use Rattle.snow_merge.specs.Pass.{SnowState}
 use Rattle.deep_merge.specs.Merge.{DeepState}
 use Rattle.tree_log.specs.Log.{table_for}
 use Rattle.core_moves.specs.declared.held.Held.{Held}
-use Rattle.core_moves.specs.Held.{IsOne, goes_ahead}
+use Rattle.core_moves.specs.Held.{IsOne, goes_ahead, IsPassDone, IsDeepDone, is_run_full}
 use Rattle.core_pace.specs.Pacing.{HasPace}
-use Rattle.core_pace.specs.Needs.{PagesFit, WayIsFree, WritesFit}
 use Rattle.core_pace.proofs.TestLemmas.{each_test_agrees}
 use Rattle.core_pace.proofs.WriteLemmas.{lands_by}
+use Rattle.pacing.specs.Kept.{IsWithin, IsPaced}
+use Rattle.tree_runs.specs.Runs.{Fits}
+use Rattle.blsm_model.specs.Format.{most_weight}
+use Rattle.blsm_model.specs.declared.key.Key.{Key}
+use Rattle.record_delta.specs.declared.record.Rec.{Rec}
+use Rattle.core_moves.specs.Needs.{WriteFits}
+use Rattle.pacing.proofs.Terms.{HasRoom}
 
 -- ---- pages
 
 sizes_are : (held : Held) (pace : Pace) → HasPace held pace → IsOne held → pace.gears.sizes ≡ held.runs.sizes
 sizes_are held pace p one = ap (λ (g : GearState). g.sizes) p.gears ∙ one.gears
 
-pub pages_fit : PagesFit
+-- the pages hold the components, and the two runs with what is left for them
+pub pages_fit : (held : Held) (pace : Pace) → HasPace held pace → IsOne held → IsWithin pace → Fits held.runs held.log.a.entries
 pages_fit held pace p one within = grind (arith, common_steps, nat_tests)
 
 -- ---- the way of a swap
@@ -34,7 +41,8 @@ pages_fit held pace p one within = grind (arith, common_steps, nat_tests)
 both : (b c : Bool) → (b && c) ≡ true → (b ≡ true) × (c ≡ true)
 both b c h1 = grind (arith, common_steps, nat_tests)
 
-pub way_is_free : WayIsFree
+-- No deep merge runs where the pass's run is full, once a deep merge that was done is swapped in.
+pub way_is_free : (held : Held) (pace : Pace) → HasPace held pace → IsOne held → IsPaced pace → (IsDeepDone held → ⊥) → IsPassDone held → IsTrue (is_run_full held) → held.runs.deep ≡ None
 way_is_free held pace p one paced not_done done full = by held.runs.deep refl
   where
     by : (d : Option DeepState) → held.runs.deep ≡ d → held.runs.deep ≡ None
@@ -42,7 +50,8 @@ way_is_free held pace p one paced not_done done full = by held.runs.deep refl
 
 -- ---- a write
 
-pub writes_fit : WritesFit
+-- a write that there is room for fits its lane, its table, and the numbers of the gears
+pub writes_fit : (key : Key) (rec : Rec) (held : Held) (pace : Pace) → HasPace held pace → IsOne held → IsPaced pace → HasRoom pace (weight key rec) → weight key rec ≤ most_weight → WriteFits key rec held
 writes_fit key rec held pace p one paced room heavy = record {
   lane = by_lane (goes_ahead key held) lands;
   table = by_table (goes_ahead key held) lands;

@@ -15,7 +15,7 @@ use Rattle.tree_machine.proofs.FoldLemmas.{sorted_with_record}
 use Rattle.core_moves.specs.declared.held.Held.{Held}
 use Rattle.core_moves.specs.Held.{IsOne}
 use Rattle.core_moves.specs.Moves.{gears_after_pass}
-use Rattle.core_pace.specs.Laws.{EachMoveKeepsOne}
+use Rattle.core_pace.proofs.Terms.{MovesKeepOne}
 
 -- its parts, apart from the core
 record One (s : Sizes) (ls : List ℕ) (l : LogState) (g : GearState) : Type 0 where
@@ -46,5 +46,5 @@ written old new key rec ahead one runs log gears = grind (arith, common_steps, n
 after_pass_sizes : (old : Held) → (gears_after_pass old).sizes ≡ old.gears.sizes
 after_pass_sizes old = grind (arith, common_steps, nat_tests)
 
-pub each_move_keeps_one : EachMoveKeepsOne
+pub each_move_keeps_one : (old new : Held) → IsOne old → MovesKeepOne old new
 each_move_keeps_one old new one = grind (arith, common_steps, nat_tests, stays, turned, after_pass_sizes, written)

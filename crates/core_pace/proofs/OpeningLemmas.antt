@@ -11,8 +11,9 @@ use Rattle.pacing.proofs.Counts.{opened_counted}
 use Rattle.paced_tree.specs.Booking.{IsBookOf}
 use Rattle.tree_machine.specs.Machine.{fresh_seats}
 use Rattle.core_moves.specs.declared.held.Held.{Held}
-use Rattle.core_pace.specs.Pacing.{HasPace, IsRunBook}
-use Rattle.core_pace.specs.Opening.{IsOpened, OpeningIsPaced}
+use Rattle.core_pace.specs.Pacing.{HasPace, IsRunBook, IsPacedHeld, most_opened}
+use Rattle.core_pace.specs.Opening.{IsOpened}
+use Rattle.core_moves.specs.Held.{IsOne}
 
 module _ (annals : Book) (faults : ℕ) (held : Held) (o : IsOpened annals faults held) (fits : IsOpening held.runs.sizes held.runs.catalogue.c1.weight held.runs.catalogue.c2.weight) where
   abbrev pace : Pace
@@ -27,7 +28,8 @@ module _ (annals : Book) (faults : ℕ) (held : Held) (o : IsOpened annals fault
   told : sum annals.room.entries ≤ most_entries → IsRunBook held.book pace
   told few = grind (arith, common_steps, nat_tests)
 
-pub opening_is_paced : OpeningIsPaced
+pub opening_is_paced : (annals : Book) (faults : ℕ) (held : Held) → IsOpened annals faults held → IsOpening held.runs.sizes held.runs.catalogue.c1.weight held.runs.catalogue.c2.weight → IsOne held
+    → sum annals.room.entries ≤ most_entries → held.runs.catalogue.version ≤ most_opened → IsPacedHeld held (opened held.runs.sizes held.runs.catalogue.c1.weight held.runs.catalogue.c2.weight)
 opening_is_paced annals faults held o fits one few version = record {
   numbers = numbers annals faults held o fits;
   told = told annals faults held o fits few;

@@ -33,15 +33,14 @@ use Rattle.catalog_swap.specs.declared.catalog.Catalog.{Catalog}
 use Rattle.core_moves.specs.declared.held.Held.{Held}
 use Rattle.core_moves.specs.Held.{IsOne}
 use Rattle.core_moves.specs.Moves.{with_debts_forgiven, with_book}
-use Rattle.core_pace.specs.Pacing.{HasPace, IsPacedHeld, most_opened}
-use Rattle.core_pace.specs.Laws.{snow_quantum, deep_quantum}
-use Rattle.core_pace.specs.Needs.{EachPlanRuns, PayersWrote}
-use Rattle.core_pace.specs.Events.{MayPayIn, Pays, PaymentIsPaced, TakesByPlan, IsBetween, plan_in}
+use Rattle.core_pace.specs.Pacing.{HasPace, IsPacedHeld, most_opened, IsRunBook}
+use Rattle.core_pace.specs.Events.{TakesByPlan, plan_in}
 use Rattle.core_pace.proofs.TestLemmas.{each_test_agrees}
 use Rattle.core_pace.proofs.QuantumLemmas.{snow_has_pace, deep_has_pace, count_has_pace}
 use Rattle.core_pace.proofs.OneLemmas.{each_move_keeps_one}
 use Rattle.core_pace.proofs.BookLemmas.{rebooked, one_rebooked}
 use Rattle.core_pace.proofs.EventLemmas.{forgiving_is_paced}
+use Rattle.core_pace.proofs.Terms.{snow_quantum, deep_quantum, PlansRun, MayPayIn, Pays, IsBetween}
 
 -- a merge that isn't over runs, and something is left
 runs_on : (runs : Bool) (left : ℕ) → (not runs || (left == 0)) ≡ false → (runs ≡ true) × (0 < left)
@@ -55,7 +54,7 @@ snow_runs pace seat paced caller is = grind (arith, common_steps, nat_tests)
 deep_runs : (pace : Pace) (seat : ℕ) → IsPaced pace → seat < callers → plan_of (with_forgiven pace seat) seat ≡ Deep → deep_over pace ≡ false
 deep_runs pace seat paced caller is = grind (arith, common_steps, nat_tests)
 
-pub each_plan_runs : EachPlanRuns
+pub each_plan_runs : (held : Held) (pace : Pace) (seat : ℕ) → HasPace held pace → IsPaced pace → seat < callers → PlansRun held pace seat
 each_plan_runs held pace seat p paced caller = grind (arith, common_steps, nat_tests, runs_on, each_test_agrees, snow_runs, deep_runs)
 
 -- ---- whose write it is
@@ -68,7 +67,8 @@ some_owed pace seat paced caller owes = grind (arith, common_steps, nat_tests, o
 bound_to_none : (sizes : Sizes) → IsGeometry sizes → work_bound sizes 0 ≡ 0
 bound_to_none sizes fits = grind (arith, common_steps, nat_tests)
 
-pub payers_wrote : PayersWrote
+-- a seat that pays has a write that it pays for
+pub payers_wrote : (held : Held) (pace : Pace) (seat : ℕ) → IsRunBook held.book pace → seat < callers → (plan_of (with_forgiven pace seat) seat ≡ Nothing → ⊥) → HasWrite seat held.book.book
 payers_wrote held pace seat told caller owes = by (is_last held.book.book seat) refl
   where
     by : (b : Bool) → is_last held.book.book seat ≡ b → HasWrite seat held.book.book
@@ -194,7 +194,7 @@ module _ (seat n : ℕ) (old taken new : Held) (pace : Pace) (k : IsPacedHeld ol
   is_paid : IsPaidBy Paid seat pace next
   is_paid = (took.0, may_pay, refl)
 
-pub payment_is_paced : PaymentIsPaced
+pub payment_is_paced : (seat n : ℕ) (old taken new : Held) (pace : Pace) → IsPacedHeld old pace → MayPayIn seat old → Pays seat n old taken new → (next : Pace) × IsPaidBy Paid seat pace next × IsPacedHeld new next
 payment_is_paced seat n old taken new pace k may pays =
     let quantum = (took seat n old taken new pace k may pays).0 in
     (paid_by (plan_of (with_forgiven pace seat) seat) (with_forgiven pace seat) seat quantum, is_paid seat n old taken new pace k may pays, paid seat n old taken new pace k may pays)

@@ -6,13 +6,18 @@ use Rattle.std.specs.Prelude.{is_some}
 use Rattle.blsm_model.specs.Format.{most_weight}
 use Rattle.blsm_model.specs.Sizes.{Sizes}
 use Rattle.record_delta.specs.Entries.{Entries}
-use Rattle.pacing.specs.Pace.{with_snow, with_deep}
+use Rattle.pacing.specs.Pace.{with_snow, with_deep, Pace, counted}
 use Rattle.snow_merge.specs.Pass.{SnowState}
 use Rattle.deep_merge.specs.Merge.{DeepState}
 use Rattle.tree_runs.specs.Runs.{made_by_pass, made_by_deep, left_for_pass, left_for_deep}
 use Rattle.tree_runs.specs.Holding.{PassTakes, DeepTakes}
 use Rattle.core_pace.specs.Pacing.{HasPace, HasTaken, table_left}
-use Rattle.core_pace.specs.Laws.{SnowHasPace, DeepHasPace, CountHasPace, snow_quantum, deep_quantum}
+use Rattle.pacing.specs.Kept.{IsWithin}
+use Rattle.pacing.specs.Steps.{IsSnow, IsDeep}
+use Rattle.core_moves.specs.declared.held.Held.{Held}
+use Rattle.core_moves.specs.Held.{IsOne}
+use Rattle.core_moves.specs.Moves.{TakesOfPass, TakesOfDeep}
+use Rattle.core_pace.proofs.Terms.{snow_quantum, deep_quantum}
 
 -- What a quantum of a pass took, of both inputs and of table A, by what is left.
 pub record Took (least : ℕ) (old new : Option SnowState) (a : Entries) (n : ℕ) : Type 0 where
@@ -45,7 +50,9 @@ deep_took least old new n h1 = grind (arith, common_steps, nat_tests)
 at_some : (snow : Option SnowState) (taken : ℕ) → 0 < taken → HasTaken snow taken
 at_some snow taken h1 = grind (arith, common_steps, nat_tests)
 
-pub snow_has_pace : SnowHasPace
+-- A quantum that began with something left is one of the pacing's.
+pub snow_has_pace : (seat n : ℕ) (old new : Held) (pace : Pace) → HasPace old pace → IsOne old → IsWithin pace → 0 < left_for_pass old.runs.pass old.log.a.entries → TakesOfPass seat n old new
+    → IsSnow pace (snow_quantum n old new) × HasPace new (with_snow pace seat (snow_quantum n old new))
 snow_has_pace seat n old new pace p one within some m = (is_snow, has)
   where
     t : Took old.runs.sizes.quantum old.runs.pass new.runs.pass old.log.a.entries n
@@ -113,7 +120,8 @@ snow_has_pace seat n old new pace p one within some m = (is_snow, has)
       started = at_some new.runs.pass (pace.gears.pass_taken + n) taken_some;
     }
 
-pub deep_has_pace : DeepHasPace
+pub deep_has_pace : (seat n : ℕ) (old new : Held) (pace : Pace) → HasPace old pace → IsOne old → IsWithin pace → TakesOfDeep seat n old new
+    → IsDeep pace (deep_quantum n new) × HasPace new (with_deep pace seat (deep_quantum n new))
 deep_has_pace seat n old new pace p one within m = (is_deep, has)
   where
     t : DeepTook old.runs.sizes.quantum old.runs.deep new.runs.deep n
@@ -167,5 +175,6 @@ deep_has_pace seat n old new pace p one within m = (is_deep, has)
       started = subst (λ (s : Option SnowState). HasTaken s pace.gears.pass_taken) (sym m.others.pass) p.started;
     }
 
-pub count_has_pace : CountHasPace
+-- the count of a seat's quanta is no number of these
+pub count_has_pace : (seat : ℕ) (held : Held) (pace : Pace) → HasPace held pace → HasPace held (counted pace seat)
 count_has_pace seat held pace p = assumption

@@ -6,7 +6,7 @@ use Rattle.std.specs.Prelude.{◌==◌, is_some, slice_index, slice_index_or, sl
 use Rattle.std.proofs.lemmas.Bool.{false≢true, eq-eqb, eqb-true, le-leb, lt-leb, and_parts, and_from}
 use Rattle.std.proofs.lemmas.List.{set-get_or}
 use Rattle.blsm_model.specs.Format.{callers, most_entries}
-use Rattle.blsm_model.specs.Book.{Book}
+use Rattle.blsm_model.specs.Book.{Book, HasRoom}
 use Rattle.blsm_model.specs.declared.op.Op.TheVariants.{Work}
 use Rattle.catalog_swap.specs.declared.catalog.Catalog.{Catalog}
 use Rattle.gear_sched.specs.Gears.{GearState, first_debt, second_debt, deep_is_behind}
@@ -23,17 +23,16 @@ use Rattle.paced_tree.specs.Numbers.{IsBooked}
 use Rattle.paced_tree.specs.Booking.{IsBookOf, quanta_of_move}
 use Rattle.paced_tree.specs.Made.{IsTurnedBy}
 use Rattle.paced_tree.proofs.BookLaws.{turn_books, help_books, end_books}
-use Rattle.tree_machine.specs.Machine.{WorkSoFar, no_work}
+use Rattle.tree_machine.specs.Machine.{WorkSoFar, no_work, Turned, seats}
 use Rattle.tree_machine.specs.Steps.{Turn, work_reply}
-use Rattle.seat_book.specs.State.{BookState, work_in, with_ended, turned_in, helped_in}
+use Rattle.seat_book.specs.State.{BookState, work_in, with_ended, turned_in, helped_in, ended_in, left_in}
 use Rattle.snow_merge.specs.Pass.{SnowState}
 use Rattle.deep_merge.specs.Merge.{DeepState}
 use Rattle.tree_runs.specs.Runs.{left_for_pass, left_for_deep}
 use Rattle.core_moves.specs.declared.held.Held.{Held}
 use Rattle.core_moves.specs.Moves.{with_pass_begun, with_book}
-use Rattle.core_pace.specs.Pacing.{IsPacedHeld}
-use Rattle.core_pace.specs.Laws.{snow_quantum, deep_quantum}
-use Rattle.core_pace.specs.Turns.{move_in, may_begin_in, MoveIsTurn, MayMove, TurnMayMove, TurnsBy, end_of_move, MayWorkIn, WorkIsPaced, MayHelpIn, HelpIsPaced, TurnIsTold, HelpIsTold, EndIsTold, LeaveIsTold, BookIsPaced}
+use Rattle.core_pace.specs.Pacing.{IsPacedHeld, HasPace, IsRunBook}
+use Rattle.core_pace.specs.Turns.{move_in, may_begin_in, MayMove, TurnsBy, end_of_move}
 use Rattle.core_pace.proofs.TestLemmas.{done_agrees}
 use Rattle.core_pace.proofs.SwapLemmas.{rotation_has_pace, begin_has_pace}
 use Rattle.core_pace.proofs.QuantumLemmas.{snow_has_pace, deep_has_pace}
@@ -41,6 +40,8 @@ use Rattle.core_pace.proofs.OneLemmas.{each_move_keeps_one}
 use Rattle.core_pace.proofs.BookLemmas.{rebooked, one_rebooked}
 use Rattle.core_pace.proofs.NeedLemmas.{way_is_free}
 use Rattle.core_pace.proofs.EventLemmas.{Stands, moved_on, deep_swapped, pass_swapped, room_taken}
+use Rattle.core_moves.specs.Held.{IsOne}
+use Rattle.core_pace.proofs.Terms.{snow_quantum, deep_quantum, MayWorkIn, MayHelpIn, Works, Helps}
 
 -- ---- which move it is
 
@@ -49,7 +50,8 @@ same_move : (b1 b2 b3 b4 b5 b6 c1 c2 c3 c4 c5 c6 : Bool) → b1 ≡ c1 → b2 �
     ≡ cond c1 SwapDeep (cond c2 SwapPass (cond c3 TakeDeep (cond c4 TakeSnow (cond c5 Begin (cond c6 Rotate Idle)))))
 same_move b1 b2 b3 b4 b5 b6 c1 c2 c3 c4 c5 c6 e1 e2 e3 e4 e5 e6 = cc (e1, e2, e3, e4, e5, e6)
 
-pub move_is_turn : MoveIsTurn
+-- it is the pacing's
+pub move_is_turn : (is_worker : Bool) (held : Held) (pace : Pace) → HasPace held pace → IsOne held → move_in is_worker held ≡ turn_of is_worker pace
 move_is_turn is_worker held pace p one =
     same_move _ _ _ _ _ _ _ _ _ _ _ _ deep_done_is pass_done_is behind_is (sym p.in_pass) (begins_is is_worker) rotates_is
   where
@@ -91,7 +93,8 @@ may_move_by : (held : Held) (b1 b2 b3 b4 b5 b6 : Bool) → (b1 ≡ true → MayM
     → MayMove (cond b1 SwapDeep (cond b2 SwapPass (cond b3 TakeDeep (cond b4 TakeSnow (cond b5 Begin (cond b6 Rotate Idle)))))) held
 may_move_by held b1 b2 b3 b4 b5 b6 h1 h2 h3 h4 h5 = grind (arith, common_steps, nat_tests)
 
-pub turn_may_move : TurnMayMove
+-- it may be made
+pub turn_may_move : (is_worker : Bool) (held : Held) (pace : Pace) → IsPacedHeld held pace → MayMove (move_in is_worker held) held
 turn_may_move is_worker held pace k =
     may_move_by held (is_some held.runs.deep && (left_for_deep held.runs.deep == 0)) (is_some held.runs.pass && (left_for_pass held.runs.pass held.log.a.entries == 0))
     (is_some held.runs.deep && (not (is_some held.runs.pass) || deep_is_behind held.gears)) (is_some held.runs.pass) (may_begin_in is_worker held)
@@ -263,7 +266,9 @@ module _ (seat n : ℕ) (old moved : Held) (pace : Pace) (k : IsPacedHeld old pa
   worked_held = held_with false seat n old moved pace k caller_is may.settled moves (turned_in seat (end_of_move (move_in false old)) more moved.book) refl
       (counted false seat n old moved pace k caller_is may.settled moves).book work_booked
 
-pub work_is_paced : WorkIsPaced
+-- It is one turn of the pacing; the pace stays where it idles.
+pub work_is_paced : (seat n : ℕ) (old moved new : Held) (pace : Pace) → IsPacedHeld old pace → MayWorkIn seat old → Works seat n old moved new
+    → (next : Pace) × IsTurnedBy (Turn (end_of_move (move_in false old))) seat pace next × IsPacedHeld new next
 work_is_paced seat n old moved new pace k may works = (
   work_next seat n old moved pace k may works.moves,
   ends false seat n old moved pace k (caller_is seat n old moved pace k may works.moves) may.settled works.moves,
@@ -297,7 +302,8 @@ module _ (seat n : ℕ) (old moved : Held) (pace : Pace) (k : IsPacedHeld old pa
   helped_held = held_with true seat n old moved pace k worker_is none_owed moves (helped_in seat moved.book) refl
       (counted true seat n old moved pace k worker_is none_owed moves).book help_booked
 
-pub help_is_paced : HelpIsPaced
+pub help_is_paced : (seat n : ℕ) (old moved new : Held) (pace : Pace) → IsPacedHeld old pace → MayHelpIn seat → Helps seat n old moved new
+    → (next : Pace) × IsTurnedBy (Turn (end_of_move (move_in true old))) seat pace next × IsPacedHeld new next
 help_is_paced seat n old moved new pace k may helps = (
   help_next seat n old moved pace k may helps.moves,
   ends true seat n old moved pace k (worker_is seat n old moved pace k may helps.moves) (none_owed seat n old moved pace k may helps.moves) helps.moves,
@@ -306,16 +312,19 @@ help_is_paced seat n old moved new pace k may helps = (
 
 -- ---- the book alone
 
-pub turn_is_told : TurnIsTold
+-- a turn that took no quantum: the tree has stopped, or the move failed
+pub turn_is_told : (b : BookState) (pace : Pace) (seat : ℕ) (ended : Turned) → seat < callers → length b.seats.work ≡ callers → IsRunBook b pace → IsRunBook (turned_in seat ended 0 b) pace
 turn_is_told b pace seat ended caller works told = grind (arith, common_steps, nat_tests)
 
-pub help_is_told : HelpIsTold
+pub help_is_told : (b : BookState) (pace : Pace) (seat : ℕ) → IsRunBook b pace → IsRunBook (helped_in seat b) pace
 help_is_told b pace seat told = record { booked = told.booked; paced = told.paced; few = told.few; spent = told.spent; entries = told.entries }
 
-pub leave_is_told : LeaveIsTold
+pub leave_is_told : (b : BookState) (pace : Pace) (seat : ℕ) → IsRunBook b pace → IsRunBook (left_in seat b) pace
 leave_is_told b pace seat told = record { booked = told.booked; paced = told.paced; few = told.few; spent = told.spent; entries = told.entries }
 
-pub end_is_told : EndIsTold
+-- the end of a work, whose entry has room
+pub end_is_told : (b : BookState) (pace : Pace) (seat n : ℕ) → length b.seats.work ≡ callers → HasRoom b.book.room (record { seat = seat; op = Work n; reply = work_reply (work_in seat b) b.stopped }) → IsRunBook b pace
+    → IsRunBook (ended_in seat n b) pace
 end_is_told b pace seat n works room told = record {
   booked = end_books b.book b.seats pace seat (record { seat = seat; op = Work n; reply = work_reply (work_in seat b) b.stopped }) room.seat works refl told.booked;
   paced = told.paced;
@@ -324,7 +333,8 @@ end_is_told b pace seat n works room told = record {
   entries = room_taken b.book (record { seat = seat; op = Work n; reply = work_reply (work_in seat b) b.stopped }) room told.entries;
 }
 
-pub book_is_paced : BookIsPaced
+-- a book that is told, with the same counts, keeps the core paced
+pub book_is_paced : (held : Held) (b : BookState) (pace : Pace) → IsPacedHeld held pace → b.counts ≡ held.book.counts → IsRunBook b pace → IsPacedHeld (with_book b held) pace
 book_is_paced held b pace k same told = record {
   numbers = rebooked held b pace same k.numbers;
   told = told;

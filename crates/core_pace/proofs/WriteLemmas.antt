@@ -22,7 +22,8 @@ use Rattle.tree_runs.specs.Holding.{cursor_of_pass}
 use Rattle.core_moves.specs.declared.held.Held.{Held}
 use Rattle.core_moves.specs.Held.{IsOne, goes_ahead}
 use Rattle.core_pace.specs.Pacing.{HasPace, HasTaken, table_left}
-use Rattle.core_pace.specs.Laws.{WriteHasPace}
+use Rattle.core_moves.specs.Moves.{WritesIn}
+use Rattle.core_pace.proofs.Terms.{weighs_after}
 
 left_grows : (snow : SnowState) (a : Entries) (key : Key) (rec : Rec) → is_above snow.at key ≡ true
     → entries_weight (above snow.at (with_record key rec a)) + entries_weight a ≡ entries_weight (above snow.at a) + entries_weight (with_record key rec a)
@@ -154,7 +155,9 @@ module _ (seat : ℕ) (key : Key) (rec : Rec) (old new : Held) (pace : Pace) (p 
       light : entries_weight (with_record key rec old.log.b.entries) ≤ entries_weight old.log.b.entries + weight key rec
       light = weight_with key rec old.log.b.entries one.sorted_b
 
-pub write_has_pace : WriteHasPace
+pub write_has_pace : (seat : ℕ) (key : Key) (rec : Rec) (old new : Held) (pace : Pace) → HasPace old pace → IsOne old → WritesIn seat key rec old new
+    → Lands pace (weight key rec) (goes_ahead key old) (weighs_after key old new)
+    × HasPace new (with_write pace seat (weight key rec) (goes_ahead key old) (weighs_after key old new))
 write_has_pace seat key rec old new pace p one m = by (goes_ahead key old) refl m.log m.grows
   where
     by : (b : Bool) → goes_ahead key old ≡ b → new.log ≡ with_entry b key rec old.log → Grows b (weight key rec) old.log new.log

@@ -1,15 +1,10 @@
 -- A core that was just opened has the pace of an opening.
-use Rattle.std.specs.Prelude.{◌≡◌, ℕ, ◌+◌, ◌≤◌, [], None, sum}
-use Rattle.blsm_model.specs.Format.{most_entries}
+use Rattle.std.specs.Prelude.{◌≡◌, ℕ, ◌+◌, [], None}
 use Rattle.blsm_model.specs.Book.{Book}
 use Rattle.gear_sched.specs.Gears.{at_rest}
-use Rattle.pacing.specs.Pace.{opened}
-use Rattle.pacing.specs.Laws.{IsOpening}
 use Rattle.seat_book.specs.State.{opened_in}
 use Rattle.tree_log.specs.Log.{end_of_a, end_of_b}
 use Rattle.core_moves.specs.declared.held.Held.{Held}
-use Rattle.core_moves.specs.Held.{IsOne}
-use Rattle.core_pace.specs.Pacing.{IsPacedHeld, most_opened}
 
 -- No merge runs, C1' and both tables are empty, and nothing was asked: the book has these annals, which are empty.
 pub record IsOpened (annals : Book) (faults : ℕ) (held : Held) : Type 0 where
@@ -25,7 +20,3 @@ pub record IsOpened (annals : Book) (faults : ℕ) (held : Held) : Type 0 where
   pub book : held.book ≡ opened_in annals (held.runs.catalogue.c1.weight + held.runs.catalogue.c2.weight) faults
   pub entries : annals.entries ≡ []
   pub quanta : annals.quanta ≡ []
-
-abbrev pub OpeningIsPaced : Type 0
-OpeningIsPaced = (annals : Book) (faults : ℕ) (held : Held) → IsOpened annals faults held → IsOpening held.runs.sizes held.runs.catalogue.c1.weight held.runs.catalogue.c2.weight → IsOne held
-    → sum annals.room.entries ≤ most_entries → held.runs.catalogue.version ≤ most_opened → IsPacedHeld held (opened held.runs.sizes held.runs.catalogue.c1.weight held.runs.catalogue.c2.weight)

@@ -50,6 +50,7 @@ impl Model for Deep {
 impl Deep {
     /// A merge of C1' and C2 that has taken nothing. The run's filter gets so many bits, and filter and fences are empty. It calls no
     /// device.
+    /// A clause for each part that the merge has.
     pub fn begin(
         c1x: &Component,
         c2: &Component,

@@ -1,8 +1,10 @@
+pub mod Terms
 mod Noted
 mod Patches
 mod Picking
 mod Pieces
 mod Results
+mod ShelfLemmas
 mod Steps
 mod Told
 pub mod PlaceLemmas

@@ -8,7 +8,8 @@ use Rattle.std.proofs.lemmas.Bool.{false_from_ne_true}
 use Rattle.std.proofs.lemmas.Slice.Eq.{bytes_eq-Decides}
 use Rattle.disk_trait.specs.Shelf.{Fetch}
 use Rattle.disk_mem.specs.Recorded.{Recorded}
-use Rattle.disk_mem.specs.Places.{IsPlace, HasNoPlace, disk_under, is_out_under, name_at, noted, all_noted, AllPlaced, unnoted}
+use Rattle.disk_mem.specs.Places.{IsPlace, HasNoPlace, disk_under, is_out_under, name_at, noted, all_noted, AllPlaced}
+use Rattle.disk_mem.proofs.Terms.{unnoted}
 
 pub under_get : (name : List ℕ) (names : List (List ℕ)) (i : ℕ) (disks : List (Option Recorded)) (d : Option Recorded) → IsPlace name names i → i < length disks → disk_under names disks name ≡ get_or disks i d
 under_get name [] i disks d at lt = absurd at

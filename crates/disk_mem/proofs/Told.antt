@@ -10,8 +10,9 @@ use Rattle.disk_trait.proofs.PartLemmas.{within_nothing}
 use Rattle.disk_trait.specs.Shelf.{IsFreshCount}
 use Rattle.disk_mem.specs.Events.{Event, synced, passed, fresh, replay, IsSync}
 use Rattle.disk_mem.specs.Recorded.{Recorded, Change, Kind, Outcome, unrecorded, unrecorded_past_end, past_end, refused, done, HasRecord, HasNoRecord, Fails, next_call, changed, changed_by, written_by, look, look_or_sync, sync_call, write_call, disk_state, is_untouched, is_honest, told}
-use Rattle.disk_mem.specs.Replayed.{IsReplayed, IsConsistent}
+use Rattle.disk_mem.specs.Replayed.{IsReplayed}
 use Rattle.disk_mem.proofs.Steps.{missed, passes_noted, marks_noted, keeps_passed, any_wrote, any_tore, same_passed, same_synced, nothing_passed, within_tore, within_wrote, only_synced, passes_missed, marks_missed, nothing_missed}
+use Rattle.disk_mem.proofs.Terms.{IsConsistent}
 
 -- A disk that reads as its record says is honest exactly where nobody changes it.
 honest_of : (first : List ℕ) (es : List Event) (changes : List Change) (bytes : List ℕ) → IsReplayed first es changes bytes

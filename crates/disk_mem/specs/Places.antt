@@ -52,20 +52,10 @@ all_placed_prop n [] = Unit-prop
 all_placed_prop n (None ∷ es) = all_placed_prop n es
 all_placed_prop n (Some p ∷ es) = ×_prop le_prop (all_placed_prop n es)
 
-abbrev pub unnoted : Fetch
-unnoted = None
-
 -- No disk stands under a name whose disk is out.
 pub out_is_gone : (names : List (List ℕ)) (disks : List (Option Recorded)) (name : List ℕ) → IsTrue (is_out_under names disks name) → disk_under names disks name ≡ None
 out_is_gone [] disks name out = refl
 out_is_gone (n ∷ names) [] name out = refl
 out_is_gone (n ∷ names) (d ∷ disks) name out =
-    by_test (bytes_eq n name) (is_none d) (is_out_under names disks name) d (disk_under names disks name) out (none_is d) (out_is_gone names disks name)
-  where
-    none_is : (d : Option Recorded) → IsTrue (is_none d) → d ≡ None
-    none_is None out = refl
-    none_is (Some x) out = absurd (cc)
-
-    by_test : (b o p : Bool) (x y : Option Recorded) → IsTrue (if b then o else p) → (IsTrue o → x ≡ None) → (IsTrue p → y ≡ None) → (if b then x else y) ≡ None
-    by_test true o p x y out first rest = first out
-    by_test false o p x y out first rest = rest out
+    elim (bytes_eq n name) as (λ b. IsTrue (if b then is_none d else is_out_under names disks name) → (if b then d else disk_under names disks name) ≡ None)
+    [ true ↦ elim d as (λ d. IsTrue (is_none d) → d ≡ None) [ None ↦ λ out. refl | Some x ↦ λ out. absurd (cc) ] | false ↦ out_is_gone names disks name ] out

@@ -1,7 +1,6 @@
 // A disk in memory that keeps a record of its calls, by which it tells what a crash at each moment may leave.
-ghost use Rattle.std.specs.Prelude.{◌≡◌, ◌⊎◌, ◌<◌, ◌≤◌, ◌+◌, ◌↔◌, max, false, IsTrue, IsErr, IsOk, OnOk, OnErr, IfOk, refl, List, ℕ, [], ◌∷◌, ◌++◌, length, is_ok};
-ghost use Rattle.refusal.specs.Count.{HasRisen};
-ghost use Rattle.disk_trait.specs.Disk.{Passes, MarksSync, WritesNothing, WritesWithin, ChangesNothing, KeepsImages, LeavesAnyBytes, Only, IsSure, part, overwritten};
+ghost use Rattle.std.specs.Prelude.{◌≡◌, ◌<◌, ◌+◌, false, IsTrue, IsErr, OnOk, OnErr, IfOk, refl, [], ◌∷◌, ◌++◌, length, is_ok};
+ghost use Rattle.disk_trait.specs.Calls.{TellsLength, ReadsPart, WritesPart, Settles};
 ghost use Rattle.disk_mem.specs.Recorded.{is_untouched, new_disk, told, look, sync_call, write_call, Fails, Outcome};
 ghost use Rattle.disk_mem.specs.Images.{IsPicked};
 ghost use Rattle.disk_mem.specs.Start.{StartsAs};
@@ -126,15 +125,7 @@ impl Disk for MemDisk {
     ghost images_tell = { λ d tells. refl };
 
     fn len(&mut self) -> Result<u64, Failed>
-        ensures passes { Passes (told self.old) (told self.new) }
-        ensures no_sync { MarksSync ⊥ (told self.old) (told self.new) }
-        ensures same { WritesNothing (told self.old) (told self.new) }
-        ensures images { KeepsImages (told self.old) (told self.new) }
-        ensures sure { IsSure 0 (told self.old) (told self.new) }
-        ensures length { IfOk result (λ n. IsTrue (told self.old).tells_bytes → n ≡ length (told self.new).bytes) }
-        ensures stands { OnOk result ((told self.new).faults ≡ (told self.old).faults) }
-        ensures failed { IsErr result → HasRisen (told self.old).faults (told self.new).faults }
-
+        ensures call { TellsLength result (told self.old) (told self.new) }
         // It fails exactly where it is listed, after the stop, and past the record.
         ensures cause { IsErr result → Fails (look 0) self.old }
         ensures fails { Fails (look 0) self.old → IsErr result }
@@ -144,18 +135,7 @@ impl Disk for MemDisk {
     }
 
     fn read(&mut self, at: u64, into: &mut [u8]) -> Result<(), Failed>
-        ensures passes { Passes (told self.old) (told self.new) }
-        ensures no_sync { MarksSync ⊥ (told self.old) (told self.new) }
-        ensures same { WritesNothing (told self.old) (told self.new) }
-        ensures images { KeepsImages (told self.old) (told self.new) }
-        ensures sure { IsSure (at + length into.old) (told self.old) (told self.new) }
-        ensures bytes { OnOk result (IsTrue (told self.old).tells_bytes → into.new ≡ part (told self.new).bytes at (length into.old)) }
-        ensures past_end { IsTrue (told self.old).tells_bytes → length (told self.old).bytes < at + length into.old
-            → IsErr result × ((told self.new).faults ≡ (told self.old).faults) }
-        ensures stands { OnOk result ((told self.new).faults ≡ (told self.old).faults) }
-        ensures failed { IsErr result → HasRisen (told self.old).faults (told self.new).faults
-            ⊎ (IsTrue (told self.old).tells_bytes × (length (told self.old).bytes < at + length into.old)) }
-
+        ensures call { ReadsPart result at into.old into.new (told self.old) (told self.new) }
         // It fails exactly where it is listed, after the stop, past the record, and where the range ends past the bytes.
         ensures cause { IsErr result → Fails (look (at + length into.old)) self.old }
         ensures fails { Fails (look (at + length into.old)) self.old → IsErr result }
@@ -165,26 +145,7 @@ impl Disk for MemDisk {
     }
 
     fn write(&mut self, at: u64, from: &[u8]) -> Result<(), Failed>
-        ensures passes { Passes (told self.old) (told self.new) }
-        ensures no_sync { MarksSync ⊥ (told self.old) (told self.new) }
-        ensures within { WritesWithin at (length from.now) (told self.old) (told self.new) }
-        ensures sure { IsSure (at + length from.now) (told self.old) (told self.new) }
-        ensures bytes { OnOk result (IsTrue (told self.old).is_honest
-            → (told self.new).bytes ≡ overwritten (told self.old).bytes at from.now) }
-        ensures length { OnOk result (IsTrue (told self.old).tells_bytes
-            → length (told self.new).bytes ≡ max (length (told self.old).bytes) (at + length from.now)) }
-        ensures any_bytes { IsTrue (told self.new).is_noted → at ≤ length (told self.old).bytes
-            → LeavesAnyBytes at (length from.now) (told self.old) (told self.new) }
-        ensures noted { OnOk result (IsTrue (told self.new).is_noted) }
-        ensures unnoted { (told self.new).is_noted ≡ false → ChangesNothing (told self.old) (told self.new) }
-        ensures past_end { IsTrue (told self.old).tells_bytes → length (told self.old).bytes < at
-            → IsErr result × ((told self.new).faults ≡ (told self.old).faults) }
-        ensures untouched { IsTrue (told self.old).tells_bytes → length (told self.old).bytes < at
-            → ChangesNothing (told self.old) (told self.new) }
-        ensures stands { OnOk result ((told self.new).faults ≡ (told self.old).faults) }
-        ensures failed { IsErr result → HasRisen (told self.old).faults (told self.new).faults
-            ⊎ (IsTrue (told self.old).tells_bytes × (length (told self.old).bytes < at)) }
-
+        ensures call { WritesPart result at from.now (told self.old) (told self.new) }
         // It fails exactly where it is listed, after the stop, past the record, where it begins past the bytes, and where it ends past the limit.
         ensures cause { IsErr result → Fails (write_call at from.now) self.old }
         ensures fails { Fails (write_call at from.now) self.old → IsErr result }
@@ -194,15 +155,7 @@ impl Disk for MemDisk {
     }
 
     fn sync(&mut self) -> Result<(), Failed>
-        ensures passes { Passes (told self.old) (told self.new) }
-        ensures marks { MarksSync (IsOk result) (told self.old) (told self.new) }
-        ensures same { WritesNothing (told self.old) (told self.new) }
-        ensures sure { IsSure 0 (told self.old) (told self.new) }
-        ensures durable { OnOk result (IsTrue (told self.old).is_honest → Only (told self.new).bytes (told self.new).images) }
-        ensures unsettled { OnErr result (KeepsImages (told self.old) (told self.new)) }
-        ensures stands { OnOk result ((told self.new).faults ≡ (told self.old).faults) }
-        ensures failed { IsErr result → HasRisen (told self.old).faults (told self.new).faults }
-
+        ensures call { Settles result (told self.old) (told self.new) }
         // It fails exactly where it is listed, after the stop, and past the record.
         ensures cause { IsErr result → Fails sync_call self.old }
         ensures fails { Fails sync_call self.old → IsErr result }

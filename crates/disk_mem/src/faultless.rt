@@ -1,7 +1,8 @@
 // A disk in memory that fails only where a write ends past its limit.
-ghost use Rattle.std.specs.Prelude.{◌≡◌, ◌⊎◌, ◌<◌, ◌≤◌, ◌+◌, ◌-◌, ◌^◌, min, max, false, IsTrue, IsErr, IsOk, OnOk, OnErr, IfOk, refl, List, ℕ, [], length, vec_capacity};
-ghost use Rattle.refusal.specs.Count.{next_count, HasRisen};
-ghost use Rattle.disk_trait.specs.Disk.{Passes, MarksSync, WritesNothing, WritesWithin, ChangesNothing, KeepsImages, LeavesAnyBytes, Only, IsSure, part, overwritten};
+ghost use Rattle.std.specs.Prelude.{◌≡◌, ◌<◌, ◌≤◌, ◌+◌, ◌-◌, IsErr, IsOk, OnOk, OnErr, IfOk, refl, [], length, vec_capacity};
+ghost use Rattle.refusal.specs.Count.{next_count};
+ghost use Rattle.disk_trait.specs.Calls.{TellsLength, ReadsPart, WritesPart, Settles};
+ghost use Rattle.disk_trait.specs.Disk.{overwritten};
 ghost use Rattle.disk_mem.specs.Faultless.{faultless_state, faultless_timed, faultless_as_read, called, FailsToWrite};
 
 use crate::bytes::overwrite;
@@ -58,15 +59,7 @@ impl Disk for FaultlessDisk {
     ghost images_tell = { λ d tells. refl };
 
     fn len(&mut self) -> Result<u64, Failed>
-        ensures passes { Passes (faultless_state self.old) (faultless_state self.new) }
-        ensures no_sync { MarksSync ⊥ (faultless_state self.old) (faultless_state self.new) }
-        ensures same { WritesNothing (faultless_state self.old) (faultless_state self.new) }
-        ensures images { KeepsImages (faultless_state self.old) (faultless_state self.new) }
-        ensures sure { IsSure 0 (faultless_state self.old) (faultless_state self.new) }
-        ensures length { IfOk result (λ n. IsTrue (faultless_state self.old).tells_bytes → n ≡ length (faultless_state self.new).bytes) }
-        ensures stands { OnOk result ((faultless_state self.new).faults ≡ (faultless_state self.old).faults) }
-        ensures failed { IsErr result → HasRisen (faultless_state self.old).faults (faultless_state self.new).faults }
-
+        ensures call { TellsLength result (faultless_state self.old) (faultless_state self.new) }
         // It never fails.
         ensures ends_well { IsOk result }
         ensures called { self.new ≡ called self.old }
@@ -76,18 +69,7 @@ impl Disk for FaultlessDisk {
     }
 
     fn read(&mut self, at: u64, into: &mut [u8]) -> Result<(), Failed>
-        ensures passes { Passes (faultless_state self.old) (faultless_state self.new) }
-        ensures no_sync { MarksSync ⊥ (faultless_state self.old) (faultless_state self.new) }
-        ensures same { WritesNothing (faultless_state self.old) (faultless_state self.new) }
-        ensures images { KeepsImages (faultless_state self.old) (faultless_state self.new) }
-        ensures sure { IsSure (at + length into.old) (faultless_state self.old) (faultless_state self.new) }
-        ensures bytes { OnOk result (IsTrue (faultless_state self.old).tells_bytes → into.new ≡ part (faultless_state self.new).bytes at (length into.old)) }
-        ensures past_end { IsTrue (faultless_state self.old).tells_bytes → length (faultless_state self.old).bytes < at + length into.old
-            → IsErr result × ((faultless_state self.new).faults ≡ (faultless_state self.old).faults) }
-        ensures stands { OnOk result ((faultless_state self.new).faults ≡ (faultless_state self.old).faults) }
-        ensures failed { IsErr result → HasRisen (faultless_state self.old).faults (faultless_state self.new).faults
-            ⊎ (IsTrue (faultless_state self.old).tells_bytes × (length (faultless_state self.old).bytes < at + length into.old)) }
-
+        ensures call { ReadsPart result at into.old into.new (faultless_state self.old) (faultless_state self.new) }
         // It fails only where the range ends past the bytes.
         ensures cause { IsErr result → length self.old.bytes < at + length into.old }
         ensures called { self.new ≡ called self.old }
@@ -102,26 +84,7 @@ impl Disk for FaultlessDisk {
     }
 
     fn write(&mut self, at: u64, from: &[u8]) -> Result<(), Failed>
-        ensures passes { Passes (faultless_state self.old) (faultless_state self.new) }
-        ensures no_sync { MarksSync ⊥ (faultless_state self.old) (faultless_state self.new) }
-        ensures within { WritesWithin at (length from.now) (faultless_state self.old) (faultless_state self.new) }
-        ensures sure { IsSure (at + length from.now) (faultless_state self.old) (faultless_state self.new) }
-        ensures bytes { OnOk result (IsTrue (faultless_state self.old).is_honest
-            → (faultless_state self.new).bytes ≡ overwritten (faultless_state self.old).bytes at from.now) }
-        ensures length { OnOk result (IsTrue (faultless_state self.old).tells_bytes
-            → length (faultless_state self.new).bytes ≡ max (length (faultless_state self.old).bytes) (at + length from.now)) }
-        ensures any_bytes { IsTrue (faultless_state self.new).is_noted → at ≤ length (faultless_state self.old).bytes
-            → LeavesAnyBytes at (length from.now) (faultless_state self.old) (faultless_state self.new) }
-        ensures noted { OnOk result (IsTrue (faultless_state self.new).is_noted) }
-        ensures unnoted { (faultless_state self.new).is_noted ≡ false → ChangesNothing (faultless_state self.old) (faultless_state self.new) }
-        ensures past_end { IsTrue (faultless_state self.old).tells_bytes → length (faultless_state self.old).bytes < at
-            → IsErr result × ((faultless_state self.new).faults ≡ (faultless_state self.old).faults) }
-        ensures untouched { IsTrue (faultless_state self.old).tells_bytes → length (faultless_state self.old).bytes < at
-            → ChangesNothing (faultless_state self.old) (faultless_state self.new) }
-        ensures stands { OnOk result ((faultless_state self.new).faults ≡ (faultless_state self.old).faults) }
-        ensures failed { IsErr result → HasRisen (faultless_state self.old).faults (faultless_state self.new).faults
-            ⊎ (IsTrue (faultless_state self.old).tells_bytes × (length (faultless_state self.old).bytes < at)) }
-
+        ensures call { WritesPart result at from.now (faultless_state self.old) (faultless_state self.new) }
         // It fails exactly where it begins past the bytes or ends past the limit, and writes nothing then.
         ensures cause { IsErr result → FailsToWrite at (length from.now) self.old }
         ensures fails { FailsToWrite at (length from.now) self.old → IsErr result }
@@ -142,15 +105,7 @@ impl Disk for FaultlessDisk {
     }
 
     fn sync(&mut self) -> Result<(), Failed>
-        ensures passes { Passes (faultless_state self.old) (faultless_state self.new) }
-        ensures marks { MarksSync (IsOk result) (faultless_state self.old) (faultless_state self.new) }
-        ensures same { WritesNothing (faultless_state self.old) (faultless_state self.new) }
-        ensures sure { IsSure 0 (faultless_state self.old) (faultless_state self.new) }
-        ensures durable { OnOk result (IsTrue (faultless_state self.old).is_honest → Only (faultless_state self.new).bytes (faultless_state self.new).images) }
-        ensures unsettled { OnErr result (KeepsImages (faultless_state self.old) (faultless_state self.new)) }
-        ensures stands { OnOk result ((faultless_state self.new).faults ≡ (faultless_state self.old).faults) }
-        ensures failed { IsErr result → HasRisen (faultless_state self.old).faults (faultless_state self.new).faults }
-
+        ensures call { Settles result (faultless_state self.old) (faultless_state self.new) }
         // It never fails.
         ensures ends_well { IsOk result }
         ensures called { self.new ≡ called self.old }

@@ -1,7 +1,8 @@
 // A shelf of disks in memory.
-ghost use Rattle.std.specs.Prelude.{◌≡◌, ◌≤◌, ◌<◌, ◌+◌, ◌-◌, ◌^◌, min, Some, None, List, false, [], ◌∷◌, ◌++◌, length, IsTrue, IsErr, IfOk, OnOk, OnErr};
-ghost use Rattle.refusal.specs.Count.{next_count, HasRisen};
-ghost use Rattle.disk_trait.specs.Shelf.{TakesOut, PutsBack, KeepsDisks, KeepsTold, NotesFetch};
+ghost use Rattle.std.specs.Prelude.{◌≡◌, ◌<◌, ◌+◌, ◌-◌, ◌^◌, Some, None, [], ◌∷◌, ◌++◌, length, IsErr, IfOk, OnOk, OnErr};
+ghost use Rattle.refusal.specs.Count.{next_count};
+ghost use Rattle.disk_trait.specs.Calls.{Fetches, GivesBack};
+ghost use Rattle.disk_trait.specs.Shelf.{PutsBack};
 ghost use Rattle.disk_mem.specs.Recorded.{Recorded, told};
 ghost use Rattle.disk_mem.specs.Places.{disk_under, out_is_gone};
 ghost use Rattle.disk_mem.specs.Shelved.{shelf_state, new_shelf, FailsToFetch};
@@ -61,25 +62,13 @@ impl Shelf for MemShelf {
     ghost out_is_gone = { λ s name tells out. out_is_gone s.names s.disks name out };
 
     fn fetch(&mut self, name: &str, fresh: bool) -> Result<MemDisk, Failed>
-        ensures count { IfOk result (λ disk. (told disk).faults ≡ 0) }
-        ensures taken { IfOk result (λ disk. IsTrue (shelf_state self.old).tells_disks
-            → TakesOut told name.now (shelf_state self.old) (shelf_state self.new) disk) }
-        ensures err { OnErr result (IsTrue (shelf_state self.old).tells_disks → KeepsDisks (shelf_state self.old) (shelf_state self.new)) }
-        ensures noted { IsTrue (shelf_state self.old).tells_fetches → length (shelf_state self.old).fetches < 2 ^ 64 - 1
-            → NotesFetch name.now fresh result (shelf_state self.old).fetches (shelf_state self.new).fetches }
-        ensures told { KeepsTold (shelf_state self.old) (shelf_state self.new) }
-        ensures no_fall { (shelf_state self.old).faults ≤ (shelf_state self.new).faults }
-        ensures stands { OnOk result ((shelf_state self.new).faults ≡ (shelf_state self.old).faults) }
-        ensures failed { IsErr result → HasRisen (shelf_state self.old).faults (shelf_state self.new).faults }
-        ensures one_fault { (shelf_state self.new).faults ≤ (shelf_state self.old).faults + 1 }
-
+        ensures call { Fetches told name.now fresh result (shelf_state self.old) (shelf_state self.new) }
         // It fails exactly where no disk stands under the name, and past the room for fetches. Such a fetch is noted without its name.
         ensures cause { OnErr result (FailsToFetch name.now self.old) }
         ensures fails { FailsToFetch name.now self.old → IsErr result }
         ensures unnamed { OnErr result (length (shelf_state self.old).fetches < 2 ^ 64 - 1
             → (shelf_state self.new).fetches ≡ (shelf_state self.old).fetches ++ None ∷ []) }
         ensures counted { OnErr result (self.new.faults ≡ next_count self.old.faults) }
-
         // The disk is the one that stood there, with its count at 0.
         ensures given { IfOk result (λ disk. (before : Recorded) × (disk_under self.old.names self.old.disks name.now ≡ Some before)
             × (disk ≡ record before { faults = 0 })) }
@@ -89,13 +78,7 @@ impl Shelf for MemShelf {
     }
 
     fn give_back(&mut self, name: &str, disk: MemDisk)
-        ensures put { IsTrue (shelf_state self.old).tells_disks → IsTrue ((shelf_state self.old).is_out name.now)
-            → PutsBack name.now (shelf_state self.old) (shelf_state self.new) disk }
-        ensures not_out { IsTrue (shelf_state self.old).tells_disks → (shelf_state self.old).is_out name.now ≡ false
-            → KeepsDisks (shelf_state self.old) (shelf_state self.new) }
-        ensures noted { (shelf_state self.new).fetches ≡ (shelf_state self.old).fetches }
-        ensures told { KeepsTold (shelf_state self.old) (shelf_state self.new) }
-        ensures faults { (shelf_state self.new).faults ≡ min ((shelf_state self.old).faults + (told disk).faults) (2 ^ 64 - 1) }
+        ensures call { GivesBack told name.now disk (shelf_state self.old) (shelf_state self.new) }
         ensures room { self.new.room ≡ self.old.room }
     {
         self.stock.give_back(name, disk);

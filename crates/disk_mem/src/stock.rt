@@ -1,7 +1,8 @@
 // The parts of a shelf in memory: names, their disks, and the fetches that are noted.
 ghost use Rattle.std.specs.Prelude.{◌≡◌, ◌⊎◌, ◌≢◌, ◌<◌, ◌≤◌, ◌+◌, ◌-◌, ◌^◌, min, ℕ, Some, None, List, IfSome, IfNone, IfOk, OnOk, OnErr, IsTrue, IsErr, false, [], ◌∷◌, ◌++◌, map, length, vec_len, vec_capacity, slice_index_or, slice_set, IsSome, is_some, string_bytes};
 ghost use Rattle.refusal.specs.Count.{next_count, HasRisen};
-ghost use Rattle.disk_trait.specs.Shelf.{TakesOut, PutsBack, KeepsDisks, NotesFetch};
+ghost use Rattle.disk_trait.specs.Calls.{Fetches, GivesBack};
+ghost use Rattle.disk_trait.specs.Shelf.{PutsBack, KeepsDisks};
 ghost use Rattle.disk_mem.specs.Recorded.{Recorded, told};
 ghost use Rattle.disk_mem.specs.Places.{IsPlace, HasNoPlace, AllPlaced, all_placed_prop, disk_under};
 
@@ -102,13 +103,21 @@ impl Stock {
         ensures faults { self.new.faults ≡ self.old.faults }
         ensures err { OnErr result (shelved self.new ≡ shelved self.old) }
     {
-        if let Some(i) = place_of(&self.names, name) {
+        if let Some(i) = self.place(name) {
             self.disks[i] = Some(disk);
             return Ok(());
         }
         let owned = String::from_str(alloc, name)?;
         add(&mut self.names, &mut self.disks, owned, disk)?;
         Ok(())
+    }
+
+    // Where the name and its disk stand.
+    fn place(&self, name: &str) -> Option<usize>
+        ensures place { IfSome result (λ i. IsPlace name.now (shelved self.now).names i × (i < length self.now.disks.items)) }
+        ensures none { IfNone result (HasNoPlace name.now (shelved self.now).names) }
+    {
+        place_of(&self.names, name)
     }
 
     // Whether there is room to note one fetch more.
@@ -150,22 +159,17 @@ impl Stock {
     }
 
     pub(crate) fn fetch(&mut self, name: &str, fresh: bool) -> Result<MemDisk, Failed>
-        ensures taken { IfOk result (λ disk. TakesOut told name.now (shelf_state (shelved self.old)) (shelf_state (shelved self.new)) disk) }
+        ensures call { Fetches told name.now fresh result (shelf_state (shelved self.old)) (shelf_state (shelved self.new)) }
         ensures given { IfOk result (λ disk. (before : Recorded) × (disk_under (shelved self.old).names (shelved self.old).disks name.now ≡ Some before)
             × (disk ≡ record before { faults = 0 })) }
-        ensures err { OnErr result (KeepsDisks (shelf_state (shelved self.old)) (shelf_state (shelved self.new))) }
-        ensures noted { OnOk result ((shelf_state (shelved self.new)).fetches ≡ (shelf_state (shelved self.old)).fetches ++ Some (name.now, fresh) ∷ []) }
         ensures unnamed { OnErr result (length (shelf_state (shelved self.old)).fetches < 2 ^ 64 - 1
             → (shelf_state (shelved self.new)).fetches ≡ (shelf_state (shelved self.old)).fetches ++ None ∷ []) }
-        ensures stands { OnOk result (self.new.faults ≡ self.old.faults) }
         ensures failed { OnErr result (self.new.faults ≡ next_count self.old.faults) }
-        ensures no_fall { self.old.faults ≤ self.new.faults }
-        ensures one_fault { self.new.faults ≤ self.old.faults + 1 }
         ensures room { self.new.room ≡ self.old.room }
         ensures cause { OnErr result (FailsToFetch name.now (shelved self.old)) }
         ensures fails { FailsToFetch name.now (shelved self.old) → IsErr result }
     {
-        let Some(i) = place_of(&self.names, name) else {
+        let Some(i) = self.place(name) else {
             return Err(self.refuse());
         };
         if self.disks[i].is_none() {
@@ -180,16 +184,11 @@ impl Stock {
     }
 
     pub(crate) fn give_back(&mut self, name: &str, disk: MemDisk)
-        ensures put { IsTrue ((shelf_state (shelved self.old)).is_out name.now)
-            → PutsBack name.now (shelf_state (shelved self.old)) (shelf_state (shelved self.new)) disk }
-        ensures not_out { (shelf_state (shelved self.old)).is_out name.now ≡ false
-            → KeepsDisks (shelf_state (shelved self.old)) (shelf_state (shelved self.new)) }
-        ensures noted { (shelf_state (shelved self.new)).fetches ≡ (shelf_state (shelved self.old)).fetches }
+        ensures call { GivesBack told name.now disk (shelf_state (shelved self.old)) (shelf_state (shelved self.new)) }
         ensures room { self.new.room ≡ self.old.room }
-        ensures faults { self.new.faults ≡ min (self.old.faults + disk.faults) (2 ^ 64 - 1) }
     {
         self.faults = self.faults.saturating_add(disk.faults());
-        let Some(place) = place_of(&self.names, name) else {
+        let Some(place) = self.place(name) else {
             return;
         };
         if self.disks[place].is_some() {

@@ -115,6 +115,7 @@ impl Lanes {
     ///
     /// Once it is acknowledged each crash leaves the entry; a crash at any moment of the call leaves the lane with it or without.
     /// After an `Err`, whose cause is a fault of the disk, nobody knows which, and the disk is to be opened again.
+    /// A clause each for the lane's places, for what each crash leaves, for the calls and the faults.
     pub fn append<D: Disk>(
         &mut self,
         disk: &mut D,

@@ -20,10 +20,10 @@ use Rattle.record_delta.specs.Folding.{fold, over}
 use Rattle.record_delta.proofs.FoldingLemmas.{fold_lighter, stands_rec}
 use Rattle.record_delta.specs.Entries.{Entries, AreSorted, record_of_key, entries_weight, with_record}
 use Rattle.mem_table.specs.Entries.{StandFor}
-use Rattle.mem_table.specs.Places.{IsAt, IsGapFor}
 use Rattle.mem_table.specs.Tables.{IsTable}
 use Rattle.mem_table.proofs.SortedLemmas.{test_holds, put_at, put_apart}
 use Rattle.mem_table.proofs.PlaceLemmas.{sorted_test, tied, present_at, absent_at, parts_of_gap, place_of}
+use Rattle.mem_table.proofs.Terms.{IsAt, IsGapFor}
 
 -- ---- the entries after it
 

@@ -1,3 +1,4 @@
+pub mod Terms
 pub mod SortedLemmas
 pub mod PlaceLemmas
 pub mod EditLemmas

@@ -13,9 +13,10 @@ use Rattle.blsm_model.specs.declared.key.Key.{Key}
 use Rattle.blsm_model.specs.Keys.{key_cmp}
 use Rattle.record_delta.specs.declared.record.Rec.{Rec}
 use Rattle.record_delta.specs.Entries.{Entries, AreSorted, is_above, above, first_of}
-use Rattle.mem_table.specs.Places.{IsAt, IsGapFor, IsSplit}
+use Rattle.mem_table.specs.Places.{IsSplit}
 use Rattle.mem_table.proofs.SortedLemmas.{turned, rising}
 use Rattle.mem_table.proofs.PlaceLemmas.{sorted_test}
+use Rattle.mem_table.proofs.Terms.{IsAt, IsGapFor}
 
 -- the tests that the comparisons give
 not_above_if_less : (low key : Key) → key_cmp key low ≡ Less → is_lt (key_cmp low key) ≡ false

@@ -13,8 +13,8 @@ use Rattle.blsm_model.specs.declared.key.Key.{Key}
 use Rattle.blsm_model.specs.Keys.{key_cmp}
 use Rattle.record_delta.specs.declared.record.Rec.{Rec}
 use Rattle.record_delta.specs.Entries.{Entries, AreSorted, record_of_key}
-use Rattle.mem_table.specs.Places.{IsAt, IsGapFor}
 use Rattle.mem_table.proofs.SortedLemmas.{both_hold, turned, rising, find_at, Parts, find_apart}
+use Rattle.mem_table.proofs.Terms.{IsAt, IsGapFor}
 
 pub sorted_test : (es : Entries) → AreSorted es → T (is_sorted key_cmp es)
 sorted_test es sorted = subst T (sym sorted) tt

@@ -21,12 +21,12 @@ use Rattle.record_delta.specs.Entries.{Entries, record_of_key, entries_weight, w
 use Rattle.mem_table.specs.declared.nodes.Node.{Node}
 use Rattle.mem_table.specs.Shapes.{Tree, Leaf, Fork, height, places, IsBalanced, times, no_node, node_at, height_of, Holds, tree_at}
 use Rattle.mem_table.specs.Ways.{entry_at, entries_at, tree_entries, IsTree, IsPlaced, AreWithout, place_above, or_else, IsNew, IsAdded}
-use Rattle.mem_table.specs.Places.{IsAt, IsGapFor}
 use Rattle.mem_table.specs.Tables.{IsTable, IsArena, place_in, arrived_with, keys_of}
 use Rattle.mem_table.proofs.PlaceLemmas.{sorted_test, tied, present_at, place_of}
 use Rattle.mem_table.proofs.EditLemmas.{with_record_at, total_apart, least_total, table_at, table_apart, place_left}
 use Rattle.mem_table.proofs.StepLemmas.{few}
 use Rattle.mem_table.proofs.NodeLemmas.{times_fork, one_if_same, none_if_differs, stored, read, stays}
+use Rattle.mem_table.proofs.Terms.{IsAt, IsGapFor}
 
 -- ---- places in a list
 

@@ -124,6 +124,7 @@ impl Table {
 
     /// Folds a record over the one of its key, or adds it where the key is new. All other keys keep their records. The
     /// table may then weigh at most what was reserved. It takes no memory.
+    /// A clause each for the entries as a list, by key, by weight, and as they stand in their places.
     pub fn fold_in(&mut self, key: &Key, rec: &Rec)
         requires { entries_weight (with_record key.now rec.now self.old.entries) ≤ self.old.reserved }
         ensures entries { self.new.entries ≡ with_record key.now rec.now self.old.entries }

@@ -7,7 +7,6 @@ use Rattle.blsm_model.specs.declared.op.Op.TheVariants.{Put}
 use Rattle.pacing.specs.Pace.{Pace, opened as pace_opened}
 use Rattle.pacing.specs.Laws.{IsOpening}
 use Rattle.pacing.specs.Steps.{Admit, after}
-use Rattle.pacing.specs.Fronts.{no_fronts, fronts_after}
 use Rattle.blsm_model.specs.declared.key.Key.{Key}
 use Rattle.record_delta.specs.declared.record.Rec.TheVariants.{Base, Tomb}
 use Rattle.record_delta.specs.Entries.{Entries, entries_weight, replayed}
@@ -16,6 +15,7 @@ use Rattle.tree_machine.specs.declared.step.Step.{Step}
 use Rattle.tree_machine.specs.Machine.{Machine, opened}
 use Rattle.tree_machine.specs.Steps.{Outcome, Well}
 use Rattle.paced_tree.specs.Kept.{paced_all}
+use Rattle.pacing.proofs.Terms.{no_fronts, fronts_after}
 
 abbrev fresh : Machine
 fresh = opened default_sizes [] [] (record { version = 1; lane_a = 0; lane_b = 1; lane_spare = 2 }) 0 (record { entries = replicate 16 1000; rows = replicate 16 1000 })

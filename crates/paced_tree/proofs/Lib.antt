@@ -1,3 +1,4 @@
+pub mod Terms
 pub mod Books
 pub mod Quanta
 pub mod Moves

@@ -204,6 +204,8 @@ made_of opening m l seat kind.WorkerTurn outcome stands way g ok fits = by m.sto
         turn_made m l seat true outcome stands.sound g (a_worker seat worker) (no_desk m l seat g.paced worker)
 made_of opening m l seat k outcome stands way g ok fits = refl
 
+-- What it makes of the numbers is told by its answer: one admission, payment or turn of the pacing, nothing, or where it failed as much of
+-- that as was done.
 pub step_made : (opening : List (Key × Value)) (m : Machine) (p : Pace) (seat : ℕ) (k : Kind) (outcome : Outcome) → Stands opening m → HasWay m → Goes m p → may m seat k ≡ true → WritesFit k
     → IsMadeBy seat k (stepped_as m seat k outcome).answer p (pace_after m p seat k outcome)
 step_made opening m p seat k outcome stands way g ok fits =

@@ -34,7 +34,6 @@ use Rattle.paced_tree.specs.After.{pace_after}
 use Rattle.blsm_model.specs.Book.{Book}
 use Rattle.blsm_model.specs.Histories.{writes_of}
 use Rattle.blsm_model.specs.Legal.{total_weight, is_del}
-use Rattle.paced_tree.specs.Calls.{IsCall, IsRight}
 use Rattle.paced_tree.specs.Kept.{AreComponents, IsPacedTree, paced_one, paced_all, AllFit}
 use Rattle.paced_tree.specs.Bounds.{IsBounded, KeepsPace, PassKeepsUp, NoPassRuns, DeepKeepsUp, quanta_owed_by}
 use Rattle.paced_tree.proofs.Moves.{of_pace, over_test, pass_test, deep_test}
@@ -53,6 +52,7 @@ use Rattle.paced_tree.proofs.Steps.{step_goes}
 use Rattle.paced_tree.proofs.Counted.{step_counts, step_few}
 use Rattle.pacing.proofs.Counts.{opened_counted, counted_few}
 use Rattle.pacing.specs.Counts.{AreFew}
+use Rattle.paced_tree.proofs.Terms.{IsCall, IsRight}
 
 -- ---- the way of the deep merge
 
@@ -87,6 +87,7 @@ made_spends seat kind.WorkerTurn (steps.Turn Worked) old new paced s made = subs
 made_spends seat kind.WorkerTurn answer old new paced s made = subst IsSpent (sym made) s
 made_spends seat k answer old new paced s made = subst IsSpent (sym made) s
 
+-- each step that may be made keeps it so, whatever its outcome
 pub step_is_paced : (opening : List (Key × Value)) (m : Machine) (p : Pace) (step : Step) (outcome : Outcome) → IsPacedTree opening m p → may_step m step ≡ true → WritesFit step.kind
     → IsPacedTree opening (stepped m step outcome).state (pace_after m p step.seat step.kind outcome)
 step_is_paced opening m p step outcome t ok fits =
@@ -122,6 +123,7 @@ book_of room = record { entries = []; quanta = []; room = room }
 pub opened_booked : (sizes : Sizes) (room : Room) → IsBooked sizes (book_of room) fresh_seats.quanta fresh_seats.work 0 0 0 (replicate callers 0) (replicate callers 0)
 opened_booked sizes room = grind (arith, common_steps, nat_tests)
 
+-- a store that was opened is paced
 pub opened_is_paced : (sizes : Sizes) (c1 c2 : Entries) (catalogue : Catalogue) (faults : ℕ) (room : Room) → AreComponents sizes c1 c2
     → IsPacedTree (map_in (record { b = []; a = []; c1 = c1; c1x = []; c2 = c2 })) (opened sizes c1 c2 catalogue faults room) (pace_opened sizes (entries_weight c1) (entries_weight c2))
 opened_is_paced sizes c1 c2 catalogue faults room are = record {

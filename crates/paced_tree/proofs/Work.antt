@@ -23,21 +23,21 @@ use Rattle.tree_machine.specs.Machine.{Machine, Catalogue, opened, seats}
 use Rattle.tree_machine.specs.Moves.{pass_quantum, deep_quantum, pass_quantum_of, deep_quantum_of}
 use Rattle.tree_machine.specs.Steps.{Outcome}
 use Rattle.tree_machine.specs.Plays.{may, may_step, stepped, stepped_as, played, played_one}
-use Rattle.tree_machine.specs.Effects.{MergeStands, Rests, TakesQuantum, passed_by, work_between}
+use Rattle.tree_machine.specs.Effects.{passed_by, work_between}
 use Rattle.tree_machine.specs.declared.step.Step.{Step}
 use Rattle.tree_machine.specs.declared.step.Kind.{Kind}
 use Rattle.tree_machine.proofs.CarryLemmas.{behind_none}
 use Rattle.tree_machine.proofs.EffectLemmas.{step_works}
-use Rattle.tree_machine.specs.Laws.{IsVersion}
 use Rattle.tree_machine.proofs.CommitLemmas.{step_commits}
 use Rattle.tree_machine.proofs.GrowLemmas.{step_room}
 use Rattle.tree_machine.proofs.FrameLemmas.{step_fixed}
 use Rattle.tree_machine.proofs.QuantumLemmas.{quantum_weighs, quantum_few}
 use Rattle.tree_machine.proofs.LightLemmas.{light_weighs}
 use Rattle.paced_tree.specs.Kept.{AreComponents, IsPacedTree, paced_one, paced_all, AllFit}
-use Rattle.paced_tree.specs.Laws.{work_in, RunCommits, RunIsSmall}
+use Rattle.paced_tree.specs.Laws.{work_in, AreSmall}
 use Rattle.paced_tree.proofs.Moves.{of_pace}
 use Rattle.paced_tree.proofs.Promises.{has_way, opened_is_paced, one_is_paced, steps_are_paced, is_bounded}
+use Rattle.tree_machine.proofs.Terms.{MergeStands, Rests, TakesQuantum, IsVersion}
 
 -- ---- one merge
 
@@ -154,7 +154,8 @@ all_commit first opening m p (made ∷ steps) t fits v = all_commit first openin
     by true = step_commits first m made.0.seat made.0.kind made.1 t.stands.sound v
     by false = v
 
-pub run_commits : RunCommits
+pub run_commits : (sizes : Sizes) (c1 c2 : Entries) (catalogue : Catalogue) (faults : ℕ) (room : Room) (steps : List (Step × Outcome)) → AreComponents sizes c1 c2 → AllFit steps
+    → (played (opened sizes c1 c2 catalogue faults room) steps).catalogue.version ≤ catalogue.version + 3 * length (counted_writes (played (opened sizes c1 c2 catalogue faults room) steps).book.entries) + 5
 run_commits sizes c1 c2 catalogue faults room steps are fits =
     let m = opened sizes c1 c2 catalogue faults room in
     let p = pace_opened sizes (entries_weight c1) (entries_weight c2) in
@@ -182,7 +183,8 @@ all_room m (made ∷ steps) = all_room (played_one m made) steps ∙ one_room m 
 capacity_small : (sizes : Sizes) → IsGeometry sizes → capacity sizes ≤ 2 ^ 33
 capacity_small sizes fits = let few = small sizes.ratio (omega (arith, fits.ratio)) (omega (arith, fits.ratio)) sizes.half (omega (arith, fits.half)) in omega (arith, few)
 
-pub run_small : RunIsSmall
+pub run_small : (sizes : Sizes) (c1 c2 : Entries) (catalogue : Catalogue) (faults : ℕ) (room : Room) (steps : List (Step × Outcome)) → AreComponents sizes c1 c2 → AllFit steps
+    → sum room.entries ≤ most_entries → catalogue.version ≤ 2 ^ 62 + 5 → AreSmall (played (opened sizes c1 c2 catalogue faults room) steps)
 run_small sizes c1 c2 catalogue faults room steps are fits few low =
     let m = opened sizes c1 c2 catalogue faults room in
     let p = pace_opened sizes (entries_weight c1) (entries_weight c2) in

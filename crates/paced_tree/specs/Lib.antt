@@ -4,6 +4,5 @@ pub mod Made
 pub mod Kept
 pub mod Bounds
 pub mod Laws
-pub mod Calls
 pub mod Booking
 pub mod Lanes

@@ -9,12 +9,14 @@ use Rattle.gear_sched.specs.declared.Plan.{Plan}
 use Rattle.pacing.specs.Pace.{Pace, Quantum, opened, pass_done, deep_done, with_deep_swapped, with_pass_swapped, with_rotation, with_swap_and_rotation, with_pass, with_write, with_snow, with_deep, with_forgiven}
 use Rattle.pacing.specs.Kept.{IsPaced}
 use Rattle.gear_sched.specs.Gears.{deep_is_behind}
-use Rattle.pacing.specs.Steps.{Event, Admit, Pay, Turn, MayAll, after, after_all, Lands, Move, SwapDeep, SwapPass, TakeDeep, TakeSnow, Begin, Rotate, Idle, turn_of, turn_at_rest, turned_by, may_begin, paid_by, plan_of, is_worker_seat, deep_settled, pass_settled, ready_for}
-use Rattle.pacing.specs.Counts.{IsCounted, AreFew, CountedAreFew, MovesAreFew, StepCounts, RunCounts, FewCommits}
+use Rattle.pacing.specs.Steps.{Event, Admit, Pay, Turn, MayAll, after, after_all, Lands, Move, SwapDeep, SwapPass, TakeDeep, TakeSnow, Begin, Rotate, Idle, turn_of, turn_at_rest, turned_by, may_begin, paid_by, plan_of, is_worker_seat, deep_settled, pass_settled, ready_for, May}
+use Rattle.pacing.specs.Counts.{IsCounted, AreFew}
 use Rattle.pacing.proofs.InTime.{makes_way}
 use Rattle.pacing.proofs.Admissions.{deep_settled_kept, pass_settled_kept}
 use Rattle.pacing.proofs.Turns.{deep_left, no_deep_left}
 use Rattle.pacing.proofs.Runs.{step_keeps, opened_paced}
+use Rattle.pacing.specs.Laws.{IsOpening}
+use Rattle.std.specs.Prelude.{◌*◌}
 
 deep_swap : (p : Pace) → IsCounted p → p.gears.deep ≡ true → IsCounted (with_deep_swapped p)
 deep_swap p h1 h2 = grind (arith, common_steps, nat_tests)
@@ -102,7 +104,7 @@ turn p is_worker seat quantum k c =
     (λ e. same_count p (with_snow p seat quantum) c refl refl refl refl refl refl refl refl refl refl)
     (λ e. turn_rests p is_worker seat quantum k c e (no_deep_left p.gears.deep p.gears.pass (deep_is_behind p.gears) none e)))))
 
-pub step_counts : StepCounts
+pub step_counts : (pace : Pace) (event : Event) → IsPaced pace → IsCounted pace → May pace event → IsCounted (after pace event)
 step_counts pace (Admit seat w is_del ahead weight_after) k c may = admit pace seat w ahead weight_after k c may.lands
 step_counts pace (Pay seat quantum) k c may = pay (plan_of (with_forgiven pace seat) seat) pace seat quantum c
 step_counts pace (Turn seat quantum) k c may = turn pace (is_worker_seat seat) seat quantum k c
@@ -114,10 +116,10 @@ all_count pace (event ∷ events) k c may = all_count (after pace event) events 
 pub opened_counted : (sizes : Sizes) (c1 c2 : ℕ) → IsCounted (opened sizes c1 c2)
 opened_counted sizes c1 c2 = grind (arith, common_steps, nat_tests)
 
-pub run_counts : RunCounts
+pub run_counts : (sizes : Sizes) (c1 c2 : ℕ) (events : List Event) → IsOpening sizes c1 c2 → MayAll (opened sizes c1 c2) events → IsCounted (after_all (opened sizes c1 c2) events)
 run_counts sizes c1 c2 events opening may = all_count (opened sizes c1 c2) events (opened_paced sizes c1 c2 opening) (opened_counted sizes c1 c2) may
 
-pub few_commits : FewCommits
+pub few_commits : (pace : Pace) → IsCounted pace → pace.passes + pace.deeps + pace.rotations ≤ 3 * pace.writes + 2
 few_commits = grind (arith, common_steps, nat_tests)
 
 pub merged : (p : Pace) → AreFew p → p.deeps ≤ p.rotations
@@ -126,13 +128,13 @@ merged p few = elim (cases_Bool p.gears.deep) [ inl e ↦ let h = few.merging e 
 pub passed : (p : Pace) → AreFew p → p.passes ≤ p.begun
 passed p few = elim (cases_Bool p.gears.pass) [ inl e ↦ let h = few.running e in omega arith | inr e ↦ let h = few.resting e in omega arith ]
 
-pub counted_few : CountedAreFew
+pub counted_few : (pace : Pace) → IsCounted pace → AreFew pace
 counted_few = grind (arith, common_steps, nat_tests)
 
 ready_few : (p : Pace) → IsReadyCount p → AreFew p
 ready_few p c = record { begins = begins_after p c; running = c.running; resting = c.resting; turns = c.turns; merging = c.merging; unmerged = c.unmerged }
 
-pub moves_few : MovesAreFew
+pub moves_few : (pace : Pace) (w : ℕ) → IsPaced pace → IsCounted pace → AreFew (deep_settled pace) × AreFew (ready_for pace w)
 moves_few p w k c =
     let one = deep_settled_kept p k in
     let two = pass_settled_kept p k in

@@ -5,12 +5,15 @@ use Rattle.std.proofs.lemmas.Bool.Decides.{nat_tests}
 use Rattle.std.proofs.lemmas.Bool.{cond_both, and_parts, eqb-true}
 use Rattle.gear_sched.specs.Gears.{deep_is_behind}
 use Rattle.gear_sched.specs.declared.Plan.{Plan}
-use Rattle.pacing.specs.Pace.{Pace, Quantum, pass_done, deep_done, with_deep_swapped, with_pass_swapped, with_rotation, with_swap_and_rotation, with_pass, with_write, with_forgiven}
+use Rattle.pacing.specs.Pace.{Pace, Quantum, pass_done, deep_done, with_deep_swapped, with_pass_swapped, with_rotation, with_swap_and_rotation, with_pass, with_write, with_forgiven, opened}
 use Rattle.pacing.specs.Kept.{IsPaced}
-use Rattle.pacing.specs.Steps.{Admit, Pay, Turn, Lands, Move, SwapDeep, SwapPass, TakeDeep, TakeSnow, turn_of, turn_at_rest, turned_by, paid_by, plan_of, is_worker_seat, deep_settled, pass_settled, ready_for}
-use Rattle.pacing.specs.Fronts.{Fronts, fronts_turned, fronts_written, fronts_ready, fronts_by, AreFronts, OpeningFronts, StepFronts, MovesFronts, FrontsFit}
+use Rattle.pacing.specs.Steps.{Admit, Pay, Turn, Lands, Move, SwapDeep, SwapPass, TakeDeep, TakeSnow, turn_of, turn_at_rest, turned_by, paid_by, plan_of, is_worker_seat, deep_settled, pass_settled, ready_for, Event, May, after}
+use Rattle.pacing.specs.Fronts.{Fronts, AreFronts, FitAtEach}
 use Rattle.pacing.proofs.Admissions.{deep_settled_kept}
 use Rattle.pacing.proofs.Runs.{step_keeps}
+use Rattle.blsm_model.specs.Sizes.{Sizes}
+use Rattle.pacing.specs.Laws.{IsOpening}
+use Rattle.pacing.proofs.Terms.{fronts_turned, fronts_written, fronts_ready, fronts_by, no_fronts, fronts_after}
 
 -- ---- moves
 
@@ -75,17 +78,18 @@ pay plan p seat quantum f h1 = grind (arith, common_steps, nat_tests)
 
 -- ---- steps
 
-pub opening_fronts : OpeningFronts
+pub opening_fronts : (sizes : Sizes) (c1 c2 : ℕ) → IsOpening sizes c1 c2 → AreFronts (opened sizes c1 c2) no_fronts
 opening_fronts sizes c1 c2 opening = record { table = omega arith; high = omega arith; full = omega (arith, opening.full); next = omega arith; behind = omega arith }
 
-pub moves_fronts : MovesFronts
+-- also where an admission stops between its moves
+pub moves_fronts : (pace : Pace) (w : ℕ) (fronts : Fronts) → IsPaced pace → AreFronts pace fronts → AreFronts (deep_settled pace) fronts × AreFronts (ready_for pace w) (fronts_ready pace fronts)
 moves_fronts pace w fronts k a = (settle_deep pace fronts k a, ready pace w fronts k a)
 
-pub step_fronts : StepFronts
+pub step_fronts : (pace : Pace) (event : Event) (fronts : Fronts) → IsPaced pace → AreFronts pace fronts → May pace event → AreFronts (after pace event) (fronts_after pace event fronts)
 step_fronts pace (Admit seat w is_del ahead weight_after) fronts k a may =
     write (ready_for pace w) seat w ahead weight_after (fronts_ready pace fronts) (ready pace w fronts k a) may.lands (step_keeps pace (Admit seat w is_del ahead weight_after) k may)
 step_fronts pace (Pay seat quantum) fronts k a may = pay (plan_of (with_forgiven pace seat) seat) pace seat quantum fronts a
 step_fronts pace (Turn seat quantum) fronts k a may = turn pace (is_worker_seat seat) seat quantum fronts k a
 
-pub fronts_fit : FrontsFit
+pub fronts_fit : (pace : Pace) (fronts : Fronts) → IsPaced pace → AreFronts pace fronts → FitAtEach pace fronts
 fronts_fit = grind (arith, common_steps, nat_tests)

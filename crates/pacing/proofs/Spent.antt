@@ -9,14 +9,15 @@ use Rattle.blsm_model.specs.Geometry.{c1_mark, capacity}
 use Rattle.gear_sched.specs.Gears.{first_debt, second_debt, deep_is_behind}
 use Rattle.gear_sched.specs.declared.Plan.{Plan}
 use Rattle.gear_sched.specs.declared.Plan.TheVariants.{Snow, Deep, Nothing}
-use Rattle.pacing.specs.Pace.{Pace, Quantum, pass_done, deep_done, pass_over, deep_over, with_deep_swapped, with_pass_swapped, with_rotation, with_swap_and_rotation, with_pass, with_snow, with_deep, with_forgiven, counted}
+use Rattle.pacing.specs.Pace.{Pace, Quantum, pass_done, deep_done, pass_over, deep_over, with_deep_swapped, with_pass_swapped, with_rotation, with_swap_and_rotation, with_pass, with_snow, with_deep, with_forgiven, counted, opened}
 use Rattle.pacing.specs.Kept.{IsPaced}
-use Rattle.pacing.specs.Steps.{Admit, Pay, Turn, FitsPlan, FitsMove, IsQuantum, Move, SwapDeep, SwapPass, TakeDeep, TakeSnow, turn_of, turn_at_rest, turned_by, paid_by, plan_of, is_worker_seat, deep_settled, pass_settled, ready_for}
-use Rattle.pacing.specs.Spent.{IsSpent, OpeningSpends, StepSpends, MovesSpend, QuantaAreFew}
+use Rattle.pacing.specs.Steps.{Admit, Pay, Turn, FitsPlan, FitsMove, IsQuantum, Move, SwapDeep, SwapPass, TakeDeep, TakeSnow, turn_of, turn_at_rest, turned_by, paid_by, plan_of, is_worker_seat, deep_settled, pass_settled, ready_for, Event, May, after}
+use Rattle.pacing.specs.Spent.{IsSpent}
 use Rattle.pacing.proofs.Counts.{way, passed}
 use Rattle.pacing.proofs.Admissions.{deep_settled_kept}
 use Rattle.pacing.proofs.Payments.{snow_owed, deep_owed, nothing_left}
 use Rattle.pacing.proofs.Turns.{deep_left, no_deep_left}
+use Rattle.pacing.specs.Counts.{AreFew}
 
 -- the inputs of a merge weigh at most the capacity
 pass_input : (p : Pace) → IsPaced p → p.gears.pass ≡ true → p.a + p.c1 ≤ capacity p.gears.sizes
@@ -133,18 +134,20 @@ abbrev one_of : Bool → ℕ
 one_of true = 1
 one_of false = 0
 
-pub opening_spends : OpeningSpends
+pub opening_spends : (sizes : Sizes) (c1 c2 : ℕ) → IsSpent (opened sizes c1 c2)
 opening_spends sizes c1 c2 = record { some = omega arith; inputs = omega arith; resting = λ e. refl; unmerged = λ e. refl }
 
-pub moves_spend : MovesSpend
+-- also where an admission stops between its moves
+pub moves_spend : (pace : Pace) (w : ℕ) → IsPaced pace → IsSpent pace → IsSpent (deep_settled pace) × IsSpent (ready_for pace w)
 moves_spend pace w k s = (settle_deep pace k s, ready pace w k s)
 
-pub step_spends : StepSpends
+pub step_spends : (pace : Pace) (event : Event) → IsPaced pace → IsSpent pace → May pace event → IsSpent (after pace event)
 step_spends pace (Admit seat w is_del ahead weight_after) k s may = let r = ready pace w k s in record { some = r.some; inputs = r.inputs; resting = r.resting; unmerged = r.unmerged }
 step_spends pace (Pay seat quantum) k s may = pay_as pace seat quantum (plan_of (with_forgiven pace seat) seat) refl k s may.caller may.fits
 step_spends pace (Turn seat quantum) k s may = turn pace (is_worker_seat seat) seat quantum k s may.fits
 
-pub quanta_are_few : QuantaAreFew
+-- so the quanta are at most so many times the capacity as merges can be begun for the writes
+pub quanta_are_few : (pace : Pace) → IsPaced pace → IsSpent pace → AreFew pace → pace.work ≤ capacity pace.gears.sizes * (2 * pace.writes + 3)
 quanta_are_few pace k s few =
     let pass_taken : pace.gears.pass_taken ≤ capacity pace.gears.sizes * one_of pace.gears.pass = elim (cases_Bool pace.gears.pass) [
       | inl e ↦ let run = k.within.running e in omega (arith, run.of_c1, run.of_table, pass_input pace k e, ap (λ b. capacity pace.gears.sizes * one_of b) e)

@@ -2,7 +2,6 @@ pub mod Pace
 pub mod Steps
 pub mod Kept
 pub mod Laws
-pub mod Weights
 pub mod Counts
 pub mod Spent
 pub mod Fronts

@@ -3,81 +3,55 @@
 //!
 //! The definitions in `specs/` have the weights of the tables, components and merges, the debts, and a function for each step.
 //! They know no key and no page: what a merge writes is known by its weight alone. The functions do nothing: each stands for
-//! the laws that its clauses name.
+//! laws that are ends in themselves. What others build on, step by step, are lemmas in `proofs/`.
 #![tactic(auto)]
 
-ghost use Rattle.pacing.specs.Weights.{OpeningWithin, DeepSwapWithin, PassSwapWithin, RotationWithin, BeginWithin, WriteWithin, SnowWithin, DeepWithin, DesksWithin};
-ghost use Rattle.pacing.specs.Counts.{StepCounts, RunCounts, FewCommits, CountedAreFew, MovesAreFew};
-ghost use Rattle.pacing.specs.Fronts.{OpeningFronts, StepFronts, MovesFronts, FrontsFit};
-ghost use Rattle.pacing.specs.Spent.{OpeningSpends, StepSpends, MovesSpend, QuantaAreFew};
-ghost use Rattle.pacing.specs.Laws.{StepKeeps, MovesKeep, ForgivingKeeps, RunKeeps, QuantaWithinBound, PaysWithinBound, DebtsFall, NoneRefused, AdmissionsAreShort, PassInTime, DeepInTime, RoomAfterSwaps, Bounded, AllFits};
+ghost use Rattle.pacing.specs.Counts.{IsCounted};
+ghost use Rattle.pacing.specs.Fronts.{AreFronts, Fronts, FitAtEach};
+ghost use Rattle.pacing.specs.Laws.{IsOpening, quanta_paid, NoneAdmitted, RaisesDebts, IsShort};
+ghost use Rattle.std.specs.Prelude.{ℕ, List, ◌≡◌, ◌+◌, ◌<◌, ◌≤◌, Bool, true, slice_index, ◌∷◌, ◌*◌};
+ghost use Rattle.blsm_model.specs.Sizes.{Sizes};
+ghost use Rattle.pacing.specs.Pace.{opened, Pace, charge, pass_done, deep_done};
+ghost use Rattle.pacing.specs.Kept.{IsPaced};
+ghost use Rattle.pacing.specs.Steps.{Event, MayAll, after_all, MayAdmit, ready_for, Admit, after, May};
+ghost use Rattle.blsm_model.specs.Format.{callers, least_weight, most_weight};
+ghost use Rattle.blsm_model.specs.Geometry.{c1_mark, charge_limit, work_bound};
+ghost use Rattle.gear_sched.specs.Gears.{first_debt, second_debt};
 
-/// Each move keeps the weights within their bounds, whoever does the merges' work, where there is room for each write and no
-/// full run is swapped in while a deep merge runs. A clause for each move, since a caller makes them one at a time.
-pub fn weights_stay_within()
-    ensures opening { OpeningWithin }
-    ensures deep_swap { DeepSwapWithin }
-    ensures pass_swap { PassSwapWithin }
-    ensures rotation { RotationWithin }
-    ensures begin { BeginWithin }
-    ensures write { WriteWithin }
-    ensures snow { SnowWithin }
-    ensures deep { DeepWithin }
-    ensures desks { DesksWithin }
-    ensures fits { AllFits }
+/// Each run from an opening keeps what is kept.
+pub fn each_run_keeps_pace()
+    ensures { (sizes : Sizes) (c1 c2 : ℕ) (events : List Event) → IsOpening sizes c1 c2 → MayAll (opened sizes c1 c2) events → IsPaced (after_all (opened sizes c1 c2) events) }
 {}
 
-/// Each step keeps what is kept, so each run from an opening does; and a step that stops between its moves has kept it.
-pub fn each_step_keeps_pace()
-    ensures step { StepKeeps }
-    ensures moves { MovesKeep }
-    ensures forgiving { ForgivingKeeps }
-    ensures run { RunKeeps }
-{}
-
-/// The memory table stays below its high mark and the charge within the capacity, and each merge is done before it has to be.
-/// No write is refused for the pacing.
+/// Each merge is done before it has to be, and no write is refused for the pacing.
 pub fn merges_are_in_time()
-    ensures bounded { Bounded }
-    ensures pass { PassInTime }
-    ensures deep { DeepInTime }
-    ensures room { RoomAfterSwaps }
-    ensures free { NoneRefused }
+    ensures pass { (pace : Pace) (w : ℕ) → IsPaced pace → pace.gears.pass ≡ true → w ≤ most_weight → pace.gears.sizes.half < pace.gears.pass_admitted + w → pass_done pace ≡ true }
+    ensures deep { (pace : Pace) → IsPaced pace → pace.gears.pass ≡ true → pass_done pace ≡ true → c1_mark pace.gears.sizes ≤ pace.made1 → pace.gears.deep ≡ true → deep_done pace ≡ true }
+    ensures free { (pace : Pace) (seat w : ℕ) (is_del : Bool) → IsPaced pace → seat < callers → first_debt pace.gears seat + second_debt pace.gears seat ≡ 0
+        → least_weight ≤ w → w ≤ most_weight → charge pace + w ≤ charge_limit pace.gears.sizes is_del
+        → MayAdmit pace seat w is_del true ((ready_for pace w).a + w) }
 {}
 
 /// A write's quanta are within its work bound, whatever other seats do, and a seat's debts rise at its own admission alone, which
 /// takes no quantum.
 pub fn work_is_bounded()
-    ensures last { QuantaWithinBound }
-    ensures quanta { PaysWithinBound }
-    ensures debts { DebtsFall }
-    ensures short { AdmissionsAreShort }
+    ensures last { (pace : Pace) (seat : ℕ) → IsPaced pace → slice_index pace.quanta seat ≤ work_bound pace.gears.sizes (slice_index pace.weights seat) }
+    ensures quanta { (pace : Pace) (seat w weight_after : ℕ) (is_del ahead : Bool) (events : List Event) → IsPaced pace → MayAll pace (Admit seat w is_del ahead weight_after ∷ events) → NoneAdmitted seat events
+        → quanta_paid seat (after pace (Admit seat w is_del ahead weight_after)) events ≤ work_bound pace.gears.sizes w }
+    ensures debts { (pace : Pace) (event : Event) (seat : ℕ) → IsPaced pace → May pace event → (RaisesDebts seat event → ⊥)
+        → (first_debt (after pace event).gears seat ≤ first_debt pace.gears seat) × (second_debt (after pace event).gears seat ≤ second_debt pace.gears seat) }
+    ensures short { (pace : Pace) (seat w weight_after : ℕ) (is_del ahead : Bool) → IsShort pace (after pace (Admit seat w is_del ahead weight_after)) }
 {}
 
 /// Passes are begun no more often than writes are admitted, rotations come once for each pass and one more, and so the commits
 /// are few.
 pub fn merges_are_few()
-    ensures step { StepCounts }
-    ensures run { RunCounts }
-    ensures commits { FewCommits }
-    ensures few { CountedAreFew }
-    ensures moves { MovesAreFew }
-{}
-
-/// Each quantum takes something of the inputs of a merge, so the quanta are at most so many times the capacity as merges can be
-/// begun for the writes.
-pub fn quanta_are_few()
-    ensures opening { OpeningSpends }
-    ensures step { StepSpends }
-    ensures moves { MovesSpend }
-    ensures few { QuantaAreFew }
+    ensures run { (sizes : Sizes) (c1 c2 : ℕ) (events : List Event) → IsOpening sizes c1 c2 → MayAll (opened sizes c1 c2) events → IsCounted (after_all (opened sizes c1 c2) events) }
+    ensures commits { (pace : Pace) → IsCounted pace → pace.passes + pace.deeps + pace.rotations ≤ 3 * pace.writes + 2 }
 {}
 
 /// The log's lanes are within the opening's bounds at each of their records, also where a front of a lane weighs more than the
 /// whole, so each image of a crash opens.
 pub fn lanes_fit_at_each_record()
-    ensures opening { OpeningFronts }
-    ensures step { StepFronts }
-    ensures moves { MovesFronts }
-    ensures fit { FrontsFit }
+    ensures { (pace : Pace) (fronts : Fronts) → IsPaced pace → AreFronts pace fronts → FitAtEach pace fronts }
 {}

@@ -104,6 +104,7 @@ impl Space {
     }
 
     /// Pins for a seat just the pages that have one of three tags now. What the seat pinned before it doesn't any more.
+    /// A clause each for what the seats pin and for what the roles keep.
     pub fn pin(&mut self, seat: u32, c1: Role, c1x: Role, c2: Role)
         requires { seat < CALLERS }
         ensures this { pins_of self.new seat ≡ union (pages_with self.old c1) (union (pages_with self.old c1x) (pages_with self.old c2)) }

@@ -100,6 +100,7 @@ impl Hold {
     ///
     /// `Damaged` names a page of a component that isn't valid or doesn't go on, and without which the next row can't be told; it never comes
     /// where the components read as lists. `Fault` comes only where the disk's count of faults rose.
+    /// A clause each for the rows of an honest disk, for what any pages tell, for the place, and for the calls.
     pub fn next_rows<D: Disk>(
         &mut self,
         disk: &mut D,

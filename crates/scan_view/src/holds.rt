@@ -72,6 +72,7 @@ impl Holds {
     }
 
     /// Fills the room with the next rows of the caller's hold, as `Hold::next_rows` does.
+    /// A clause each for what that call says, and for what the other callers' holds and the pages keep.
     pub fn next_rows<D: Disk>(
         &mut self,
         seat: u32,

@@ -86,6 +86,7 @@ impl Scan {
     }
 
     /// Passes the next key, and gives it with its record; `None` where there is none. It reads each page once at most, and takes no memory.
+    /// A clause each for the lists of an honest disk, for what any pages tell, for how far the places are, and for the calls.
     pub fn next<D: Disk>(
         &mut self,
         memory: &[(Key, Rec)],

@@ -17,9 +17,10 @@ use Rattle.tree_machine.specs.Machine.{WorkSoFar, Counts, Turned, no_work, is_wo
 use Rattle.tree_machine.specs.Steps.{work_reply}
 use Rattle.tree_machine.proofs.FoldLemmas.{both_hold, both}
 use Rattle.seat_book.specs.State.{BookState, work_in, noted_in, stopped_in, peaked_in, pass_counted_in, deep_counted_in, quantum_counted_in, paid_in, with_ended, turned_in, helped_in, ended_in, left_in}
-use Rattle.seat_book.specs.Seats.{turns_in, LeavesSeat, Gains, KeepsSeats, Beside, LeavesBeside, facts_in}
+use Rattle.seat_book.specs.Seats.{turns_in, LeavesSeat, Gains, KeepsSeats, Beside, facts_in}
 use Rattle.seat_book.specs.Laws.{CallsKeep}
 use Rattle.seat_book.proofs.PlaceLemmas.{write_stays}
+use Rattle.seat_book.proofs.Terms.{LeavesBeside}
 
 -- ---- entries
 
@@ -66,6 +67,7 @@ seat_both other b c d first second = record {
 
 -- ---- several calls
 
+-- no call keeps all, one after another keeps both, and less is kept within more
 pub keeps_itself : (seat : ℕ) (b : BookState) → KeepsSeats seat 0 0 b b
 keeps_itself seat b = record {
   history = gains_none seat b.book.entries;
@@ -317,6 +319,8 @@ calls_keep seat b = record {
 same_or_more : (m n : ℕ) → m ≤ n → n ≤ m + 1 → (n ≡ m) ⊎ (n ≡ m + 1)
 same_or_more m n le more = grind (arith, le, more)
 
+-- What is done in one hold of a lock, with one entry and one quantum at most, is what a lock allows, where the rest of the tree doesn't raise
+-- what the others owe.
 pub holds_follow : (seat : ℕ) (b c : BookState) (old new : Beside) → KeepsSeats seat 1 1 b c → LeavesBeside seat old new → Follows seat (facts_in old b) (facts_in new c)
 holds_follow seat b c old new kept beside = record {
   history = gains_notes seat b.book.entries c.book.entries kept.history;

@@ -1,3 +1,4 @@
+pub mod Terms
 pub mod PlaceLemmas
 pub mod WordLemmas
 pub mod KeepLemmas

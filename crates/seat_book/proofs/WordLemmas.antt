@@ -16,18 +16,7 @@ use Rattle.tree_machine.specs.Steps.{Outcome, Choice, choice, chosen, deep_swapp
 use Rattle.tree_machine.specs.Plays.{has_room}
 use Rattle.tree_machine.proofs.FoldLemmas.{both_hold}
 use Rattle.seat_book.specs.State.{BookState, book_of, work_in, may_note_in, pass_counted_in, deep_counted_in, turned_in}
-use Rattle.seat_book.specs.Words.{ReadsBook, MovesBook, StepsBook, Runs, chosen_in, counted_if}
-
-pub reads_book : (m : Machine) → ReadsBook m
-reads_book m = record {
-  work = λ seat. refl;
-  closed = refl;
-  notes = λ seat rows. refl;
-  turns = λ seat. refl;
-  ends = λ seat n. refl;
-  totals = refl;
-  facts = refl;
-}
+use Rattle.seat_book.proofs.Terms.{MovesBook, StepsBook, Runs, chosen_in, counted_if}
 
 -- ---- moves
 
@@ -77,6 +66,7 @@ steps_book m = record {
 
 -- ---- room
 
+-- a seat that may note an entry has room for it
 pub note_has_room : (b : BookState) (seat rows : ℕ) (op : Op) (reply : Reply) → IsTrue (may_note_in seat rows b) → length (rows_given reply) ≤ rows
     → HasRoom b.book.room (record { seat = seat; op = op; reply = reply })
 note_has_room b seat rows op reply may fits =

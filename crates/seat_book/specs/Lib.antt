@@ -2,5 +2,4 @@ pub mod Turns
 pub mod State
 pub mod Places
 pub mod Seats
-pub mod Words
 pub mod Laws

@@ -68,8 +68,3 @@ facts_in beside b = record {
   closed = is_closed_in b;
   stopped = is_some b.stopped;
 }
-
--- the debts of the other seats didn't rise
-pub record LeavesBeside (seat : ℕ) (old new : Beside) : Type 0 where
-  pub first : (other : ℕ) → other ≢ seat → new.first other ≤ old.first other
-  pub second : (other : ℕ) → other ≢ seat → new.second other ≤ old.second other

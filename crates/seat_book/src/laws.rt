@@ -1,28 +1,20 @@
-//! What the book is to the machine, and to the other seats. The functions do nothing: each stands for the laws that its clauses
-//! name.
-ghost use Rattle.seat_book.specs.Words.{OpensBook};
-ghost use Rattle.seat_book.specs.Laws.{MachinesRead, MachinesMove, MachinesStep, NotesHaveRoom, WritesAreLast, EachCallKeeps, NoneKeeps, BothKeep, LessKeeps, HoldsFollow};
+//! What the calls of the book keep. The functions do nothing: each stands for the law that its clause names.
+ghost use Rattle.seat_book.specs.Laws.{CallsKeep};
+ghost use Rattle.std.specs.Prelude.{◌≡◌, ℕ, IsTrue, length};
+ghost use Rattle.blsm_model.specs.declared.op.Op.{Op};
+ghost use Rattle.blsm_model.specs.declared.history.Reply.TheVariants.{Done};
+ghost use Rattle.blsm_model.specs.Legal.{is_write};
+ghost use Rattle.tree_machine.specs.Steps.{last_write};
+ghost use Rattle.seat_book.specs.Places.{HasWrite};
+ghost use Rattle.seat_book.specs.State.{BookState, noted_in};
 
-/// The machine's own words do to its book just what the book's words do, and what is read off the machine is read off its book.
-pub fn machines_have_books()
-    ensures opening { OpensBook }
-    ensures reads { MachinesRead }
-    ensures moves { MachinesMove }
-    ensures steps { MachinesStep }
-{}
-
-/// A seat that may note an entry has room for it, and where the entry is a write that was done, it is the seat's last.
+/// A write that was done is the seat's last one when it is noted.
 pub fn entries_have_places()
-    ensures room { NotesHaveRoom }
-    ensures writes { WritesAreLast }
+    ensures { (b : BookState) (seat : ℕ) (op : Op) → IsTrue (is_write op)
+        → (last_write seat (noted_in seat op Done b).book.entries ≡ length b.book.entries) × HasWrite seat (noted_in seat op Done b).book }
 {}
 
-/// A call for one seat notes entries of that seat alone, counts one quantum at most, and changes nothing of another seat; so do
-/// several calls, and what one hold of a lock does is what the lock allows.
+/// A call for one seat notes entries of that seat alone, counts one quantum at most, and changes nothing of another seat.
 pub fn other_seats_stay()
-    ensures calls { EachCallKeeps }
-    ensures none { NoneKeeps }
-    ensures both { BothKeep }
-    ensures less { LessKeeps }
-    ensures follows { HoldsFollow }
+    ensures { (seat : ℕ) (b : BookState) → CallsKeep seat b }
 {}

@@ -11,5 +11,5 @@ mod turned;
 mod work;
 
 pub use book::SeatBook;
-pub use laws::{entries_have_places, machines_have_books, other_seats_stay};
+pub use laws::{entries_have_places, other_seats_stay};
 pub use turned::Turned;

@@ -40,9 +40,8 @@ use Rattle.tree_core.specs.Steps.{IsPlayed}
 use Rattle.tree_core.proofs.QuietLemmas.{shows_now, with_rows}
 use Rattle.tree_file.specs.Tree.{HoldsTree, components_weight}
 use Rattle.tree_machine.specs.declared.step.Step.{Step}
-use Rattle.tree_machine.specs.Laws.{StepKeepsOpening}
 use Rattle.tree_machine.specs.Machine.{Catalogue, Machine, WorkSoFar, charge, no_work, opened, seats, totals}
-use Rattle.tree_machine.specs.Outcomes.{AreTold, FindsNone, NoneDamaged, is_bad_page, is_damaged}
+use Rattle.tree_machine.specs.Outcomes.{AreTold, is_damaged}
 use Rattle.tree_machine.specs.Plays.{may_step, played, played_one, stepped}
 use Rattle.tree_machine.specs.Steps.{Outcome}
 use Rattle.tree_machine.proofs.PlayLemmas.{of_replicate}
@@ -54,9 +53,11 @@ use Rattle.gear_sched.specs.Gears.{GearState}
 use Rattle.store_run.specs.Headline.{EndsWithin, Headline, HoldsState, IsReached, IsServed}
 use Rattle.store_run.specs.Run.{HaveEnded, IsRunInOrder, IsRunOf, Run, finds_damage, run_at}
 use Rattle.store_run.proofs.CrashLemmas.{leaves_history}
-use Rattle.alone_run.specs.Alone.{RunsAlone}
+use Rattle.tree_machine.proofs.FrameLemmas.{step_fixed}
+use Rattle.tree_machine.proofs.TellLemmas.{none_damaged}
 use Rattle.store_run.proofs.SoloLemmas.{solo_of}
 use Rattle.store_run.proofs.RunLemmas.{HasRun, came_to_end, is_run_of, workers_took}
+use Rattle.tree_machine.proofs.Terms.{FindsNone, is_bad_page}
 
 -- ---- what steps keep
 
@@ -64,15 +65,15 @@ use Rattle.store_run.proofs.RunLemmas.{HasRun, came_to_end, is_run_of, workers_t
 abbrev KeepsOpening : Machine → Machine → Type 0
 KeepsOpening m end = (end.gears.sizes ≡ m.gears.sizes) × (end.counts.charge ≡ m.counts.charge)
 
-played_keeps : StepKeepsOpening → (m : Machine) (made : List (Step × Outcome)) → KeepsOpening m (played m made)
-played_keeps law m [] = (refl, refl)
-played_keeps law m (one ∷ made) =
+played_keeps : (m : Machine) (made : List (Step × Outcome)) → KeepsOpening m (played m made)
+played_keeps m [] = (refl, refl)
+played_keeps m (one ∷ made) =
     let first = by (may_step m one.0) refl in
-    let rest = played_keeps law (played_one m one) made in
+    let rest = played_keeps (played_one m one) made in
     (rest.0 ∙ first.0, rest.1 ∙ first.1)
   where
     by : (b : Bool) → may_step m one.0 ≡ b → KeepsOpening m (cond b (stepped m one.0 one.1).state m)
-    by true can = let kept = law m one.0 one.1 can in (kept.0, kept.1)
+    by true can = let kept = step_fixed m one.0.seat one.0.kind one.1 can in (kept.0, kept.1)
     by false can = (refl, refl)
 
 -- no entry tells of a damaged page
@@ -141,13 +142,13 @@ committed_of opening held first m pace d sizes same ends =
 opened_charge : (sizes : Sizes) (c1 c2 : Entries) (catalogue : Catalogue) (faults : ℕ) (room : Room) (held : Held) → charge (opened sizes c1 c2 catalogue faults room) ≡ charge_in held → entries_weight c1 + entries_weight c2 ≡ charge_in held
 opened_charge sizes c1 c2 catalogue faults room held is = grind (arith, common_steps, nat_tests)
 
-ends_of : StepKeepsOpening → NoneDamaged → {D : Type 0} (state : D → DiskState) (opening : List (Key × Value)) (sizes : Sizes) (c1 c2 : Entries) (catalogue : Catalogue) (faults : ℕ) (room : Room) (pace : Pace) (steps : List Step) (old new : CoreState D)
+ends_of : {D : Type 0} (state : D → DiskState) (opening : List (Key × Value)) (sizes : Sizes) (c1 c2 : Entries) (catalogue : Catalogue) (faults : ℕ) (room : Room) (pace : Pace) (steps : List Step) (old new : CoreState D)
     → (play : IsPlayed state opening steps old new (opened sizes c1 c2 catalogue faults room) pace)
     → Ends opening new.held (opened sizes c1 c2 catalogue faults room) (played (opened sizes c1 c2 catalogue faults room) play.made) (paced_all (opened sizes c1 c2 catalogue faults room) pace play.made) (state new.disk)
-ends_of keeps damaged state opening sizes c1 c2 catalogue faults room pace steps old new play = record {
+ends_of state opening sizes c1 c2 catalogue faults room pace steps old new play = record {
   stands = with_rows opening new.held _ _ _ (λ runs. tt) play.stands;
-  kept = played_keeps keeps (opened sizes c1 c2 catalogue faults room) play.made;
-  none = damaged (opened sizes c1 c2 catalogue faults room) play.made (opened_finds_none sizes c1 c2 catalogue faults room) play.whole;
+  kept = played_keeps (opened sizes c1 c2 catalogue faults room) play.made;
+  none = none_damaged (opened sizes c1 c2 catalogue faults room) play.made (opened_finds_none sizes c1 c2 catalogue faults room) play.whole;
 }
 
 -- What the opening says, and what the run keeps.
@@ -199,20 +200,20 @@ stands_of opening held first m pace d sizes same ends runs = state_in held m pac
 abbrev machine_of : {D : Type 0} → (D → DiskState) → Room → CoreState D → Entries → Entries → Catalogue → Machine
 machine_of state room core c1 c2 catalogue = opened core.held.runs.sizes c1 c2 catalogue (state core.disk).faults room
 
-served_from : StepKeepsOpening → NoneDamaged → {D : Type 0} (state : D → DiskState) (room : Room) (lines : List Line) (first : DiskState) (old new : CoreState D)
+served_from : {D : Type 0} (state : D → DiskState) (room : Room) (lines : List Line) (first : DiskState) (old new : CoreState D)
     (c1 c2 : Entries) (catalogue : Catalogue) (pace : Pace) → (session : Session state room lines first old new)
     → StandsWhole state session.opens.pairs old (machine_of state room old c1 c2 catalogue) pace
     → (steps : List Step) → IsPlayed state session.opens.pairs steps old new (machine_of state room old c1 c2 catalogue) pace
     → IsServed state old.held.runs.sizes (run_at (charge_in old.held) new.held) room first (state new.disk)
 unfolding reached_of
-served_from keeps damaged {D} state room lines first old new c1 c2 catalogue pace session whole steps play =
+served_from {D} state room lines first old new c1 c2 catalogue pace session whole steps play =
     let opens = session.opens in
     let sizes = old.held.runs.sizes in
     let before = state old.disk in
     let after = state new.disk in
     let machine = machine_of state room old c1 c2 catalogue in
     let since = session.run.since in
-    let ends = ends_of keeps damaged state opens.pairs sizes c1 c2 catalogue before.faults room pace steps old new play in
+    let ends = ends_of state opens.pairs sizes c1 c2 catalogue before.faults room pace steps old new play in
     let weigh = opened_charge sizes c1 c2 catalogue before.faults room old.held whole.charge_is in
     record {
       opening = opens.pairs;
@@ -238,14 +239,14 @@ abbrev pub RunInOrder : {D : Type 0} → (D → DiskState) → List Line → Roo
 RunInOrder state lines room run first last = (sizes : Sizes) × IsRunInOrder sizes lines run × IsServed state sizes run room first last
 
 -- what lasts has lasted, by some steps
-pub served_in_order : StepKeepsOpening → NoneDamaged → {D : Type 0} (state : D → DiskState) (room : Room) (lines : List Line) (first : DiskState) (old new : CoreState D) → IsTrue first.is_honest
+pub served_in_order : {D : Type 0} (state : D → DiskState) (room : Room) (lines : List Line) (first : DiskState) (old new : CoreState D) → IsTrue first.is_honest
     → (session : Session state room lines first old new) → asked_in new.held.book.book.entries ≡ asked lines → sum (drop callers new.held.book.seats.quanta) ≡ 0
     → (disk : D) → disk ≡ new.disk → (run : Run) → run ≡ run_at (charge_in old.held) new.held → RunInOrder state lines room run first (state disk)
-served_in_order keeps damaged {D} state room lines first old new honest session in_order alone disk same run is =
+served_in_order {D} state room lines first old new honest session in_order alone disk same run is =
     let opens = session.opens in
     let honest_then = subst IsTrue (sym session.goes_on.is_honest) honest in
     let come = session.run.since.come opens.pairs _ _ honest_then opens.stands in
-    let served = served_from keeps damaged state room lines first old new _ _ _ _ session opens.stands come.0 come.1 in
+    let served = served_from state room lines first old new _ _ _ _ session opens.stands come.0 come.1 in
     let printed : IsRunInOrder old.held.runs.sizes lines (run_at (charge_in old.held) new.held) = record {
       printed = is_run_of state lines 0 0 old new session.run (omega (arith, alone));
       in_order = in_order;
@@ -279,7 +280,7 @@ ended_as state opening lines workers turns old new m pace runs stands =
     subst (λ (g : GearState). HaveEnded workers turns g (book_of m)) (sym stands.gears)
     (subst (λ (b : BookState). HaveEnded workers turns new.held.gears b) (sym stands.book) (came_to_end state lines workers turns old new runs))
 
-headline_from : StepKeepsOpening → NoneDamaged → RunsAlone → {D : Type 0} (state : D → DiskState) (timed : (d : D) → IsTimed (state d)) (room : Room) (lines : List Line) (workers turns : ℕ) (first : DiskState) (old new : CoreState D)
+headline_from : {D : Type 0} (state : D → DiskState) (timed : (d : D) → IsTimed (state d)) (room : Room) (lines : List Line) (workers turns : ℕ) (first : DiskState) (old new : CoreState D)
     (c1 c2 : Entries) (catalogue : Catalogue) (pace : Pace) → (session : Session state room lines first old new) → old.held.book.book.entries ≡ []
     → KeepsMapOf old.held.runs.sizes session.opens.pairs first (state old.disk)
     → StandsWhole state session.opens.pairs old (machine_of state room old c1 c2 catalogue) pace
@@ -288,16 +289,16 @@ headline_from : StepKeepsOpening → NoneDamaged → RunsAlone → {D : Type 0} 
     → (((seat : ℕ) → callers ≤ seat → seat < seats → turns_in seat new.held.book ≡ 0) → helps_in (steps_of runs.came.calls) ≡ 0)
     → Headline state old.held.runs.sizes lines workers turns (run_at (charge_in old.held) new.held) room first (state new.disk)
 unfolding reached_of served_from
-headline_from keeps damaged law {D} state timed room lines workers turns first old new c1 c2 catalogue pace session none map_kept whole runs steps few rests =
+headline_from {D} state timed room lines workers turns first old new c1 c2 catalogue pace session none map_kept whole runs steps few rests =
     let opens = session.opens in
     let machine = machine_of state room old c1 c2 catalogue in
     let play = as_played state opens.pairs runs.came.calls old new machine pace steps in
-    let served = served_from keeps damaged state room lines first old new c1 c2 catalogue pace session whole (map (λ one. one.0) (outcomes_in steps.made)) play in
+    let served = served_from state room lines first old new c1 c2 catalogue pace session whole (map (λ one. one.0) (outcomes_in steps.made)) play in
     let ended = ended_as state opens.pairs lines workers turns old new _ _ runs steps.stands in
     record {
       served = served;
       ended = ended;
-      solo = solo_of law served.reached lines workers turns runs.of_script ended
+      solo = solo_of served.reached lines workers turns runs.of_script ended
           (λ (alone : workers ≡ 0). ap helps_in (its_steps steps.made ∙ steps.steps_are) ∙ rests (λ seat above below. (runs.rested seat (omega (arith, alone, above)) below).0));
       helped = subst (λ (ss : List Step). sum (drop callers new.held.book.seats.quanta) ≤ helps_in ss) (sym (its_steps steps.made ∙ steps.steps_are)) few;
       crashes = leaves_history state timed opens.pairs runs.came.calls first old new machine pace none whole map_kept session.run.effect.syncs session.run.since.sizes steps (run_at (charge_in old.held) new.held) refl;
@@ -307,16 +308,16 @@ headline_from keeps damaged law {D} state timed room lines workers turns first o
 abbrev pub RunAndHeadline : {D : Type 0} → (D → DiskState) → List Line → ℕ → ℕ → Room → Run → DiskState → DiskState → Type 0
 RunAndHeadline state lines workers turns room run first last = (sizes : Sizes) × IsRunOf sizes lines workers turns run × Headline state sizes lines workers turns run room first last
 
-pub whole_headline : StepKeepsOpening → NoneDamaged → RunsAlone → {D : Type 0} (state : D → DiskState) (timed : (d : D) → IsTimed (state d)) (room : Room) (lines : List Line) (workers turns : ℕ) (first : DiskState)
+pub whole_headline : {D : Type 0} (state : D → DiskState) (timed : (d : D) → IsTimed (state d)) (room : Room) (lines : List Line) (workers turns : ℕ) (first : DiskState)
     (old new : CoreState D) → (session : Session state room lines first old new) → old.held.book.book.entries ≡ []
     → KeepsMapOf old.held.runs.sizes session.opens.pairs first (state old.disk) → (runs : RunsAll state lines workers turns old new)
     → ((opening : List (Key × Value)) (m : Machine) (pace : Pace) → StandsWhole state opening old m pace → ChainIsSteps state opening runs.came.calls old new m pace)
     → sum (drop callers new.held.book.seats.quanta) ≤ helps_in (steps_of runs.came.calls)
     → (((seat : ℕ) → callers ≤ seat → seat < seats → turns_in seat new.held.book ≡ 0) → helps_in (steps_of runs.came.calls) ≡ 0)
     → (disk : D) → disk ≡ new.disk → (run : Run) → run ≡ run_at (charge_in old.held) new.held → RunAndHeadline state lines workers turns room run first (state disk)
-whole_headline keeps damaged law {D} state timed room lines workers turns first old new session none map_kept runs steps few rests disk same run is =
+whole_headline {D} state timed room lines workers turns first old new session none map_kept runs steps few rests disk same run is =
     let opens = session.opens in
-    let headline = headline_from keeps damaged law state timed room lines workers turns first old new _ _ _ _ session none map_kept opens.stands runs (steps opens.pairs _ _ opens.stands) few rests in
+    let headline = headline_from state timed room lines workers turns first old new _ _ _ _ session none map_kept opens.stands runs (steps opens.pairs _ _ opens.stands) few rests in
     let printed = is_run_of state lines workers turns old new session.run (workers_took state lines workers turns old new runs) in
     subst (λ (r : Run). RunAndHeadline state lines workers turns room r first (state disk)) (sym is)
     (subst (λ (d : D). RunAndHeadline state lines workers turns room (run_at (charge_in old.held) new.held) first (state d)) (sym same) (old.held.runs.sizes, printed, headline))

@@ -6,7 +6,8 @@ use Rattle.std.specs.List.{AllByRecursion}
 use Rattle.std.proofs.Common.{◌∙◌, arith, ap, cond, eq-eqb, refl, subst, sym}
 use mathlib.Core.Logic.{dite}
 use native.Mathlib.Decide.{ℕ_discrete}
-use Rattle.alone_run.specs.Alone.{EndsAlone, NoneHelps, RunsAlone, alone, ops_in}
+use Rattle.alone_run.specs.Alone.{EndsAlone, NoneHelps, alone, ops_in}
+use Rattle.alone_run.proofs.Runs.{runs_alone}
 use Rattle.blsm_model.specs.Scripts.{IsOfScript, lines_of, ops_of}
 use Rattle.blsm_model.specs.Sizes.{Sizes}
 use Rattle.blsm_model.specs.declared.history.Entry.{Entry}
@@ -62,10 +63,10 @@ none_helps (one ∷ made) none = (by (is_help one.0.kind) (omega (arith, none)),
 
 -- ---- the end
 
-pub solo_of : RunsAlone → {sizes : Sizes} {opening : List (Key × Value)} {run : Run} {room : Room} {file : List ℕ} {before after : ℕ} (reached : IsReached sizes opening run room file before after)
+pub solo_of : {sizes : Sizes} {opening : List (Key × Value)} {run : Run} {room : Room} {file : List ℕ} {before after : ℕ} (reached : IsReached sizes opening run room file before after)
     (lines : List Line) (workers turns : ℕ) → IsOfScript lines run.entries → HaveEnded workers turns reached.end.gears (book_of reached.end) → (workers ≡ 0 → helps_in (map (λ one. one.0) reached.made) ≡ 0)
     → Solo lines workers run (begin_of reached)
-solo_of law {sizes} {opening} {run} {room} {file} {before} reached lines workers turns script ended rests seat below by_one none calm =
+solo_of {sizes} {opening} {run} {room} {file} {before} reached lines workers turns script ended rests seat below by_one none calm =
     let begin = begin_of reached in
     let asked : AllByRecursion (λ e. e.seat ≡ seat) run.entries = all_of seat run.entries (λ other apart. script other ∙ none_of seat other lines by_one apart) in
     let runs = ap (λ (t : Totals). t.stopped) reached.totals_are ∙ calm.runs in
@@ -76,7 +77,7 @@ solo_of law {sizes} {opening} {run} {room} {file} {before} reached lines workers
       idle = λ other there. ended.idle other there;
       even = ended.even runs seat below;
     }) in
-    let told = law sizes reached.c1 reached.c2 reached.catalogue before room seat reached.made below (none_helps reached.made (rests none)) ends in
+    let told = runs_alone sizes reached.c1 reached.c2 reached.catalogue before room seat reached.made below (none_helps reached.made (rests none)) ends in
     let ops : ops_in (played begin reached.made).book.entries ≡ lines_of seat lines =
     ap (λ (m : Machine). ops_in m.book.entries) reached.leads ∙ ap ops_in reached.entries ∙ sym (whole_of seat run.entries asked) ∙ script seat in
     subst (λ (os : List Op). IsPrinted run (alone seat begin os)) ops (record {

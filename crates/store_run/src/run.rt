@@ -18,7 +18,6 @@ ghost use Rattle.store_run.specs.Run.{AreCounted, CameToEnd, HasCauses, IsEnding
 ghost use Rattle.store_run.specs.Headline.{Headline, IsServed};
 
 use crate::ending::ending;
-use alone_run::runs_alone;
 use blsm_model::{Annals, Gate, Line, Room, Totals};
 use core_chain::{
     calls_are_steps, calls_help, calls_meet_damage, calls_note, calls_take_few, calls_tell,
@@ -30,7 +29,6 @@ use std::alloc::Global;
 use std::sync::Wait;
 use std::thread::Threads;
 use tree_core::Core;
-use tree_machine::{outcomes_are_told, seats_apart};
 use tree_session::{an_opened_core_rests, run_lines};
 use tree_shared::run_all;
 
@@ -124,9 +122,6 @@ pub fn run_over<R: Threads + Wait + Sync, D: Disk + Send + Drop, G: Gate + Sync>
         → LeavesOnly (D.state disk) (D.state result.0) (D.state disk).images }
 {
     an_opened_core_rests();
-    seats_apart();
-    outcomes_are_told();
-    runs_alone();
     let core = match open_store(alloc, disk, room) {
         Ok(core) => core,
         Err(refused) => return (refused.disk, Err(refused.why)),
@@ -156,6 +151,7 @@ pub fn run_over<R: Threads + Wait + Sync, D: Disk + Send + Drop, G: Gate + Sync>
 /// whatever happens.
 ///
 /// The refusals are those of `open_store`; then no command was done. The lines are as those of `run_over`.
+/// Its clauses are those of `run_over` that one thread needs.
 pub fn run_in_order<D: Disk + Drop>(
     alloc: Global,
     disk: D,
@@ -175,8 +171,6 @@ pub fn run_in_order<D: Disk + Drop>(
     ensures refused { IsTrue (D.state disk).is_honest → IfErr result.1 (λ why. IsWhy why (D.state disk).bytes) }
 {
     an_opened_core_rests();
-    seats_apart();
-    outcomes_are_told();
     let mut core = match open_store(alloc, disk, room) {
         Ok(core) => core,
         Err(refused) => return (refused.disk, Err(refused.why)),

@@ -33,8 +33,7 @@ use Rattle.core_moves.specs.declared.held.Held.{Held}
 use Rattle.core_moves.specs.Held.{charge_in}
 use Rattle.core_moves.specs.Moves.{WritesIn, begun_in, with_book}
 use Rattle.core_pace.specs.Pacing.{HasPace, IsRunBook, IsPacedHeld}
-use Rattle.core_pace.specs.Calls.{KeepsBook}
-use Rattle.core_pace.specs.Events.{MayWrite, IsBetween}
+use Rattle.core_pace.specs.Events.{MayWrite}
 use Rattle.core_pace.proofs.EventLemmas.{deep_keeps, settled_between, moves_are_told, admission_is_paced, entry_is_told, stop_is_told}
 use Rattle.core_pace.proofs.CallLemmas.{paced_is_between, moves_keep_book}
 use Rattle.tree_core.specs.declared.admission.Taking.TheVariants.{Taken, Failed}
@@ -43,6 +42,7 @@ use Rattle.tree_core.specs.Steps.{MovesPace}
 use Rattle.tree_core.specs.Taking.{Takes}
 use Rattle.tree_core.proofs.QuietLemmas.{read_holds}
 use Rattle.tree_core.proofs.TakingLemmas.{begun_keeps, weighs}
+use Rattle.core_pace.proofs.Terms.{KeepsBook, IsBetween}
 
 charge_of : (held : Held) (pace : Pace) → HasPace held pace → charge pace ≡ charge_in held
 charge_of held pace p = cc (p.c1, p.c1x, p.c2, p.gears, p.a, p.b)

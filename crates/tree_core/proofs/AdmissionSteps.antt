@@ -50,8 +50,7 @@ use Rattle.core_moves.specs.declared.held.Held.{Held}
 use Rattle.core_moves.specs.Held.{charge_in}
 use Rattle.core_moves.specs.Moves.{with_book}
 use Rattle.core_pace.specs.Pacing.{HasPace}
-use Rattle.core_lists.specs.Standing.{IsAt}
-use Rattle.core_lists.specs.Shown.{CommitsAs, CountsAs, HasFronts, ShowsHistory, ShowsWhole, doubted}
+use Rattle.core_lists.specs.Shown.{CommitsAs, HasFronts, ShowsHistory, ShowsWhole, doubted}
 use Rattle.core_lists.specs.Images.{ShowsNoted, history_with}
 use Rattle.core_lists.proofs.AppendLemmas.{not_past}
 use Rattle.core_lists.proofs.FileWeights.{counts_itself, deep_swapped_counts, doubt_grows, ready_counts, weighs_as}
@@ -67,6 +66,7 @@ use Rattle.blsm_model.specs.Tails.{TailFits}
 use Rattle.tree_core.proofs.TakingLists.{tells_of}
 use Rattle.disk_trait.proofs.ReadLemmas.{only_reads_start}
 use Rattle.tree_core.proofs.QuietLemmas.{quiet_step}
+use Rattle.core_lists.proofs.Terms.{IsAt, CountsAs}
 
 -- a command's write fits the format
 pub write_fits : (op : Op) (write : Write) → writes_of op ≡ write ∷ [] → added_count write < 2 ^ 64 → (1 ≤ length (key_of write)) × (length (key_of write) ≤ most_key) → length (text_written write) ≤ most_text → TailFits write → WritesFit (kind.Admit op)

@@ -19,7 +19,6 @@ use Rattle.tree_runs.specs.Runs.{left_for_pass, left_for_deep}
 use Rattle.core_moves.specs.declared.held.Held.{Held}
 use Rattle.core_moves.specs.Held.{IsPassDone, IsDeepDone}
 use Rattle.core_moves.specs.Moves.{SettlesDeep, SettlesPass, begun_in, with_book}
-use Rattle.core_lists.specs.Lists.{Agrees}
 use Rattle.core_lists.proofs.TestLemmas.{tests_agree_with_lists}
 use Rattle.tree_core.specs.declared.answers.Admission.TheVariants as admission
 use Rattle.tree_core.specs.Causes.{HasBegun, is_deep_due, is_pass_due, one_where, swaps_due_in}
@@ -27,6 +26,7 @@ use Rattle.tree_core.specs.declared.admission.Taking.TheVariants as taking
 use Rattle.tree_core.specs.Core.{IsCore}
 use Rattle.tree_core.specs.Standing.{StandsFor}
 use Rattle.tree_core.specs.Taking.{IsReadied, Takes}
+use Rattle.core_lists.proofs.Terms.{Agrees}
 
 -- whether a swap is due
 pub deep_is : (held : Held) → IsDeepDone held → is_deep_due held ≡ true

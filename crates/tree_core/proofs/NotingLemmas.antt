@@ -23,13 +23,13 @@ use Rattle.seat_book.specs.State.{BookState, helped_in, noted_in, paid_in, stopp
 use Rattle.core_moves.specs.declared.held.Held.{Held}
 use Rattle.core_moves.specs.Held.{is_run_full}
 use Rattle.core_moves.specs.Moves.{KeepsAllButMerges, with_book, with_debts_forgiven}
-use Rattle.core_pace.specs.Calls.{KeepsBook}
 use Rattle.core_pace.specs.Turns.{TurnsBy, move_in}
 use Rattle.tree_core.specs.Notes.{NotesOne, NotesNone, CountsPayment, CountsTurn, HelpsOnce, OwesNothing, quanta_of_turn}
 use Rattle.tree_core.specs.Quanta.{ended_by, quanta_by, stopped_by}
 use Rattle.tree_core.specs.declared.answers.Payment.TheVariants as payment
 use Rattle.tree_core.proofs.PaymentLemmas.{Took, FailedToTake, book_taken}
 use Rattle.tree_core.proofs.TurnLemmas.{Ends}
+use Rattle.core_pace.proofs.Terms.{KeepsBook}
 
 -- ---- an entry
 

@@ -12,7 +12,6 @@ use Rattle.disk_trait.specs.Moments.{IsTimed}
 use Rattle.gear_sched.specs.Gears.{GearState, at_rest}
 use Rattle.page_file.specs.Component.{entries_of}
 use Rattle.pacing.specs.Pace.{Pace, opened as pace_opened}
-use Rattle.pacing.specs.Fronts.{no_fronts}
 use Rattle.scan_view.specs.Hold.{HoldState}
 use Rattle.seat_book.specs.State.{BookState, opened_in}
 use Rattle.tree_file.specs.Tree.{Tree, map_of_tree}
@@ -33,6 +32,7 @@ use Rattle.tree_core.specs.Steps.{StandsSince}
 use Rattle.tree_core.proofs.KeepLemmas.{none_held}
 use Rattle.tree_core.proofs.ToldLemmas.{told_of_paced}
 use Rattle.tree_core.proofs.LastLemmas.{since_now}
+use Rattle.pacing.proofs.Terms.{no_fronts}
 
 module _ {D : Type 0} (state : D → DiskState) (disk : D) (runs : RunsState) (log : LogState) (annals : Book) (holds : List (Option HoldState)) (gears : GearState) (book : BookState) (none : holds ≡ replicate callers None) (settled : AreSettled runs log annals (state disk)) (at : gears ≡ at_rest runs.sizes)
     (fresh : book ≡ opened_in annals (runs.catalogue.c1.weight + runs.catalogue.c2.weight) (state disk).faults) where

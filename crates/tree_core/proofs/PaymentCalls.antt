@@ -33,7 +33,6 @@ use Rattle.core_moves.specs.declared.held.Held.{Held}
 use Rattle.core_moves.specs.Moves.{KeepsAllButMerges, with_book, with_debts_forgiven}
 use Rattle.core_moves.specs.Needs.{IsOn}
 use Rattle.core_pace.specs.Events.{TakesByPlan}
-use Rattle.core_lists.specs.Steps.{PaymentLands}
 use Rattle.tree_core.specs.Calls.{BesideHolds, GoesOnAs, Pays}
 use Rattle.tree_core.specs.Causes.{IsDamageAhead}
 use Rattle.tree_core.specs.Core.{CoreState, HoldsPace, IsCore, facts_of_held}
@@ -128,9 +127,9 @@ module _ {D : Type 0} (state : D → DiskState) (seat : ℕ) (plan : Plan) (resu
       let r = running_at opening old.held m pace (state old.disk) t.core.pace s ran k.numbers k.one.gears in
       steps opening m pace tree r ok (t.lists tree honest (stands_forgiven seat old.held forgiven tree (state old.disk) t.plans.is r.over)))
 
-pub pay_taken : PaymentLands → {D : Type 0} (state : D → DiskState) (seat n : ℕ) (plan : Plan) (old : CoreState D) (forgiven taken : Held) (disk : D) (b : BookState) → Paying state seat plan (Ok n) old forgiven taken disk → IsOn taken (state disk)
+pub pay_taken : {D : Type 0} (state : D → DiskState) (seat n : ℕ) (plan : Plan) (old : CoreState D) (forgiven taken : Held) (disk : D) (b : BookState) → Paying state seat plan (Ok n) old forgiven taken disk → IsOn taken (state disk)
     → b ≡ paid_in seat taken.book → Pays state seat payment.Paid old (record { disk = disk; held = with_book b taken; holds = old.holds })
-pay_taken lands {D} state seat n plan old forgiven taken disk b t on counted = record {
+pay_taken {D} state seat n plan old forgiven taken disk b t on counted = record {
   goes = goes.0;
   beside = goes.1;
   cause = (record { ran = p.ran; runs = runs; faults = t.told.stands (λ same. cc same) }, λ none. p.owes (p.plan_is ∙ none));
@@ -161,7 +160,7 @@ pay_taken lands {D} state seat n plan old forgiven taken disk b t on counted = r
 
     goes : GoesOnAs state seat kind.Pay Paid old (record { disk = disk; held = with_book b taken; holds = old.holds }) × BesideHolds state seat kind.Pay Paid old (record { disk = disk; held = with_book b taken; holds = old.holds })
     goes = paying_goes state seat plan (Ok n) old forgiven taken disk t Paid b (ap (λ (x : BookState). x.counts) counted) (payment_follows seat n plan old.held forgiven taken b took counted) (λ pace holds. moves pace holds)
-        (λ opening m pace tree r ok leaves. paid_step lands opening seat n plan old.held forgiven taken b m pace (moves t.core.pace t.core.holds).next before after tree (Ok n) took counted r
+        (λ opening m pace tree r ok leaves. paid_step opening seat n plan old.held forgiven taken b m pace (moves t.core.pace t.core.holds).next before after tree (Ok n) took counted r
         ((moves t.core.pace t.core.holds).holds.live runs).paced ok refl leaves)
 
 -- a call of the disk failed, or a page was found damaged

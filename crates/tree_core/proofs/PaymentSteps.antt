@@ -35,11 +35,10 @@ use Rattle.core_moves.specs.Moves.{with_book, with_debts_forgiven}
 use Rattle.core_pace.specs.Pacing.{IsPacedHeld}
 use Rattle.core_pace.specs.Events.{plan_in}
 use Rattle.core_pace.proofs.TestLemmas.{forgiving_has_pace}
-use Rattle.core_lists.specs.Standing.{IsAt}
 use Rattle.core_lists.specs.Shown.{ShowsWhole}
-use Rattle.core_lists.specs.Steps.{PaymentLands, TookByPlan}
+use Rattle.core_lists.specs.Steps.{TookByPlan}
 use Rattle.core_lists.proofs.TestLemmas.{tests_agree_with_lists, forgiving_lands}
-use Rattle.core_lists.proofs.StepLands.{settling_lands}
+use Rattle.core_lists.proofs.StepLands.{payment_lands, settling_lands}
 use Rattle.core_lists.proofs.GoingLemmas.{payment_goes_on}
 use Rattle.tree_core.specs.Core.{HoldsPace}
 use Rattle.tree_core.specs.Quanta.{LeavesTaken}
@@ -51,6 +50,7 @@ use Rattle.tree_core.proofs.VersionLemmas.{one_commits, version_of}
 use Rattle.tree_core.proofs.PaymentLemmas.{Took, FailedToTake, book_stopped, kept_of, takes_in, payment_runs}
 use Rattle.disk_trait.proofs.ReadLemmas.{only_reads_start}
 use Rattle.tree_core.proofs.QuietLemmas.{quiet_step}
+use Rattle.core_lists.proofs.Terms.{IsAt}
 
 -- ---- a store that is stopped
 
@@ -116,10 +116,10 @@ same_file seat old forgiven tree file is holds = subst (λ (h : Held). HoldsTree
 pub stands_forgiven : (seat : ℕ) (old forgiven : Held) (tree : Tree) (d : DiskState) → forgiven ≡ with_debts_forgiven seat old → StandOver old.runs tree old.log.a.entries d → StandOver forgiven.runs tree forgiven.log.a.entries d
 stands_forgiven seat old forgiven tree d is over = subst (λ (h : Held). StandOver h.runs tree h.log.a.entries d) (sym is) over
 
-pub paid_step : PaymentLands → (opening : List (Key × Value)) (seat n : ℕ) (plan : Plan) (old forgiven taken : Held) (b : BookState) (m : Machine) (pace next : Pace) (before after : DiskState) (tree : Tree) (result : Result ℕ Broken)
+pub paid_step : (opening : List (Key × Value)) (seat n : ℕ) (plan : Plan) (old forgiven taken : Held) (b : BookState) (m : Machine) (pace next : Pace) (before after : DiskState) (tree : Tree) (result : Result ℕ Broken)
     → Took seat n plan old forgiven taken → b ≡ paid_in seat taken.book → RunsAt opening old m pace before tree → IsPacedHeld (with_book b taken) next → IsTrue (may m seat kind.Pay)
     → result ≡ Ok n → LeavesTaken plan result forgiven taken tree before after → IsStep AnyRows opening seat kind.Pay Paid (with_book b taken) before after m pace
-paid_step lands opening seat n plan old forgiven taken b m pace next before after tree result took counted r k ok is leaves =
+paid_step opening seat n plan old forgiven taken b m pace next before after tree result took counted r k ok is leaves =
     step_by opening seat kind.Pay Paid (with_book b taken) before after m pace Well (pay m seat Well) (pace_after m pace seat kind.Pay Well) refl refl tt refl
     (stands_running opening (with_book b taken) (pay m seat Well).state (pace_after m pace seat kind.Pay Well) after tree
     (record { fronts = r.fronts; over = left.2; holds = at.holds; goes = payment_goes_on opening m pace r.fronts tree seat Well ok r.goes; numbers = next; has = k.numbers; one = k.one.gears; ran = payment_runs seat n plan old forgiven taken b took counted }))
@@ -140,7 +140,7 @@ paid_step lands opening seat n plan old forgiven taken b m pace next before afte
         (subst (λ (h : Held). TookByPlan plan n h taken tree) took.plans.is (subst (λ (x : ℕ). TookByPlan plan x forgiven taken tree) same_n left.3))
 
     at : IsAt (with_book b taken) tree (pay m seat Well).state after.bytes
-    at = lands seat n old taken (with_book b taken) tree m before.bytes after.bytes (steady_at opening old m pace before tree r)
+    at = payment_lands seat n old taken (with_book b taken) tree m before.bytes after.bytes (steady_at opening old m pace before tree r)
         (record { takes = takes_in seat n plan old forgiven taken took; counted = ap (λ (x : BookState). with_book x taken) counted }) took_lists left.2.are_of
 
 -- ---- where it failed

@@ -28,14 +28,13 @@ use Rattle.core_moves.specs.declared.held.Held.{Held}
 use Rattle.core_pace.specs.Pacing.{HasPace}
 use Rattle.core_lists.specs.Standing.{HoldsMachine}
 use Rattle.core_lists.specs.Shown.{ShowsHistory, ShowsWhole}
-use Rattle.core_lists.specs.Steps.{IsSteady}
 use Rattle.core_lists.specs.Going.{GoesOn}
-use Rattle.core_lists.specs.Images.{StandsIn}
 use Rattle.core_lists.proofs.TestLemmas.{tests_agree_with_lists}
 use Rattle.core_lists.proofs.ShowingLemmas.{standing_shows}
 use Rattle.core_lists.proofs.GoingLemmas.{standing_is_steady}
 use Rattle.tree_core.specs.Standing.{AnyRows, StandsFor}
 use Rattle.tree_core.specs.Steps.{IsStep}
+use Rattle.core_lists.proofs.Terms.{IsSteady, StandsIn}
 
 -- a store that runs has no stop
 pub no_stop : (held : Held) → held.book.stopped ≡ None → IsSome held.book.stopped → ⊥

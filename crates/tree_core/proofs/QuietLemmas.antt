@@ -39,7 +39,7 @@ use Rattle.core_moves.specs.Needs.{IsOn}
 use Rattle.core_pace.specs.Pacing.{HasPace, IsPacedHeld, IsRunBook}
 use Rattle.core_pace.proofs.TurnLemmas.{book_is_paced}
 use Rattle.core_lists.specs.Standing.{HoldsMachine}
-use Rattle.core_lists.specs.Shown.{CountsAs, ShowsHistory, ShowsWhole, doubted}
+use Rattle.core_lists.specs.Shown.{ShowsHistory, ShowsWhole, doubted}
 use Rattle.core_lists.proofs.FileWeights.{doubt_grows, weighs_as}
 use Rattle.core_lists.proofs.ShowingLemmas.{prefix_self, standing_shows, showing_is_kept, quiet_entry_shows}
 use Rattle.paced_tree.specs.After.{pace_after}
@@ -50,6 +50,7 @@ use Rattle.tree_core.specs.HoldMoves.{mapped}
 use Rattle.tree_core.specs.Standing.{HasStopped, StandsFor}
 use Rattle.tree_core.specs.Steps.{IsStep}
 use Rattle.tree_core.proofs.VersionLemmas.{commits_still, one_commits, version_of}
+use Rattle.core_lists.proofs.Terms.{CountsAs}
 
 -- ---- by numbers
 

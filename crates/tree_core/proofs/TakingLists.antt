@@ -42,12 +42,11 @@ use Rattle.core_moves.specs.declared.held.Held.{Held}
 use Rattle.core_moves.specs.Held.{IsDeepDone, IsPassDone, goes_ahead, charge_in}
 use Rattle.core_moves.specs.Moves.{SettlesDeep, SettlesPass, TurnsLog, WritesIn, begun_in}
 use Rattle.core_pace.specs.Pacing.{HasPace, IsPacedHeld}
-use Rattle.core_pace.specs.Events.{IsBetween}
 use Rattle.core_pace.proofs.EventLemmas.{settled_between, moves_are_told}
-use Rattle.core_lists.specs.Standing.{HoldsMachine, IsAt}
+use Rattle.core_lists.specs.Standing.{HoldsMachine}
 use Rattle.core_lists.specs.Shown.{CommitsAs, ShowsHistory, ShowsWhole}
-use Rattle.core_lists.specs.Admissions.{DeepSettlesTree, PassSettlesTree, IsReadied}
-use Rattle.core_lists.specs.Images.{StandsIn, SettledIn, MayAppend, ShowsNoted, with_appended, history_with}
+use Rattle.core_lists.specs.Admissions.{DeepSettlesTree}
+use Rattle.core_lists.specs.Images.{ShowsNoted, history_with}
 use Rattle.core_lists.proofs.AdmissionLands.{deep_settling_lands, readying_lands}
 use Rattle.core_lists.proofs.WriteLands.{write_lands}
 use Rattle.core_lists.proofs.ShowingLemmas.{standing_shows, settled_shows, swapped_shows, showing_is_kept, prefix_self}
@@ -60,6 +59,8 @@ use Rattle.tree_core.specs.Taking.{PassMakesTree, TellsOf, TakenOver, HasLost}
 use Rattle.tree_core.proofs.VersionLemmas.{either_commits, version_of}
 use Rattle.tree_core.proofs.TakingLemmas.{is_ok_of, ok_of, begun_keeps}
 use Rattle.tree_core.proofs.KeepLemmas.{deep_keeps_pins, pass_keeps_pins}
+use Rattle.core_lists.proofs.Terms.{IsAt, PassSettlesTree, IsReadied, StandsIn, SettledIn, MayAppend, with_appended}
+use Rattle.core_pace.proofs.Terms.{IsBetween}
 
 -- ---- what the calls leave, in a word
 

@@ -28,8 +28,7 @@ use Rattle.tree_machine.specs.declared.step.Kind.TheVariants as kind
 use Rattle.tree_runs.specs.Holding.{StandOver}
 use Rattle.core_moves.specs.declared.held.Held.{Held}
 use Rattle.core_moves.specs.Moves.{with_book}
-use Rattle.core_lists.specs.Going.{IsOpenTo, kind_of_turn}
-use Rattle.core_lists.specs.Steps.{HelpLands, WorkLands, choice_of}
+use Rattle.core_lists.specs.Steps.{choice_of}
 use Rattle.tree_core.specs.Calls.{BesideHolds, GoesOnAs, Helps}
 use Rattle.tree_core.specs.Causes.{IsDamageAhead, TurnsBecause, TurnsNone, merge_of}
 use Rattle.tree_core.specs.Core.{CoreState, IsCore}
@@ -43,6 +42,7 @@ use Rattle.tree_core.proofs.NotingLemmas.{help_notes, helped_notes, helps_once, 
 use Rattle.tree_core.proofs.QuantumSteps.{running_at}
 use Rattle.tree_core.proofs.TurnLemmas.{Ends, IsSeat, closed_moves, halted_follows, halted_moves, turn_because, turn_follows, turn_may, turn_moves, working_caller, counted_counts, turn_commits}
 use Rattle.tree_core.proofs.TurnSteps.{closed_turn, halted_turn, turn_step}
+use Rattle.core_lists.proofs.Terms.{IsOpenTo, kind_of_turn}
 
 -- ---- the store is stopped, or closed to a worker
 
@@ -115,10 +115,10 @@ pub record Turning {D : Type 0} (state : D → DiskState) (w : Bool) (seat : ℕ
   pub lists : (tree : Tree) → IsTrue (state old.disk).is_honest → StandOver old.held.runs tree old.held.log.a.entries (state old.disk) → (next : Tree) × LeavesMoved mv made old.held moved tree next (state old.disk) (state disk)
   pub opened : (m : Machine) → book_of m ≡ old.held.book → IsOpenTo w m
 
-turning_goes : WorkLands → HelpLands → {D : Type 0} (state : D → DiskState) (w : Bool) (seat : ℕ) (mv : Move) (made : Result ℕ Broken) (faults : ℕ) (old : CoreState D) (disk : D) (moved : Held) (ended : Turned) (b : BookState) → is_held (kind_of_turn w) ≡ false
+turning_goes : {D : Type 0} (state : D → DiskState) (w : Bool) (seat : ℕ) (mv : Move) (made : Result ℕ Broken) (faults : ℕ) (old : CoreState D) (disk : D) (moved : Held) (ended : Turned) (b : BookState) → is_held (kind_of_turn w) ≡ false
     → may_in old.held seat (kind_of_turn w) ≡ true → Turning state w seat mv made faults old disk moved ended b
     → GoesOnAs state seat (kind_of_turn w) (Turn ended) old (record { disk = disk; held = with_book b moved; holds = old.holds }) × BesideHolds state seat (kind_of_turn w) (Turn ended) old (record { disk = disk; held = with_book b moved; holds = old.holds })
-turning_goes work help state w seat mv made faults old disk moved ended b none can t =
+turning_goes state w seat mv made faults old disk moved ended b none can t =
     let before = state old.disk in
     let after = state disk in
     let pins = move_keeps_pins mv made seat old.held moved t.ends.moves t.ends.kept in
@@ -130,7 +130,7 @@ turning_goes work help state w seat mv made faults old disk moved ended b none c
     let r = running_at opening old.held m pace before t.core.pace s ran k.numbers k.one.gears in
     let tree = (s.runs ran).tree in
     let left = t.lists tree honest r.over in
-    turn_step work help w opening seat mv made faults old.held moved ended b m pace t.core.pace tree before after t.ends t.core.holds t.counted
+    turn_step w opening seat mv made faults old.held moved ended b m pace t.core.pace tree before after t.ends t.core.holds t.counted
     (λ is. has_risen before.faults after.faults t.effect.goes_on.faults t.few (t.ends.told.failed is)) t.called
     (record { runs = r; opened = t.opened m s.book; ok = ok; may_move = turn_may w seat mv old.held t.core.pace before t.ends.turns t.core.holds; next = left.0; leaves = left.1 }))
 
@@ -138,13 +138,13 @@ turning_goes work help state w seat mv made faults old disk moved ended b none c
 never_still : (made : Result ℕ Broken) (mv : Move) → TurnsNone (ended_by made mv) → ⊥
 never_still made mv h1 = grind (arith, common_steps, nat_tests)
 
-pub takes_turn : WorkLands → HelpLands → {D : Type 0} (state : D → DiskState) (w : Bool) (seat : ℕ) (mv : Move) (made : Result ℕ Broken) (faults : ℕ) (old : CoreState D) (disk : D) (moved : Held) (ended : Turned) (b : BookState) → HasPlaces old.held.book
+pub takes_turn : {D : Type 0} (state : D → DiskState) (w : Bool) (seat : ℕ) (mv : Move) (made : Result ℕ Broken) (faults : ℕ) (old : CoreState D) (disk : D) (moved : Held) (ended : Turned) (b : BookState) → HasPlaces old.held.book
     → Turning state w seat mv made faults old disk moved ended b → MayCount w seat old.held.book → (old.held.book.stopped ≡ None → IsEven w seat old.held) → TakesTurn w state seat ended old (record { disk = disk; held = with_book b moved; holds = old.holds })
-takes_turn work help state true seat mv made faults old disk moved ended b places t may even =
+takes_turn state true seat mv made faults old disk moved ended b places t may even =
     let before = state old.disk in
     let after = state disk in
     let never = λ (none : TurnsNone ended). never_still made mv (subst (λ (e : Turned). TurnsNone e) t.ends.ended_is none) in
-    let goes = turning_goes work help state true seat mv made faults old disk moved ended b refl (may_help seat may.0 may.1) t in
+    let goes = turning_goes state true seat mv made faults old disk moved ended b refl (may_help seat may.0 may.1) t in
     record {
       goes = goes.0;
       beside = goes.1;
@@ -155,10 +155,10 @@ takes_turn work help state true seat mv made faults old disk moved ended b place
       effect = t.effect;
       untouched = λ none. absurd (never none);
     }
-takes_turn work help state false seat mv made faults old disk moved ended b places t may even =
+takes_turn state false seat mv made faults old disk moved ended b places t may even =
     let before = state old.disk in
     let after = state disk in
-    let goes = turning_goes work help state false seat mv made faults old disk moved ended b refl (may_work seat old.held may even) t in
+    let goes = turning_goes state false seat mv made faults old disk moved ended b refl (may_work seat old.held may even) t in
     record {
       goes = goes.0;
       beside = goes.1;

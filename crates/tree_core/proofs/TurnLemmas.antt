@@ -37,7 +37,6 @@ use Rattle.core_pace.specs.Turns.{MayMove, TurnsBy, move_in, end_of_move}
 use Rattle.core_pace.proofs.CallLemmas.{between_is_ready, paced_is_between}
 use Rattle.core_pace.proofs.MadeLemmas.{failed_work_is_told, failed_help_is_told}
 use Rattle.core_pace.proofs.TurnLemmas.{turn_may_move, work_is_paced, help_is_paced, turn_is_told, help_is_told}
-use Rattle.core_lists.specs.Going.{kind_of_turn}
 use Rattle.tree_core.specs.Causes.{IsDamageAhead, TurnsBecause, merge_of}
 use Rattle.tree_core.specs.Core.{HoldsPace, facts_of_held}
 use Rattle.tree_core.specs.Quanta.{ended_by, quanta_by, stopped_by}
@@ -47,6 +46,7 @@ use Rattle.tree_core.proofs.QuietLemmas.{read_holds}
 use Rattle.tree_core.proofs.QuantumLemmas.{holds_running, holds_stopped, on_rebooked, told_after_failure, kept_once, LeavesDebts, debts_stay, debts_first, debts_second, follows_by}
 use Rattle.tree_core.specs.Notes.{CountsCommits, rotations}
 use Rattle.tree_core.proofs.KeepLemmas.{commits_beside, move_keeps_pins, rotated_by}
+use Rattle.core_lists.proofs.Terms.{kind_of_turn}
 
 -- ---- whose turn it is
 

@@ -41,14 +41,12 @@ use Rattle.core_moves.specs.Needs.{IsOn}
 use Rattle.core_moves.specs.Moves.{KeepsAllButMerges, with_book}
 use Rattle.core_pace.specs.Pacing.{IsPacedHeld}
 use Rattle.core_pace.specs.Turns.{MayMove, TurnsBy, move_in, end_of_move}
-use Rattle.core_lists.specs.Standing.{IsAt}
-use Rattle.core_lists.specs.Lists.{turn_noted, helped}
 use Rattle.core_lists.specs.Shown.{ShowsWhole}
-use Rattle.core_lists.specs.Steps.{IsSteady, WorkLands, HelpLands, TurnsTree, choice_of, chosen_by}
-use Rattle.core_lists.specs.Going.{GoesOn, IsOpenTo, kind_of_turn}
+use Rattle.core_lists.specs.Steps.{TurnsTree, choice_of}
+use Rattle.core_lists.specs.Going.{GoesOn}
 use Rattle.core_lists.proofs.FileWeights.{weighs_as}
 use Rattle.core_lists.proofs.TestLemmas.{tests_agree_with_lists}
-use Rattle.core_lists.proofs.StepLands.{choices_agree}
+use Rattle.core_lists.proofs.StepLands.{choices_agree, help_lands, work_lands}
 use Rattle.core_lists.proofs.ImageLemmas.{deep_swap_images, pass_swap_images, rotation_images}
 use Rattle.core_lists.proofs.GoingLemmas.{turn_goes_on}
 use Rattle.tree_core.specs.Core.{HoldsPace}
@@ -63,6 +61,7 @@ use Rattle.tree_core.proofs.TurnLemmas.{Turns, Ends, KeepsOpen, counted_book, co
 use Rattle.disk_trait.proofs.ReadLemmas.{only_reads_start}
 use Rattle.tree_core.proofs.QuietLemmas.{quiet_step}
 use Rattle.tree_machine.specs.Stands.{WritesFit}
+use Rattle.core_lists.proofs.Terms.{IsAt, turn_noted, helped, IsSteady, chosen_by, IsOpenTo, kind_of_turn}
 
 -- ---- a store that is stopped
 
@@ -160,13 +159,13 @@ move_shown pacing.Idle w opening old m pace d tree next file r is may_move makes
 
 -- ---- a turn that went well
 
-well_at : WorkLands → HelpLands → (w : Bool) (opening : List (Key × Value)) (seat n : ℕ) (old moved : Held) (tree next : Tree) (m : Machine) (pace : Pace) (file after : List ℕ) → IsSteady old tree m file → IsPacedTree opening m pace → IsOpenTo w m
+well_at : (w : Bool) (opening : List (Key × Value)) (seat n : ℕ) (old moved : Held) (tree next : Tree) (m : Machine) (pace : Pace) (file after : List ℕ) → IsSteady old tree m file → IsPacedTree opening m pace → IsOpenTo w m
     → TurnsBy (move_in w old) seat n old moved → TurnsTree (move_in w old) n old moved tree next → AreOf moved.runs next moved.log.a.entries after
     → IsAt (with_book (counted_by w seat (end_of_move (move_in w old)) (quanta_of_move (move_in w old)) moved.book) moved) next (stepped_as m seat (kind_of_turn w) Well).state after
-well_at work help true opening seat n old moved tree next m pace file after steady paced opened moves trees are_of =
-    help seat n old moved (with_book (counted_by true seat (end_of_move (move_in true old)) (quanta_of_move (move_in true old)) moved.book) moved) tree next m file after steady opened (record { moves = moves; counted = refl }) trees are_of
-well_at work help false opening seat n old moved tree next m pace file after steady paced opened moves trees are_of =
-    work seat n old moved (with_book (counted_by false seat (end_of_move (move_in false old)) (quanta_of_move (move_in false old)) moved.book) moved) tree next m file after steady (has_way opening m pace paced)
+well_at true opening seat n old moved tree next m pace file after steady paced opened moves trees are_of =
+    help_lands seat n old moved (with_book (counted_by true seat (end_of_move (move_in true old)) (quanta_of_move (move_in true old)) moved.book) moved) tree next m file after steady opened (record { moves = moves; counted = refl }) trees are_of
+well_at false opening seat n old moved tree next m pace file after steady paced opened moves trees are_of =
+    work_lands seat n old moved (with_book (counted_by false seat (end_of_move (move_in false old)) (quanta_of_move (move_in false old)) moved.book) moved) tree next m file after steady (has_way opening m pace paced)
     (record { moves = moves; counted = refl }) trees are_of
 
 well_answer : (w : Bool) (m : Machine) (seat : ℕ) → m.stopped ≡ None → IsOpenTo w m → (stepped_as m seat (kind_of_turn w) Well).answer ≡ Turn (ended_as (chosen_by w m))
@@ -190,11 +189,11 @@ machine_runs opening old m pace d tree r = ap (λ (b : BookState). b.stopped) r.
 same_sizes : (opening : List (Key × Value)) (old : Held) (m : Machine) (pace : Pace) (d : DiskState) (tree : Tree) → RunsAt opening old m pace d tree → m.gears.sizes ≡ old.runs.sizes
 same_sizes opening old m pace d tree r = ap (λ (g : GearState). g.sizes) r.holds.gears ∙ r.one
 
-well_turn : WorkLands → HelpLands → (w : Bool) (opening : List (Key × Value)) (seat n : ℕ) (old moved : Held) (m : Machine) (pace numbers : Pace) (tree : Tree) (before after : DiskState) (made : Result ℕ Broken) → made ≡ Ok n → Turns w seat (move_in w old) old
+well_turn : (w : Bool) (opening : List (Key × Value)) (seat n : ℕ) (old moved : Held) (m : Machine) (pace numbers : Pace) (tree : Tree) (before after : DiskState) (made : Result ℕ Broken) → made ≡ Ok n → Turns w seat (move_in w old) old
     → TurnsBy (move_in w old) seat n old moved → IsPacedHeld (with_book (counted_by w seat (end_of_move (move_in w old)) (quanta_of_move (move_in w old)) moved.book) moved) numbers
     → TurnsOver w opening seat (move_in w old) made old moved m pace tree before after
     → IsStep AnyRows opening seat (kind_of_turn w) (Turn (end_of_move (move_in w old))) (with_book (counted_by w seat (end_of_move (move_in w old)) (quanta_of_move (move_in w old)) moved.book) moved) before after m pace
-well_turn work help w opening seat n old moved m pace numbers tree before after made made_is t moves k o =
+well_turn w opening seat n old moved m pace numbers tree before after made made_is t moves k o =
     step_by opening seat (kind_of_turn w) (Turn (end_of_move mv)) new before after m pace Well (stepped_as m seat (kind_of_turn w) Well) (pace_after m pace seat (kind_of_turn w) Well) refl refl
     (possible_well w m seat before.faults after.faults) refl
     (stands_running opening new (stepped_as m seat (kind_of_turn w) Well).state (pace_after m pace seat (kind_of_turn w) Well) after o.next
@@ -226,7 +225,7 @@ well_turn work help w opening seat n old moved m pace numbers tree before after 
     left = (left_any.0, left_any.1, left_any.2, subst (λ (x : ℕ). TurnsTree (move_in w old) x old moved tree o.next) same_n left_any.3)
 
     at : IsAt (with_book (counted_by w seat (end_of_move (move_in w old)) (quanta_of_move (move_in w old)) moved.book) moved) o.next (stepped_as m seat (kind_of_turn w) Well).state after.bytes
-    at = well_at work help w opening seat n old moved tree o.next m pace before.bytes after.bytes steady o.runs.goes.paced o.opened moves left.3 left.2.are_of
+    at = well_at w opening seat n old moved tree o.next m pace before.bytes after.bytes steady o.runs.goes.paced o.opened moves left.3 left.2.are_of
 
     goes : (then : Fronts) × GoesOn opening (stepped_as m seat (kind_of_turn w) Well).state (pace_after m pace seat (kind_of_turn w) Well) then o.next
     goes = turn_goes_on w opening m pace o.runs.fronts seat n old moved tree o.next before.bytes o.ok o.opened steady left.3 o.runs.goes
@@ -310,29 +309,29 @@ failed_turn w opening seat f old moved m pace tree before after made kept counte
 
 -- ---- any turn
 
-turn_by : WorkLands → HelpLands → (w : Bool) (opening : List (Key × Value)) (seat : ℕ) (made : Result ℕ Broken) (faults : ℕ) (old moved : Held) (m : Machine) (pace numbers : Pace) (tree : Tree) (before after : DiskState)
+turn_by : (w : Bool) (opening : List (Key × Value)) (seat : ℕ) (made : Result ℕ Broken) (faults : ℕ) (old moved : Held) (m : Machine) (pace numbers : Pace) (tree : Tree) (before after : DiskState)
     → Turns w seat (move_in w old) old → IfOk made (λ n. TurnsBy (move_in w old) seat n old moved) → OnOk made (IsOn moved after) → KeepsAllButMerges (IsErr made) old moved → HoldsPace old numbers before → faults ≡ after.faults
     → (made ≡ Err Fault → Rose before.faults after.faults) → (IsErr made → calls_disk (choice_of (move_in w old)) ≡ true) → TurnsOver w opening seat (move_in w old) made old moved m pace tree before after
     → IsStep AnyRows opening seat (kind_of_turn w) (Turn (ended_by made (move_in w old))) (with_book (counted_by w seat (ended_by made (move_in w old)) (quanta_by made (move_in w old)) (stopped_by made faults moved.book)) moved) before after m pace
-turn_by work help w opening seat (Ok n) faults old moved m pace numbers tree before after t moves on kept holds counted rose called o =
+turn_by w opening seat (Ok n) faults old moved m pace numbers tree before after t moves on kept holds counted rose called o =
     let next = ended_moves w seat (Ok n) faults old moved numbers before after t moves on kept holds in
     let runs = counted_stops w seat (end_of_move (move_in w old)) (quanta_of_move (move_in w old)) moved.book ∙ (moved_open (move_in w old) seat n old moved moves).stopped ∙ t.ran in
-    well_turn work help w opening seat n old moved m pace next.next tree before after (Ok n) refl t moves (next.holds.live runs).paced o
-turn_by work help w opening seat (Err Fault) faults old moved m pace numbers tree before after t moves on kept holds counted rose called o =
+    well_turn w opening seat n old moved m pace next.next tree before after (Ok n) refl t moves (next.holds.live runs).paced o
+turn_by w opening seat (Err Fault) faults old moved m pace numbers tree before after t moves on kept holds counted rose called o =
     failed_turn w opening seat faults old moved m pace tree before after (Err Fault) (kept_once old moved refl kept) counted (rose refl) (called refl) o
-turn_by work help w opening seat (Err (Damaged page)) faults old moved m pace numbers tree before after t moves on kept holds counted rose called o =
+turn_by w opening seat (Err (Damaged page)) faults old moved m pace numbers tree before after t moves on kept holds counted rose called o =
     let left = o.leaves.moved (λ same. cc same) in
     let e = left.1 in
     absurd (cc e)
 
-pub turn_step : WorkLands → HelpLands → (w : Bool) (opening : List (Key × Value)) (seat : ℕ) (mv : Move) (made : Result ℕ Broken) (faults : ℕ) (old moved : Held) (ended : Turned) (b : BookState) (m : Machine) (pace numbers : Pace) (tree : Tree)
+pub turn_step : (w : Bool) (opening : List (Key × Value)) (seat : ℕ) (mv : Move) (made : Result ℕ Broken) (faults : ℕ) (old moved : Held) (ended : Turned) (b : BookState) (m : Machine) (pace numbers : Pace) (tree : Tree)
     (before after : DiskState) → Ends w seat mv made faults old moved ended b before after → HoldsPace old numbers before → faults ≡ after.faults → (made ≡ Err Fault → Rose before.faults after.faults)
     → (IsErr made → calls_disk (choice_of mv) ≡ true) → TurnsOver w opening seat mv made old moved m pace tree before after → IsStep AnyRows opening seat (kind_of_turn w) (Turn ended) (with_book b moved) before after m pace
-turn_step work help w opening seat mv made faults old moved ended b m pace numbers tree before after e holds counted rose called o =
+turn_step w opening seat mv made faults old moved ended b m pace numbers tree before after e holds counted rose called o =
     subst (λ (x : BookState). IsStep AnyRows opening seat (kind_of_turn w) (Turn ended) (with_book x moved) before after m pace) (sym e.counts)
     (subst (λ (t : Turned). IsStep AnyRows opening seat (kind_of_turn w) (Turn t) (with_book (counted_by w seat t (quanta_by made mv) (stopped_by made faults moved.book)) moved) before after m pace) (sym e.ended_is)
     (subst (λ (y : Move). IsStep AnyRows opening seat (kind_of_turn w) (Turn (ended_by made y)) (with_book (counted_by w seat (ended_by made y) (quanta_by made y) (stopped_by made faults moved.book)) moved) before after m pace) (sym e.turns.is)
-    (turn_by work help w opening seat made faults old moved m pace numbers tree before after (subst (λ (y : Move). Turns w seat y old) e.turns.is e.turns)
+    (turn_by w opening seat made faults old moved m pace numbers tree before after (subst (λ (y : Move). Turns w seat y old) e.turns.is e.turns)
     (subst (λ (y : Move). IfOk made (λ n. TurnsBy y seat n old moved)) e.turns.is e.moves) e.on e.kept holds counted rose
     (subst (λ (y : Move). IsErr made → calls_disk (choice_of y) ≡ true) e.turns.is called)
     (subst (λ (y : Move). TurnsOver w opening seat y made old moved m pace tree before after) e.turns.is o))))

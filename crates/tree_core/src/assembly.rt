@@ -46,6 +46,7 @@ pub struct Parts<D: Disk + Drop> {
 
 impl<D: Disk + Drop> Core<D> {
     /// The core of these parts. Its history is empty, its charge is what C1 and C2 weigh, and its peak and its counts are 0.
+    /// A clause for each part that it is made of.
     pub fn assemble(parts: Parts<D>) -> Core<D>
         requires none { parts.holds ≡ replicate callers None }
         requires settled { AreSettled parts.runs parts.log parts.annals (D.state parts.disk) }

@@ -16,7 +16,6 @@ ghost use Rattle.tree_core.specs.Quanta.{MayTake, LeavesTaken};
 
 use crate::{Core, Payment};
 use blsm_model::Why;
-use core_lists::payments_land;
 use core_moves::Held;
 use disk_trait::Disk;
 use gear_sched::Plan;
@@ -60,7 +59,6 @@ impl<D: Disk + Drop> Core<D> {
         }
         match take(&mut self.held, &mut self.disk, seat, plan) {
             Ok(_) => {
-                payments_land();
                 self.held.book.count_for_write(seat);
                 Payment::Paid
             }

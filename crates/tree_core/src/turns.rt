@@ -25,7 +25,6 @@ ghost use Rattle.tree_core.specs.Turning.{IsEven, MayCount, TakesTurn, counted_b
 
 use crate::Core;
 use blsm_model::Why;
-use core_lists::turns_land;
 use core_moves::Held;
 use disk_trait::Disk;
 use page_file::Broken;
@@ -208,7 +207,6 @@ impl<D: Disk + Drop> Core<D> {
             count(&mut self.held.book, seat, is_worker, Turned::Closed, 0);
             return Turned::Closed;
         }
-        turns_land();
         let choice = choose(&self.held, is_worker);
         let made = make(&mut self.held, &mut self.disk, seat, choice);
         let (ended, quanta) = end(&mut self.held.book, self.disk.faults(), choice, made);

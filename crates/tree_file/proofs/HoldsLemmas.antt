@@ -24,7 +24,8 @@ use Rattle.catalog_swap.proofs.FileLemmas.{newest_same, slots_apart}
 use Rattle.store_file.specs.Layout.{IsStoreOf, superblock_length}
 use Rattle.store_file.proofs.LayoutLaws.{store_apart}
 use Rattle.tree_file.specs.Tree.{Tree, HoldsTree, live_pages}
-use Rattle.tree_file.specs.Places.{ReadsNext, IsBesideBody, IsBeside, body_region}
+use Rattle.tree_file.specs.Places.{ReadsNext}
+use Rattle.tree_file.proofs.Terms.{IsBesideBody, IsBeside, body_region}
 
 -- ---- what a file has of a tree, whatever its slots say
 

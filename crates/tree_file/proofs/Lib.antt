@@ -1,3 +1,4 @@
+pub mod Terms
 pub mod HoldsLemmas
 pub mod StandLemmas
 pub mod OneTree

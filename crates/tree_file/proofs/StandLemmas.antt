@@ -25,8 +25,9 @@ use Rattle.catalog_swap.specs.Slots.{AreSameSlots, slot_of, other_slot, slot_len
 use Rattle.catalog_swap.specs.Swap.{spare_start, prepared, IsSettled, IsPrepared, IsReady, IsNext, IsEither}
 use Rattle.catalog_swap.proofs.FileLemmas.{settled_only, settled_apart, settled_each, ready_prepared}
 use Rattle.tree_file.specs.Tree.{Tree, HoldsTree, live_pages}
-use Rattle.tree_file.specs.Places.{IsBesideBody, IsBeside, HoldsEither, StandsOn, StandsOnEither, Stays, Becomes, ReadsNext, KeepsRoles, TurnsRoles, appended_a, appended_b}
+use Rattle.tree_file.specs.Places.{HoldsEither, StandsOn, StandsOnEither, Becomes, ReadsNext, KeepsRoles, TurnsRoles, appended_a, appended_b}
 use Rattle.tree_file.proofs.HoldsLemmas.{HasBody, body_holds, body_beside, holds_beside_body, holds_beside, beside_within, beside_both, head_beside, lane_beside, lane_pages, lane_slots, pages_after, reads_next_beside, roles_of, Role, as_a, as_b, lane_of, entries_in, with_entries, has_entries, entries_changed, same_entries}
+use Rattle.tree_file.proofs.Terms.{IsBesideBody, IsBeside, Stays}
 
 -- ---- beside the tree: a quantum of a merge, the end of a run
 

@@ -1,41 +1,17 @@
 -- Where a tree stands in its file, and the trees that a write leaves.
-use Rattle.std.specs.Prelude.{◌≡◌, ◌⊎◌, ℕ, ◌<◌, Bool, List, [], ◌∷◌, ◌++◌, IsTrue, nat_eq}
+use Rattle.std.specs.Prelude.{◌≡◌, ◌⊎◌, ℕ, Bool, List, [], ◌∷◌, ◌++◌, IsTrue, nat_eq}
 use Rattle.std.specs.List.{IsDistinct}
 use Rattle.disk_trait.specs.Disk.{DiskState}
 use Rattle.disk_trait.specs.Moments.{LeavesOnly}
-use Rattle.disk_trait.specs.Region.{Region, span, AreApart}
 use Rattle.blsm_model.specs.Sizes.{Sizes}
-use Rattle.blsm_model.specs.Geometry.{file_length}
 use Rattle.blsm_model.specs.Lanes.{a_of, b_of, spare_of}
 use Rattle.blsm_model.specs.declared.key.Key.{Key}
 use Rattle.record_delta.specs.declared.record.Rec.{Rec}
 use Rattle.page_file.specs.Component.{RunPage, ReadsAs, entries_of}
-use Rattle.page_file.specs.File.{pages_region}
-use Rattle.gated_log.specs.Lane.{lane_region}
 use Rattle.catalog_swap.specs.declared.catalog.Catalog.{Catalog}
-use Rattle.catalog_swap.specs.Slots.{slot_of, slot_length}
 use Rattle.catalog_swap.specs.Swap.{IsSettled}
-use Rattle.store_file.specs.Layout.{superblock_length}
 use Rattle.tree_machine.specs.Layers.{AreBases}
 use Rattle.tree_file.specs.Tree.{Tree, HoldsTree, live_pages}
-
--- what opening reads of the tree, but for the slots: the superblock, both lanes, and the pages of the components
-abbrev pub body_region : Sizes → Tree → Region
-body_region sizes tree =
-    λ i. span 0 superblock_length i
-    ⊎ (lane_region sizes (a_of tree.catalogue.lanes) i
-    ⊎ (lane_region sizes (b_of tree.catalogue.lanes) i
-    ⊎ pages_region sizes (live_pages tree) i))
-
--- a region of the file in which bytes may change and the tree's body stays
-pub record IsBesideBody (sizes : Sizes) (tree : Tree) (region : Region) : Type 0 where
-  pub apart : AreApart region (body_region sizes tree)
-  pub inside : (i : ℕ) → region i → i < file_length sizes
-
--- and the slots, too
-pub record IsBeside (sizes : Sizes) (tree : Tree) (region : Region) : Type 0 where
-  pub body : IsBesideBody sizes tree region
-  pub slots : (version : ℕ) → AreApart region (span (slot_of version) slot_length)
 
 -- with one entry more in lane A, or in lane B
 abbrev pub appended_a : Key × Rec → Tree → Tree
@@ -81,12 +57,6 @@ pub record ReadsNext (sizes : Sizes) (next : Tree) (file : List ℕ) : Type 0 wh
   pub c2 : ReadsAs sizes next.catalogue.c2 next.c2 file
   pub apart : IsDistinct nat_eq (live_pages next)
   pub bases : AreBases (entries_of next.c2)
-
--- What a run of calls leaves of a tree that stood: the tree, at each moment and as the disk reads; once it is done, it stands.
-pub record Stays (sizes : Sizes) (tree : Tree) (done : Bool) (old new : DiskState) : Type 0 where
-  pub each : LeavesOnly old new (HoldsTree sizes tree)
-  pub reads : HoldsTree sizes tree new.bytes
-  pub stands : IsTrue done → StandsOn sizes tree new
 
 -- One tree becomes another: at each moment, and now, there is the one or the other; once it is done, the other stands.
 pub record Becomes (sizes : Sizes) (one other : Tree) (done : Bool) (old new : DiskState) : Type 0 where

@@ -136,6 +136,7 @@ impl LoggedTables {
     ///
     /// After an `Err`, whose cause is a fault of the disk, the tables are as they were, and nobody knows whether the lane has the entry: the
     /// disk is to be opened again.
+    /// A clause each for what is in memory, for the lists of an honest disk, for the calls and the faults.
     pub fn append<D: Disk>(
         &mut self,
         disk: &mut D,

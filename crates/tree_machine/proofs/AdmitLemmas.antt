@@ -26,7 +26,7 @@ use Rattle.record_delta.specs.declared.record.Rec.{Rec}
 use Rattle.record_delta.specs.Records.{weight, record_of}
 use Rattle.record_delta.specs.Entries.{AreSorted, entries_weight, with_record}
 use Rattle.tree_machine.specs.Lists.{Lists, memory_weight}
-use Rattle.tree_machine.specs.Layers.{IsPassCounted, IsDeepCounted, Carries, HasWay}
+use Rattle.tree_machine.specs.Layers.{IsPassCounted, IsDeepCounted, HasWay}
 use Rattle.tree_machine.specs.Merges.{Merge}
 use Rattle.tree_machine.specs.Machine.{Machine, in_pass, charge, memory_charge}
 use Rattle.tree_machine.specs.Moves.{goes_to_a, with_write, take_write, with_peak, note, stop}
@@ -38,6 +38,7 @@ use Rattle.tree_machine.proofs.WriteLemmas.{write_layered, value_in-write, behin
 use Rattle.tree_machine.proofs.WeightLemmas.{weight_with, weight_of_record}
 use Rattle.tree_machine.proofs.ToldLemmas.{some_or_none, note_told, stop_told, none_fails}
 use Rattle.tree_machine.proofs.StandLemmas.{entry_of, IsReadyFor, note_stands, quiet_ready, running_told, unless_stands}
+use Rattle.tree_machine.proofs.Terms.{Carries}
 
 -- ---- moves of the merges
 

@@ -7,7 +7,7 @@ use Rattle.std.proofs.lemmas.Bool.{leb-true}
 use Rattle.blsm_model.specs.Geometry.{c1_mark}
 use Rattle.record_delta.specs.Entries.{Entries, entries_weight, up_to}
 use Rattle.gear_sched.specs.Gears.{deep_is_behind}
-use Rattle.tree_machine.specs.Layers.{IsSound, Carries, HasWay}
+use Rattle.tree_machine.specs.Layers.{IsSound, HasWay}
 use Rattle.tree_machine.specs.Machine.{Machine, pass_done, deep_done, in_deep, in_pass}
 use Rattle.tree_machine.specs.Moves.{begin_pass, rotate, rotate_alone, swap_pass, swap_deep, end_pass, output_of, pass_quantum, deep_quantum}
 use Rattle.tree_machine.specs.Steps.{SwapDeep, SwapPass, DeepQuantum, PassQuantum, Begin, Rotate, Rest, choice, chosen, deep_swapped, pass_swapped, swapped, pass_begun_for, ready_for}
@@ -15,6 +15,7 @@ use Rattle.tree_machine.proofs.LayerLemmas.{begin_keeps, pass_quantum_keeps, dee
 use Rattle.tree_machine.proofs.LightLemmas.{light_append, light_groups, light_settled}
 use Rattle.tree_machine.proofs.QuantumLemmas.{quantum_weighs}
 use Rattle.tree_machine.proofs.WeightLemmas.{pass_output_light, deep_output_light}
+use Rattle.tree_machine.proofs.Terms.{Carries}
 
 pub carries_itself : (m : Machine) → IsSound m → Carries m m
 carries_itself m sound = grind (arith, common_steps, nat_tests)
@@ -47,6 +48,7 @@ deep_quantum_carries m seat sound = grind (arith, common_steps, nat_tests, deep_
 pub swap_deep_carries : (m : Machine) → IsSound m → deep_done m ≡ true → Carries m (swap_deep m)
 swap_deep_carries m sound done = grind (arith, common_steps, nat_tests, swap_deep_keeps, deep_output_light)
 
+-- the swap that ends a pass drops table A and loses nothing
 pub end_pass_carries : (m : Machine) → IsSound m → pass_done m ≡ true → Carries m (end_pass m)
 end_pass_carries m sound done = grind (arith, common_steps, nat_tests, end_pass_keeps, pass_output_light)
 

@@ -21,7 +21,7 @@ use Rattle.tree_machine.specs.Moves.{with_peak, stop}
 use Rattle.tree_machine.specs.Steps.{Outcome, Well, FailedAfter, Broken, NoRoom, Stepped, replied, unless_stopped, swaps_due, admit, admit_fitting, deep_swapped, ready_for, taken_once, reply_unless, do_hold, do_next, holding, pay, work_turn, worker_turn}
 use Rattle.tree_machine.specs.Plays.{stepped_as}
 use Rattle.tree_machine.specs.Layers.{IsSound}
-use Rattle.tree_machine.specs.Laws.{IsVersion}
+use Rattle.tree_machine.proofs.Terms.{IsVersion}
 
 -- ---- the merges' moves
 

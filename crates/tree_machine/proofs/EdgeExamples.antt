@@ -10,12 +10,12 @@ use Rattle.record_delta.specs.declared.record.Rec.TheVariants.{Base}
 use Rattle.gear_sched.specs.Gears.{GearState, at_rest, forgives_first, first_debt, took_first, deep_is_behind}
 use Rattle.tree_machine.specs.Machine.{Machine, opened, in_pass}
 use Rattle.tree_machine.specs.Steps.{Outcome, Well, admit}
-use Rattle.tree_machine.specs.Frames.{turns_of}
 use Rattle.tree_machine.specs.Plays.{may, played}
 use Rattle.tree_machine.specs.Outcomes.{calls, reads}
 use Rattle.tree_machine.specs.declared.step.Step.{Step}
 use Rattle.tree_machine.specs.declared.step.Kind.TheVariants as kind
 use Rattle.tree_machine.proofs.ExampleWords.{run}
+use Rattle.tree_machine.proofs.Terms.{turns_of}
 
 -- C1's mark is 80 here, its way 60, the capacity 160, and 140 without the half spring
 abbrev tiny : Sizes

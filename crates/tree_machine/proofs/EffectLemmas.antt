@@ -25,7 +25,8 @@ use Rattle.tree_machine.specs.Moves.{with_peak, note, stop}
 use Rattle.tree_machine.specs.Steps.{Outcome, Well, FailedAfter, Broken, NoRoom, Stepped, choice, chosen, replied, unless_stopped, swaps_due, admit, admit_fitting, deep_swapped, ready_for, taken_once, reply_unless, hold, do_hold, next_rows, do_next, drop_hold, holding, pay, do_turn, work_turning, work_turn, worker_turn, work_end, leave}
 use Rattle.tree_machine.specs.Plays.{stepped_as}
 use Rattle.tree_machine.specs.Layers.{IsSound, HasWay}
-use Rattle.tree_machine.specs.Effects.{LeavesAll, LeaveAll, MergeStands, Rests, TakesQuantum}
+use Rattle.tree_machine.specs.Effects.{LeavesAll, LeaveAll}
+use Rattle.tree_machine.proofs.Terms.{MergeStands, Rests, TakesQuantum}
 
 -- ---- refusals
 
@@ -151,6 +152,7 @@ hold_works m seat low high outcome = grind (arith, common_steps, nat_tests)
 next_works : (m : Machine) (seat n : ℕ) (outcome : Outcome) (held : Option (List Row)) → Works seat m (do_next m seat n outcome held).state
 next_works m seat n outcome held = grind (arith, common_steps, nat_tests)
 
+-- A step does one quantum, of one merge, or none. What it doesn't take a quantum of stands, or it was done and is swapped in, or it begins.
 pub step_works : (m : Machine) (seat : ℕ) (k : Kind) (outcome : Outcome) → IsSound m → HasWay m → Rests m (stepped_as m seat k outcome).state ⊎ TakesQuantum seat m (stepped_as m seat k outcome).state
 step_works m seat (kind.Admit op) outcome sound way = admit_works m seat op outcome sound way
 step_works m seat kind.Pay outcome sound way = pay_works m seat outcome

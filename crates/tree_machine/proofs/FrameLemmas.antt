@@ -31,8 +31,8 @@ use Rattle.tree_machine.specs.Steps.{Choice, SwapDeep, SwapPass, DeepQuantum, Pa
 use Rattle.tree_machine.specs.Plays.{stepped_as, may, is_help}
 use Rattle.tree_machine.proofs.FoldLemmas.{both_hold, both}
 use Rattle.blsm_model.specs.Facts.{Follows}
-use Rattle.tree_machine.specs.Frames.{facts_of, turns_of}
 use Rattle.tree_machine.proofs.GrowLemmas.{notes, step_grows}
+use Rattle.tree_machine.proofs.Terms.{facts_of, turns_of}
 
 -- What a step of one seat leaves to the others, with at most so many quanta more.
 pub record Apart (seat more : ℕ) (old new : Machine) : Type 0 where
@@ -281,6 +281,8 @@ step_stays m seat k outcome why h1 = grind (arith, common_steps, nat_tests)
 worker_turns : (m : Machine) (seat : ℕ) (k : Kind) → may m seat k ≡ true → is_help k ≡ true → callers ≤ seat
 worker_turns m seat k h1 h2 = grind (arith, common_steps, nat_tests)
 
+-- A step notes at most one entry, of its seat, and does at most one quantum; the peak never falls, and a closed tree stays closed. Nothing
+-- of another seat changes, but that its debts may fall.
 pub step_follows : (m : Machine) (seat : ℕ) (k : Kind) (outcome : Outcome) → may m seat k ≡ true → Follows seat (facts_of m) (facts_of (stepped_as m seat k outcome).state)
 step_follows m seat k outcome ok =
     let new = (stepped_as m seat k outcome).state in

@@ -143,6 +143,7 @@ of_room room seat rows ok = ltb-true 0 (slice_index room.entries seat) (both_hol
 noting : (m : Machine) (seat rows : ℕ) → may_note seat rows m ≡ true → 0 < slice_index m.book.room.entries seat
 noting m seat rows ok = of_room m.book.room seat rows (both_hold (is_caller seat) (has_room m.book.room seat rows) (both_hold (is_caller seat && has_room m.book.room seat rows) (is_between seat m) ok).0).1
 
+-- an entry takes its room: the entries and the room for more are always as many
 pub step_room : (m : Machine) (seat : ℕ) (k : Kind) (outcome : Outcome) → may m seat k ≡ true
     → length (stepped_as m seat k outcome).state.book.entries + sum (stepped_as m seat k outcome).state.book.room.entries ≡ length m.book.entries + sum m.book.room.entries
 step_room m seat (kind.Admit op) outcome ok =

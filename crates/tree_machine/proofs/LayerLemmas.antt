@@ -8,11 +8,12 @@ use Rattle.record_delta.specs.declared.record.Rec.{Rec}
 use Rattle.record_delta.specs.Records.{settled}
 use Rattle.record_delta.specs.Entries.{over_any, record_of_key, settled_entries}
 use Rattle.tree_machine.specs.Merges.{Merge, quantum_of}
-use Rattle.tree_machine.specs.Layers.{IsPassOver, IsDeepOver, AreLayered, as_base, as_it_is, Keeps}
+use Rattle.tree_machine.specs.Layers.{IsPassOver, IsDeepOver, AreLayered, as_base, as_it_is}
 use Rattle.tree_machine.specs.Machine.{Machine, pass_is_done, deep_is_done, pass_done, deep_done}
 use Rattle.tree_machine.specs.Moves.{begin_pass, rotate, swap_deep, end_pass, output_of, pass_quantum, deep_quantum, pass_quantum_of, deep_quantum_of}
 use Rattle.tree_machine.proofs.FoldLemmas.{over_any_assoc}
 use Rattle.tree_machine.proofs.MergeLemmas.{still_behind, written_as_it_is, written_as_base, groups_sorted, groups_ahead, quantum_keeps, done_folds}
+use Rattle.tree_machine.proofs.Terms.{Keeps}
 
 -- ---- what a key has in five lists
 

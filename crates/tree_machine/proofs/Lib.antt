@@ -1,3 +1,4 @@
+pub mod Terms
 mod ExampleWords
 mod RunExamples
 mod FaultExamples

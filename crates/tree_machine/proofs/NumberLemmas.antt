@@ -66,6 +66,7 @@ module _ (merge : Merge) (newer older : Entries) (sorted_newer : AreSorted newer
 
 -- ---- of the machine
 
+-- A merge is done just where it has taken the weight of its inputs, and what it wrote weighs no more than it took.
 pub pass_taken_when_done : (m : Machine) → IsSound m → pass_done m ≡ true → m.gears.pass_taken ≡ entries_weight m.lists.a + entries_weight m.lists.c1
 pass_taken_when_done m sound done = grind (arith, common_steps, nat_tests, done_weighs)
 

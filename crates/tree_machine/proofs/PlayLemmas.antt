@@ -34,6 +34,7 @@ of_replicate (suc n) (suc i) d = of_replicate n i d
 abbrev at_opening : Entries → Entries → Lists
 at_opening c1 c2 = record { b = []; a = []; c1 = c1; c1x = []; c2 = c2 }
 
+-- The opening stands for the map of its components.
 pub opened_stands : (sizes : Sizes) (c1 c2 : Entries) (catalogue : Catalogue) (faults : ℕ) (room : Room) → AreSorted c1 → AreSorted c2 → AreLight c1 → AreLight c2
     → Stands (map_in (record { b = []; a = []; c1 = c1; c1x = []; c2 = c2 })) (opened sizes c1 c2 catalogue faults room)
 opened_stands sizes c1 c2 catalogue faults room sorted_1 sorted_2 light_1 light_2 = record {

@@ -164,6 +164,7 @@ hold_settles m seat low high outcome h1 = grind (arith, common_steps, nat_tests)
 next_settles : (m : Machine) (seat n : ℕ) (outcome : Outcome) (held : Option (List Row)) → AreSettled m → AreSettled (do_next m seat n outcome held).state
 next_settles m seat n outcome held h1 = grind (arith, common_steps, nat_tests)
 
+-- C2 keeps bases only, and C1' isn't empty while a deep merge runs
 pub step_settles : (m : Machine) (seat : ℕ) (k : Kind) (outcome : Outcome) → IsSound m → 0 < c1_mark m.gears.sizes → AreSettled m → AreSettled (stepped_as m seat k outcome).state
 step_settles m seat (kind.Admit op) outcome sound mark s = admit_settles m seat op outcome sound mark s
 step_settles m seat kind.Pay outcome sound mark s = pay_settles m seat outcome s

@@ -91,6 +91,7 @@ caller_below seat is = ltb-true seat callers is
 noting_below : (m : Machine) (seat rows : ℕ) → may_note seat rows m ≡ true → seat < callers
 noting_below m seat rows is = caller_below seat (both_hold (is_caller seat) (has_room m.book.room seat rows) (both_hold (is_caller seat && has_room m.book.room seat rows) (is_between seat m) is).0).0
 
+-- each step that may be made keeps what the machine stands for: its answer is legal, its map that of the history
 pub step_stands : (opening : List (Key × Value)) (m : Machine) (seat : ℕ) (k : Kind) (outcome : Outcome) → Stands opening m → may m seat k ≡ true → HasWay m → WritesFit k
     → Stands opening (stepped_as m seat k outcome).state
 step_stands opening m seat (kind.Admit op) outcome stands ok way fit = admit_stands opening m seat op outcome stands way (both_hold (is_write op) (may_note seat 0 m) (both_hold (is_write op && may_note seat 0 m) (is_even seat m) ok).0).0 fit

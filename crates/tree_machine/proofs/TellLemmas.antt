@@ -2,7 +2,7 @@
 use Rattle.std.proofs.Common.{◌≡◌, ◌⊎◌, inl, inr, refl, ap, sym, subst, ◌∙◌, ℕ, ◌+◌, ◌≤◌, Bool, cond, true, false, not, List, [], ◌∷◌, ◌++◌, Option, Some, None, arith}
 use Rattle.std.proofs.lemmas.Grind.{common_steps}
 use Rattle.std.proofs.lemmas.Bool.Decides.{nat_tests}
-use Rattle.std.specs.Prelude.{◌==◌, nat_lt, unwrap_or, slice_set, slice_index_or}
+use Rattle.std.specs.Prelude.{◌==◌, nat_lt, unwrap_or, slice_set, slice_index_or, IsTrue}
 use Rattle.std.specs.List.{AllByRecursion}
 use Rattle.blsm_model.specs.declared.key.Key.{Key}
 use Rattle.blsm_model.specs.declared.row.Row.{Row}
@@ -30,10 +30,11 @@ use Rattle.tree_machine.specs.Machine.{Machine, WorkSoFar, no_work, is_closed, c
 use Rattle.tree_machine.specs.Moves.{pass_quantum, deep_quantum, with_peak, note, stop}
 use Rattle.tree_machine.specs.Steps.{Outcome, Well, FailedAfter, Broken, NoRoom, Stepped, Choice, DeepQuantum, PassQuantum, choice, chosen, ended_as, replied, unless_stopped, swaps_due, one_if, admit, admit_fitting, deep_swapped, ready_for, taken_once, reply_unless, do_hold, do_next, holding, forgive, pay, pay_running, pay_planned, do_pay, do_turn, work_turning, worker_turning, with_turn, work_turn, worker_turn, work_end, leave}
 use Rattle.tree_machine.specs.Plays.{may_step, stepped, stepped_as, played, played_one}
-use Rattle.tree_machine.specs.Outcomes.{Rose, last_count, IsPossible, AreTold, is_failed_lookup, faults_told, is_damaged, is_bad_page, is_by_page, is_broken, FindsNone, FaultsAreCounted, StopsNameMore, NoneDamaged, ReachesOnBy}
+use Rattle.tree_machine.specs.Outcomes.{Rose, last_count, IsPossible, AreTold, is_failed_lookup, faults_told, is_damaged, is_by_page, is_broken, NoneBroken}
 use Rattle.tree_machine.proofs.ToldLemmas.{some_or_none}
 use Rattle.tree_machine.proofs.GrowLemmas.{taken_book, ready_book, pass_quantum_book, deep_quantum_book}
 use Rattle.blsm_model.proofs.LookLemmas.{look_answers}
+use Rattle.tree_machine.proofs.Terms.{is_bad_page, FindsNone, IsReachedBy}
 
 abbrev is_failed : Outcome → Bool
 is_failed (FailedAfter commits faults) = true
@@ -212,7 +213,8 @@ one_faults m made old mid le possible = by (may_step m made.0) refl
     by true is = of made.1 (possible is) (step_faults m made.0.seat made.0.kind made.1)
     by false is = inl (omega (arith, le))
 
-pub faults_are_counted : FaultsAreCounted
+pub faults_are_counted : (m : Machine) (old new : ℕ) (steps : List (Step × Outcome)) → new ≤ last_count → AreTold m old steps new
+    → (faults_told (played m steps) + old ≤ faults_told m + new) ⊎ (new ≡ last_count)
 faults_are_counted m old new [] within told = inl (omega (arith, told))
 faults_are_counted m old new (made ∷ steps) within told = both_parts (one_faults m made old told.0 told.1 told.2) (faults_are_counted (played_one m made) told.0 new steps within told.3)
   where
@@ -349,7 +351,8 @@ step_finds m seat k outcome whole f = by (step_tells m seat k outcome)
     by (inl q) = quiet q
     by (inr s) = stops s
 
-pub none_damaged : NoneDamaged
+-- where no page was found damaged, nothing tells of one
+pub none_damaged : (m : Machine) (steps : List (Step × Outcome)) → FindsNone m → NoneBroken steps → FindsNone (played m steps)
 none_damaged m [] f whole = f
 none_damaged m (made ∷ steps) f whole = none_damaged (played_one m made) steps (by (may_step m made.0)) whole.1
   where
@@ -367,7 +370,9 @@ told_on : (m : Machine) (old mid new : ℕ) (steps : List (Step × Outcome)) (ma
 told_on m old mid new [] made told le possible = (new, omega (arith, told, le), λ ok. possible_from m made.0.seat made.0.kind made.1 old mid new told (possible ok), omega arith)
 told_on m old mid new (first ∷ steps) made told le possible = (told.0, told.1, told.2, told_on (played_one m first) told.0 mid new steps made told.3 le possible)
 
-pub reaches_on_by : ReachesOnBy
+-- a state that is reached so leads by each possible step to one that is
+pub reaches_on_by : (start m : Machine) (old mid new : ℕ) (step : Step) (outcome : Outcome) → IsReachedBy start old m mid → IsTrue (may_step m step) → mid ≤ new
+    → IsPossible m step.seat step.kind outcome mid new → IsReachedBy start old (played_one m (step, outcome)) new
 reaches_on_by start m old mid new step outcome reached ok le possible = (
   reached.0 ++ (step, outcome) ∷ [],
   told_on start old mid new reached.0 (step, outcome) reached.1 le (λ may_be. subst (λ n. IsPossible n step.seat step.kind outcome mid new) (sym reached.2) possible),
@@ -387,7 +392,7 @@ played_stays m (made ∷ steps) cause is = played_stays (played_one m made) step
     by : (b : Bool) → (cond b (stepped m made.0 made.1).state m).stopped ≡ Some cause
     by b = grind (arith, common_steps, nat_tests)
 
-pub stops_name_more : StopsNameMore
+pub stops_name_more : (m : Machine) (old new faults : ℕ) (steps : List (Step × Outcome)) → AreTold m old steps new → m.stopped ≡ None → (played m steps).stopped ≡ Some (why.Faulted faults) → Rose old faults
 stops_name_more m old new faults [] told none is = absurd (some_or_none m.stopped (why.Faulted faults) is none)
 stops_name_more m old new faults (made ∷ steps) told none is = by (may_step m made.0) refl (λ none_then. rose_on old told.0 faults told.1 (stops_name_more (played_one m made) told.0 new faults steps told.3 none_then is))
   where

@@ -16,7 +16,7 @@ use Rattle.gear_sched.specs.declared.Plan.{Plan}
 use Rattle.gear_sched.specs.declared.Plan.TheVariants.{Snow, Deep, Nothing}
 use Rattle.record_delta.specs.Entries.{entries_weight}
 use Rattle.tree_machine.specs.Lists.{memory_weight}
-use Rattle.tree_machine.specs.Layers.{Carries, HasWay}
+use Rattle.tree_machine.specs.Layers.{HasWay}
 use Rattle.tree_machine.specs.Machine.{Machine, WorkSoFar, work_of, is_closed}
 use Rattle.tree_machine.specs.Moves.{stop, pass_quantum, deep_quantum}
 use Rattle.tree_machine.specs.Steps.{Outcome, Well, FailedAfter, Broken, NoRoom, Choice, choice, chosen, ended_as, forgive, count_for_write, do_pay, pay_planned, pay_forgiven, pay_running, pay, Turning, do_turn, work_turning, worker_turning, with_turn, is_idle, work_noted, work_turn, worker_turn}
@@ -24,6 +24,7 @@ use Rattle.tree_machine.specs.Stands.{AreWorks, Stands, work_at, is_failing}
 use Rattle.tree_machine.proofs.CarryLemmas.{chosen_carries, pass_quantum_carries, deep_quantum_carries}
 use Rattle.tree_machine.proofs.ToldLemmas.{none_is_some, stop_told}
 use Rattle.tree_machine.proofs.AdmitLemmas.{carries_stands}
+use Rattle.tree_machine.proofs.Terms.{Carries}
 
 -- ---- a stop without an entry
 

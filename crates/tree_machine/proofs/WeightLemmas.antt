@@ -67,6 +67,7 @@ weight_settled (e ∷ es) = omega (arith, settle_weight e.0 e.1 (settled_entries
 
 -- ---- what a merge that is done has written
 
+-- once it is done it has written the fold of its whole inputs, or the values of that fold
 pub pass_output : (newer older : Entries) (merge : Merge) → AreSorted newer → AreSorted older → IsMergeOf as_it_is newer older merge → is_done merge newer older ≡ true
     → merge.output ≡ folded_over newer older
 pass_output newer older merge sorted_newer sorted_older is done =

@@ -75,6 +75,7 @@ to_b key rec lists = record { b = with_record key rec lists.b; a = lists.a; c1 =
 pass_over_write : (key : Key) (rec : Rec) (lists : Lists) (pass : Option Merge) → IsPassOver lists pass → IsPassOver (with_write pass key rec lists) pass
 pass_over_write key rec lists pass h1 = grind (arith, common_steps, nat_tests, by_test, kept_behind, behind_put)
 
+-- either way the layers stay in order, and the record stands over all that the lists had of its key
 pub write_layered : (key : Key) (rec : Rec) (lists : Lists) (merges : Merges) → AreLayered lists merges → AreLayered (with_write merges.pass key rec lists) merges
 write_layered key rec lists merges layered = grind (arith, common_steps, nat_tests, pass_over_write, sorted_with_record)
 
@@ -124,6 +125,7 @@ stands_write write h1 h2 = grind (arith, common_steps, nat_tests, stands_put, st
 over_as_kept : (b : Bool) (rec : Rec) (kept : Option Rec) → over_any (cond b (Some rec) None) kept ≡ cond b (Some (rec_over rec kept)) kept
 over_as_kept b rec kept = grind (arith, common_steps, nat_tests)
 
+-- after a write each key has the value with the write
 pub value_in-write : (write : Write) (lists : Lists) (pass : Option Merge) (writes : List Write) → added_count write < 2 ^ 64 → TailFits write → IsPassOver lists pass
     → ((q : Key) → value_in lists q ≡ value_at writes q) → (q : Key) → value_in (with_write pass (key_of write) (record_of write) lists) q ≡ value_at (writes ++ write ∷ []) q
 value_in-write write lists pass writes fits tail over stood q = grind (arith, common_steps, nat_tests, record_at-write, over_as_kept, same_as_tie, stands_write)

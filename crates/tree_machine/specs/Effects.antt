@@ -1,14 +1,14 @@
 -- What a step leaves as it was, and which merge a quantum moves.
-use Rattle.std.specs.Prelude.{◌≡◌, ◌⊎◌, ◌+◌, ◌-◌, ℕ, Bool, true, false, Option, Some, None, IsTrue}
+use Rattle.std.specs.Prelude.{◌≡◌, ◌+◌, ◌-◌, ℕ, Bool, true, false, Option, Some, IsTrue}
 use Rattle.blsm_model.specs.declared.key.Key.{Key}
 use Rattle.blsm_model.specs.declared.op.Op.{Op}
 use Rattle.blsm_model.specs.declared.op.Op.TheVariants.{Hold, Next, Release}
 use Rattle.blsm_model.specs.declared.history.Reply.{Reply}
 use Rattle.blsm_model.specs.declared.history.Reply.TheVariants.{Done, Is, Absent, NoHold, Full, NoMemory, Fault, Damaged, Stopped}
 use Rattle.record_delta.specs.Entries.{Entries, entries_weight, up_to}
-use Rattle.tree_machine.specs.Merges.{Merge, begun}
-use Rattle.tree_machine.specs.Machine.{Machine, pass_done, deep_done}
-use Rattle.tree_machine.specs.Moves.{note, count_quantum, pass_quantum, deep_quantum}
+use Rattle.tree_machine.specs.Merges.{Merge}
+use Rattle.tree_machine.specs.Machine.{Machine}
+use Rattle.tree_machine.specs.Moves.{note}
 use Rattle.tree_machine.specs.Steps.{Outcome, Answer, Replied, Stepped, admit, look, hold, next_rows, drop_hold}
 
 -- ---- refusals
@@ -40,24 +40,6 @@ pub record LeaveAll (m : Machine) (seat : ℕ) (outcome : Outcome) : Type 0 wher
   pub hold : (low high : Key) → LeavesAll m seat (Hold low high) (hold m seat low high outcome)
   pub next : (n : ℕ) → LeavesAll m seat (Next n) (next_rows m seat n outcome)
   pub drop : LeavesAll m seat Release (drop_hold m seat)
-
--- ---- quanta
-
--- The merge stands; or, where it was done or didn't run, none runs afterwards, or one that has taken nothing.
-abbrev pub MergeStands : Bool → Option Merge → Option Merge → Type 0
-MergeStands done old new = (new ≡ old) ⊎ ((IsTrue done ⊎ (old ≡ None)) × ((new ≡ None) ⊎ (new ≡ Some begun)))
-
--- no quantum is done: both merges stand
-pub record Rests (old new : Machine) : Type 0 where
-  pub quanta : new.seats.quanta ≡ old.seats.quanta
-  pub pass : MergeStands (pass_done old) old.merges.pass new.merges.pass
-  pub deep : MergeStands (deep_done old) old.merges.deep new.merges.deep
-
--- one quantum is done, for the seat, of one merge; the lists and the other merge stand
-pub record TakesQuantum (seat : ℕ) (old new : Machine) : Type 0 where
-  pub quanta : new.seats.quanta ≡ (count_quantum seat old.seats).quanta
-  pub lists : new.lists ≡ old.lists
-  pub merge : (new.merges ≡ (pass_quantum seat old).merges) ⊎ (new.merges ≡ (deep_quantum seat old).merges)
 
 -- ---- work
 

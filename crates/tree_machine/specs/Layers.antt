@@ -6,10 +6,10 @@ use Rattle.record_delta.specs.declared.record.Rec.{Rec}
 use Rattle.record_delta.specs.declared.record.Rec.TheVariants.{Base}
 use Rattle.record_delta.specs.Records.{settled, IsWithin}
 use Rattle.record_delta.specs.Entries.{AreSorted, Entries, entries_weight, is_above, over_any, record_of_key, up_to}
-use Rattle.tree_machine.specs.Lists.{Lists, value_in, memory_weight}
+use Rattle.tree_machine.specs.Lists.{Lists, memory_weight}
 use Rattle.tree_machine.specs.Merges.{Merge, is_empty}
 use Rattle.blsm_model.specs.Geometry.{c1_mark}
-use Rattle.tree_machine.specs.Machine.{Machine, Merges, in_deep, pass_done, deep_done, memory_charge, charge}
+use Rattle.tree_machine.specs.Machine.{Machine, Merges, in_deep, pass_done, deep_done, memory_charge}
 use Rattle.tree_machine.specs.Moves.{output_of}
 
 -- no key of the list is ahead of the cursor
@@ -48,15 +48,6 @@ pub record AreLayered (lists : Lists) (merges : Merges) : Type 0 where
   pub pass : IsPassOver lists merges.pass
   pub deep : IsDeepOver lists merges.deep
 
--- each key has the value that it had
-abbrev pub KeepsValues : Lists → Lists → Type 0
-KeepsValues old new = (key : Key) → value_in new key ≡ value_in old key
-
--- The lists keep their order and every key its value.
-pub record Keeps (old new : Machine) : Type 0 where
-  pub layered : AreLayered new.lists new.merges
-  pub values : KeepsValues old.lists new.lists
-
 -- no deep merge is cut off: where a pass is done whose C1 is to be rotated, none runs, or it is done too
 abbrev pub HasWay : Machine → Type 0
 HasWay m = IsTrue (pass_done m) → c1_mark m.gears.sizes ≤ entries_weight (output_of m.merges.pass) → IsTrue (not (in_deep m) || deep_done m)
@@ -93,18 +84,6 @@ pub record IsSound (m : Machine) : Type 0 where
   pub charged : memory_weight m.lists ≤ memory_charge m
   pub pass : IsPassCounted m.lists.a m.lists.c1 m.gears.pass m.gears.pass_c1 m.gears.pass_memory m.gears.pass_admitted m.gears.pass_taken m.merges.pass
   pub deep : IsDeepCounted m.lists.c1x m.lists.c2 m.gears.deep m.gears.deep_input m.gears.deep_admitted m.gears.deep_taken m.merges.deep
-
--- What a merge's move leaves: the value of every key, the history, the holds, the callers' work. The charge doesn't rise.
-pub record Carries (old new : Machine) : Type 0 where
-  pub sound : IsSound new
-  pub values : KeepsValues old.lists new.lists
-  pub charge : charge new ≤ charge old
-  pub sizes : new.gears.sizes ≡ old.gears.sizes
-  pub book : new.book ≡ old.book
-  pub holds : new.holds ≡ old.holds
-  pub work : new.seats.work ≡ old.seats.work
-  pub opening : new.counts.charge ≡ old.counts.charge
-  pub stopped : new.stopped ≡ old.stopped
 
 abbrev pub IsBase : Rec → Type 0
 IsBase (Base value) = ⊤

@@ -6,7 +6,5 @@ pub mod Layers
 pub mod Steps
 pub mod Stands
 pub mod Effects
-pub mod Frames
 pub mod Plays
 pub mod Outcomes
-pub mod Laws

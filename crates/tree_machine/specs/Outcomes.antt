@@ -1,5 +1,5 @@
 -- Which outcomes a step may have, and what a list of steps tells of the disk's faults and pages.
-use Rattle.std.specs.Prelude.{◌≡◌, ◌⊎◌, ⊤, ℕ, ◌+◌, ◌-◌, ◌<◌, ◌≤◌, ◌^◌, ◌==◌, Bool, true, false, not, ◌&&◌, List, [], ◌∷◌, Option, Some, None, is_some, sum_by, IsTrue, nat_lt}
+use Rattle.std.specs.Prelude.{◌≡◌, ◌⊎◌, ⊤, ℕ, ◌+◌, ◌-◌, ◌<◌, ◌≤◌, ◌^◌, ◌==◌, Bool, true, false, not, ◌&&◌, List, [], ◌∷◌, Option, Some, is_some, sum_by, IsTrue, nat_lt}
 use Rattle.std.specs.List.{AllByRecursion}
 use Rattle.blsm_model.specs.declared.op.Op.{Op}
 use Rattle.blsm_model.specs.declared.history.Reply.{Reply}
@@ -14,9 +14,9 @@ use Rattle.tree_machine.specs.declared.step.Kind.{Kind}
 use Rattle.tree_machine.specs.declared.step.Kind.TheVariants as kind
 use Rattle.tree_machine.specs.declared.step.Step.{Step}
 use Rattle.tree_machine.specs.Lists.{memory_weight}
-use Rattle.tree_machine.specs.Machine.{Machine, Turned, BadPage, owes, charge, held_by, is_closed, work_of}
+use Rattle.tree_machine.specs.Machine.{Machine, BadPage, owes, charge, held_by, is_closed}
 use Rattle.tree_machine.specs.Steps.{Outcome, Well, FailedAfter, Broken, NoRoom, Choice, DeepQuantum, PassQuantum, Begin, Rest, choice, forgive, swaps_due, one_if}
-use Rattle.tree_machine.specs.Plays.{may_step, played_one, played}
+use Rattle.tree_machine.specs.Plays.{may_step, played_one}
 
 -- ---- which outcomes may be
 
@@ -88,10 +88,6 @@ AreTold m old [] new = old ≤ new
 AreTold m old (made ∷ steps) new =
     (mid : ℕ) × (old ≤ mid) × (IsTrue (may_step m made.0) → IsPossible m made.0.seat made.0.kind made.1 old mid) × AreTold (played_one m made) mid steps new
 
--- some list of steps leads there, whose outcomes are told by the disk's count
-abbrev pub IsReachedBy : Machine → ℕ → Machine → ℕ → Type 0
-IsReachedBy start old m new = (steps : List (Step × Outcome)) × AreTold start old steps new × (played start steps ≡ m)
-
 -- ---- what is told
 
 -- a lookup that failed
@@ -111,19 +107,9 @@ abbrev pub is_damaged : Reply → Bool
 is_damaged (Damaged page) = true
 is_damaged _ = false
 
-abbrev pub is_bad_page : Turned → Bool
-is_bad_page (BadPage page) = true
-is_bad_page _ = false
-
 abbrev pub is_by_page : Option Why → Bool
 is_by_page (Some (why.BadPage page)) = true
 is_by_page _ = false
-
--- nothing tells of a damaged page: no reply, no stop, no open work
-pub record FindsNone (m : Machine) : Type 0 where
-  pub entries : AllByRecursion (λ e. is_damaged e.reply ≡ false) m.book.entries
-  pub stopped : is_by_page m.stopped ≡ false
-  pub works : (seat : ℕ) → is_bad_page (work_of seat m).last ≡ false
 
 -- no outcome of these is a damaged page
 abbrev pub is_broken : Outcome → Bool
@@ -132,23 +118,3 @@ is_broken _ = false
 
 abbrev pub NoneBroken : List (Step × Outcome) → Type 0
 NoneBroken steps = AllByRecursion (λ made. is_broken made.1 ≡ false) steps
-
--- ---- the laws
-
--- the faults that a run tells of are no more than those that the disk counted meanwhile
-abbrev pub FaultsAreCounted : Type 0
-FaultsAreCounted = (m : Machine) (old new : ℕ) (steps : List (Step × Outcome)) → new ≤ last_count → AreTold m old steps new
-    → (faults_told (played m steps) + old ≤ faults_told m + new) ⊎ (new ≡ last_count)
-
--- a stop by a fault names a count above the one at the begin
-abbrev pub StopsNameMore : Type 0
-StopsNameMore = (m : Machine) (old new faults : ℕ) (steps : List (Step × Outcome)) → AreTold m old steps new → m.stopped ≡ None → (played m steps).stopped ≡ Some (why.Faulted faults) → Rose old faults
-
--- where no page was found damaged, nothing tells of one
-abbrev pub NoneDamaged : Type 0
-NoneDamaged = (m : Machine) (steps : List (Step × Outcome)) → FindsNone m → NoneBroken steps → FindsNone (played m steps)
-
--- a state that is reached so leads by each possible step to one that is
-abbrev pub ReachesOnBy : Type 0
-ReachesOnBy = (start m : Machine) (old mid new : ℕ) (step : Step) (outcome : Outcome) → IsReachedBy start old m mid → IsTrue (may_step m step) → mid ≤ new
-    → IsPossible m step.seat step.kind outcome mid new → IsReachedBy start old (played_one m (step, outcome)) new

@@ -1,79 +1,60 @@
-//! What the machine keeps. The functions do nothing: each stands for the laws that its clauses name.
-ghost use Rattle.tree_machine.specs.Laws.{PassQuantumFolds, DeepQuantumFolds, OutputThenRest, PassWrites, DeepWrites, TurnsCarry, SwapsCarry, WritesCount, MapIs, RowsAre, GoesAhead, GoesBehind, WritesLayer, NoneLost, NoneLostDeep, OpeningStands, StepStands, StepsStand, StepSettles, QuantumWeighs, QuantumIsEnough, QuantumIsFew, PassIsDone, DeepIsDone, PassIsLight, DeepIsLight, StepFollows, StepLeavesHolds, StopStays, StepKeepsOpening, RoomLasts, RefusalsLeaveAll, StepWorks, StepCommits, WayByNumbers};
-ghost use Rattle.tree_machine.specs.Outcomes.{FaultsAreCounted, StopsNameMore, NoneDamaged, ReachesOnBy};
+//! What the machine keeps. The functions do nothing: each stands for laws that are ends in themselves. What others build on are lemmas in
+//! `proofs/`.
+ghost use Rattle.tree_machine.specs.Outcomes.{AreTold, faults_told, last_count, Rose};
+ghost use Rattle.std.specs.Prelude.{ℕ, ◌≡◌, true, Some, false, List, ◌≢◌, IsTrue, ◌⊎◌, ◌+◌, ◌≤◌, None};
+ghost use Rattle.record_delta.specs.Entries.{AreSorted, Entries, settled_entries, above, over_any, record_of_key, is_above};
+ghost use Rattle.tree_machine.specs.Merges.{Merge, quantum_of, moved_on};
+ghost use Rattle.tree_machine.specs.Layers.{IsMergeOf, as_it_is, as_base};
+ghost use Rattle.blsm_model.specs.declared.key.Key.{Key};
+ghost use Rattle.record_delta.specs.declared.record.Rec.{Rec};
+ghost use Rattle.tree_machine.specs.Lists.{Lists};
+ghost use Rattle.tree_machine.specs.Moves.{with_write};
+ghost use Rattle.blsm_model.specs.declared.row.Value.{Value};
+ghost use Rattle.tree_machine.specs.declared.step.Step.{Step};
+ghost use Rattle.tree_machine.specs.Machine.{Machine, held_by};
+ghost use Rattle.tree_machine.specs.Steps.{Outcome};
+ghost use Rattle.tree_machine.specs.Stands.{Stands};
+ghost use Rattle.tree_machine.specs.Plays.{played, GoesWell, may_step, stepped};
+ghost use Rattle.tree_machine.specs.Effects.{LeaveAll};
+ghost use Rattle.blsm_model.specs.declared.history.Why.TheVariants as why;
 
-/// What a merge wrote is the fold of its inputs up to its cursor, after each quantum, and in the end of its whole inputs.
+/// What a merge wrote is the fold of its inputs up to its cursor, after each quantum.
 pub fn merges_fold()
-    ensures pass { PassQuantumFolds }
-    ensures deep { DeepQuantumFolds }
-    ensures rest { OutputThenRest }
-    ensures pass_done { PassWrites }
-    ensures deep_done { DeepWrites }
+    ensures pass { (quantum : ℕ) (merge : Merge) (newer older : Entries) → AreSorted newer → AreSorted older → IsMergeOf as_it_is newer older merge
+        → IsMergeOf as_it_is newer older (moved_on merge (quantum_of quantum merge newer older).groups (quantum_of quantum merge newer older).groups) }
+    ensures deep { (quantum : ℕ) (merge : Merge) (newer older : Entries) → AreSorted newer → AreSorted older → IsMergeOf as_base newer older merge
+        → IsMergeOf as_base newer older (moved_on merge (quantum_of quantum merge newer older).groups (settled_entries (quantum_of quantum merge newer older).groups)) }
+    ensures rest { (merge : Merge) (newer older : Entries) → IsMergeOf as_it_is newer older merge → (key : Key)
+        → over_any (record_of_key key merge.output) (over_any (record_of_key key (above merge.cursor newer)) (record_of_key key (above merge.cursor older)))
+        ≡ over_any (record_of_key key newer) (record_of_key key older) }
 {}
 
-/// Merges change the value of no key. After a write each key has the value with that write, so the map of the lists is the map
-/// of the writes.
-pub fn lookups_stay()
-    ensures turns { TurnsCarry }
-    ensures swaps { SwapsCarry }
-    ensures writes { WritesCount }
-    ensures map { MapIs }
-    ensures rows { RowsAre }
-{}
-
-/// A write ahead of the pass joins it, any other waits for the next one, and at the swap nothing is lost.
+/// A write ahead of the pass joins it, and any other waits for the next one.
 pub fn snowshovelling()
-    ensures ahead { GoesAhead }
-    ensures behind { GoesBehind }
-    ensures layers { WritesLayer }
-    ensures swap { NoneLost }
-    ensures deep_swap { NoneLostDeep }
+    ensures ahead { (pass : Merge) (key : Key) (rec : Rec) (lists : Lists) → is_above pass.cursor key ≡ true → (with_write (Some pass) key rec lists).b ≡ lists.b }
+    ensures behind { (pass : Merge) (key : Key) (rec : Rec) (lists : Lists) → is_above pass.cursor key ≡ false → (with_write (Some pass) key rec lists).a ≡ lists.a }
 {}
 
-/// The machine stands for its history: its map is the map after it, its holds are the sequential map's, and each answer is
-/// legal.
+/// After each list of steps the machine stands for its history: its map is the map after it, its holds are the sequential map's, and
+/// each answer is legal.
 pub fn steps_stand()
-    ensures opening { OpeningStands }
-    ensures step { StepStands }
-    ensures steps { StepsStand }
-    ensures settled { StepSettles }
+    ensures { (opening : List (Key × Value)) (m : Machine) (steps : List (Step × Outcome)) → Stands opening m → GoesWell m steps → Stands opening (played m steps) }
 {}
 
-/// The numbers that pace the merges are weights of the lists: what a quantum weighs, when a merge is done, and what it wrote.
-pub fn numbers_are_weights()
-    ensures weighs { QuantumWeighs }
-    ensures enough { QuantumIsEnough }
-    ensures few { QuantumIsFew }
-    ensures pass_done { PassIsDone }
-    ensures deep_done { DeepIsDone }
-    ensures pass_light { PassIsLight }
-    ensures deep_light { DeepIsLight }
-    ensures way { WayByNumbers }
-{}
-
-/// A step of one seat notes at most one entry, of that seat, and does at most one quantum. Nothing of another seat changes, but
-/// that its debts may fall.
+/// A step of one seat leaves the holds of the others.
 pub fn seats_apart()
-    ensures follows { StepFollows }
-    ensures holds { StepLeavesHolds }
-    ensures stop { StopStays }
-    ensures opening { StepKeepsOpening }
-    ensures room { RoomLasts }
+    ensures { (m : Machine) (step : Step) (outcome : Outcome) → IsTrue (may_step m step) → (other : ℕ) → other ≢ step.seat → held_by other (stepped m step outcome).state ≡ held_by other m }
 {}
 
-/// Refusals and lookups change nothing but the history, a lookup that failed too. A step does one quantum of one merge, and the
-/// other merge stands, or it does none, and both stand but where one is swapped in that is done, or begins. Commits are no more than swaps and rotations.
+/// Refusals and lookups change nothing but the history, a lookup that failed too.
 pub fn steps_change_little()
-    ensures refusals { RefusalsLeaveAll }
-    ensures merges { StepWorks }
-    ensures commits { StepCommits }
+    ensures { (m : Machine) (seat : ℕ) (outcome : Outcome) → LeaveAll m seat outcome }
 {}
 
-/// What a run tells of the disk: failed lookups and a stop are no more than the faults that the disk counted meanwhile, a stop
-/// names a later count, and where no page was damaged nothing tells of one. A state that is reached says by which outcomes.
+/// What a run tells of the disk: failed lookups and a stop are no more than the faults that the disk counted meanwhile, and a
+/// stop names a later count.
 pub fn outcomes_are_told()
-    ensures faults { FaultsAreCounted }
-    ensures stop { StopsNameMore }
-    ensures pages { NoneDamaged }
-    ensures reached { ReachesOnBy }
+    ensures faults { (m : Machine) (old new : ℕ) (steps : List (Step × Outcome)) → new ≤ last_count → AreTold m old steps new
+        → (faults_told (played m steps) + old ≤ faults_told m + new) ⊎ (new ≡ last_count) }
+    ensures stop { (m : Machine) (old new faults : ℕ) (steps : List (Step × Outcome)) → AreTold m old steps new → m.stopped ≡ None → (played m steps).stopped ≡ Some (why.Faulted faults) → Rose old faults }
 {}

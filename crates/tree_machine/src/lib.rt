@@ -7,7 +7,6 @@ mod laws;
 mod step;
 
 pub use laws::{
-    lookups_stay, merges_fold, numbers_are_weights, outcomes_are_told, seats_apart, snowshovelling,
-    steps_change_little, steps_stand,
+    merges_fold, outcomes_are_told, seats_apart, snowshovelling, steps_change_little, steps_stand,
 };
 pub use step::{Kind, Step};

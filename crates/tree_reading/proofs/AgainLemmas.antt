@@ -21,9 +21,10 @@ use Rattle.page_file.proofs.EntryLemmas.{few_entries}
 use Rattle.page_file.proofs.ComponentLemmas.{chain_join, entries_join, first_join, weight_is_length, weight_join}
 use Rattle.page_space.specs.Space.{SpaceState}
 use Rattle.tree_reading.specs.Pages.{AreAllowed, BeginsWith, GoesOnBehind, IsDamagedPage}
-use Rattle.tree_reading.specs.Walk.{GoesOnWithin, IsStoppedAt, TellsBroken, TellsPages, TellsStop, unbounded}
+use Rattle.tree_reading.specs.Walk.{GoesOnWithin, IsStoppedAt, TellsBroken, TellsPages, TellsStop}
 use Rattle.tree_reading.proofs.PagesLemmas.{distinct_back, no_stopped_page, single}
 use Rattle.tree_reading.proofs.WalkLemmas.{allowed_join, distinct_push, numbers_push, same_or_not}
+use Rattle.tree_reading.proofs.Terms.{unbounded}
 
 -- ---- how much a component's pages can hold
 

@@ -1,3 +1,4 @@
+pub mod Terms
 mod LaneLemmas
 mod CallsLemmas
 mod PagesLemmas

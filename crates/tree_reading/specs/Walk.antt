@@ -1,5 +1,5 @@
 -- What a walk over a component's pages does to the free-page map, and what it tells.
-use Rattle.std.specs.Prelude.{◌≡◌, ◌↔◌, ◌⊎◌, ℕ, ◌+◌, ◌^◌, ◌<◌, ◌≤◌, Bool, List, [], ◌++◌, length, nat_eq, Option, Result, Ok, Err, ⊤}
+use Rattle.std.specs.Prelude.{◌≡◌, ◌↔◌, ◌⊎◌, ℕ, ◌+◌, ◌<◌, ◌≤◌, Bool, List, [], ◌++◌, length, nat_eq, Option, Result, Ok, Err, ⊤}
 use Rattle.std.specs.List.{Contains, IsDistinct}
 use Rattle.blsm_model.specs.declared.component.Component.{Component}
 use Rattle.blsm_model.specs.Sizes.{Sizes}
@@ -64,10 +64,6 @@ abbrev pub TellsStop : Sizes → Component → Bool → List ℕ → ℕ → Spa
 TellsStop sizes run bases_only earlier role old new file (Ok done) = IsWalked sizes run bases_only earlier role old new file
 TellsStop sizes run bases_only earlier role old new file (Err (Damaged n)) = IsStoppedAt sizes run bases_only earlier n file
 TellsStop sizes run bases_only earlier role old new file (Err Fault) = ⊤
-
--- the component with sums that no component's pages have
-abbrev pub unbounded : Component → Component
-unbounded run = record { first = run.first; pages = run.pages; entries = 2 ^ 63; weight = 2 ^ 63 }
 
 -- What a refusal says of a component: this is its first page at which it doesn't read. After a fault nobody knows.
 abbrev pub TellsBroken : Sizes → Component → Bool → List ℕ → List ℕ → Broken → Type 0

@@ -1,3 +1,4 @@
+pub mod Terms
 mod CountLemmas
 mod ReleasedTags
 mod KeptMerges
@@ -8,7 +9,7 @@ mod ToldLemmas
 mod GuideLemmas
 mod BesideLemmas
 mod HoldLemmas
-mod QuantaLemmas
+pub mod QuantaLemmas
 mod InstallLemmas
 mod CommitLemmas
 mod SwapRegions

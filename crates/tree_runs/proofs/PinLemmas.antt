@@ -11,8 +11,9 @@ use Rattle.page_space.specs.PageSet.{Members, IsIn}
 use Rattle.page_space.specs.Space.{SpaceState, IsPinnedBy, IsSpace, pin_size, seat_count}
 use Rattle.run_writer.specs.Writer.{role_region}
 use Rattle.scan_view.specs.Pins.{IsUnpinned, beside_pins}
-use Rattle.tree_runs.specs.Holding.{commit_region, swap_region}
+use Rattle.tree_runs.specs.Holding.{commit_region}
 use Rattle.tree_runs.proofs.ReleasedTags.{Released, none_has, has_before}
+use Rattle.tree_runs.proofs.Terms.{swap_region}
 
 -- ---- no run that is written has one
 

@@ -24,11 +24,11 @@ use Rattle.merge_step.proofs.MergedLemmas.{turned, same}
 use Rattle.merge_step.proofs.StepLemmas.{goes_on}
 use Rattle.merge_ends.specs.Quantum.{weight_above, IsNext, NoneAbove, IsLast, IsQuantum}
 use Rattle.merge_ends.proofs.GroupLemmas.{further, above_further}
-use Rattle.tree_machine.specs.Merges.{weight_of_any, group_weight, until, cursor_after}
+use Rattle.tree_machine.specs.Merges.{weight_of_any, group_weight, until, cursor_after, Merge, quantum_of}
 use Rattle.tree_machine.proofs.FoldLemmas.{by_test, both_hold, both, less_of, below_none, sorted_folded_over}
 use Rattle.tree_machine.proofs.CursorLemmas.{not_below_itself, below_all_trans, find-ahead, sorted_ahead}
 use Rattle.tree_machine.proofs.WeightLemmas.{weigh_first}
-use Rattle.tree_runs.specs.Laws.{IsOnward, QuantaAgree}
+use Rattle.tree_runs.proofs.Terms.{IsOnward}
 
 -- ---- lists, from the front
 
@@ -412,6 +412,9 @@ agree (f ∷ fs) least at to newer older taken is some sorted_newer sorted_older
     by behind (inl none) = absurd (none_first f fs (sym (λ j. folded_over (none.0 j) (none.1 j)) ∙ is))
     by behind (inr g) = by_weight behind g (nat_lt (group_weight (above at newer) (above at older) f.0) least) refl
 
-pub quanta_agree : QuantaAgree
+-- A quantum as the merges take it is the one that the machine computes of the lists: its weight, and how far it comes.
+pub quanta_agree : (least : ℕ) (merge : Merge) (to : Option Key) (newer older : Entries) (taken : ℕ) → 0 < least → AreSorted newer → AreSorted older → IsOnward merge.cursor to
+    → IsQuantum least merge.cursor to newer older taken
+    → (taken ≡ (quantum_of least merge newer older).weight) × (to ≡ cursor_after merge.cursor (quantum_of least merge newer older).groups)
 quanta_agree least merge to newer older taken some sorted_newer sorted_older onward quantum =
     agree (folded_over (above merge.cursor newer) (above merge.cursor older)) least merge.cursor to newer older taken refl some sorted_newer sorted_older onward quantum

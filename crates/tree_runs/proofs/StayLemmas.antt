@@ -20,11 +20,11 @@ use Rattle.run_writer.specs.Writer.{WriterState, Holds, HasPushed, role_region}
 use Rattle.run_writer.specs.Run.{Run}
 use Rattle.merge_ends.specs.Output.{TakesPages}
 use Rattle.tree_file.specs.Tree.{Tree, HoldsTree, live_pages}
-use Rattle.tree_file.specs.Places.{IsBeside}
 use Rattle.tree_file.proofs.HoldsLemmas.{pages_are_beside, roles_of}
 use Rattle.tree_runs.proofs.KeptMerges.{KeepsRun, KeepsPages}
 use Rattle.tree_runs.specs.Runs.{Tags, HasOneTag, IsFilled}
 use Rattle.tree_runs.specs.Holding.{AreTagged}
+use Rattle.tree_file.proofs.Terms.{IsBeside}
 
 -- ---- tags
 

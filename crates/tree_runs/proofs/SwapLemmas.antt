@@ -20,12 +20,13 @@ use Rattle.tree_file.specs.Tree.{Tree, HoldsTree, live_pages}
 use Rattle.tree_file.specs.Places.{StandsOn, Becomes}
 use Rattle.tree_file.proofs.StandLemmas.{stands_beside, becomes_behind}
 use Rattle.tree_runs.specs.Runs.{RunsState, AreRuns}
-use Rattle.tree_runs.specs.Holding.{AreOf, StandOver, LeavesSwapped, swap_region}
+use Rattle.tree_runs.specs.Holding.{AreOf, StandOver, LeavesSwapped}
 use Rattle.tree_runs.specs.Holding.{commit_region}
 use Rattle.tree_runs.proofs.KeptMerges.{KeepsRun, KeepsPages}
 use Rattle.tree_runs.proofs.SwapRegions.{swap_apart}
 use Rattle.tree_runs.proofs.StayLemmas.{not_live, role_is_beside}
 use Rattle.tree_runs.proofs.QuantumLemmas.{IsRunTag}
+use Rattle.tree_runs.proofs.Terms.{swap_region}
 
 -- ---- a tag that is no component's
 

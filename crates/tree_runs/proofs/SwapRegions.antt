@@ -10,7 +10,7 @@ use Rattle.catalog_swap.specs.declared.catalog.Catalog.{Catalog}
 use Rattle.page_space.specs.Space.{SpaceState}
 use Rattle.run_writer.specs.Writer.{role_region}
 use Rattle.tree_runs.specs.Runs.{HasOneTag}
-use Rattle.tree_runs.specs.Holding.{swap_region}
+use Rattle.tree_runs.proofs.Terms.{swap_region}
 
 -- ---- not in the pages of other tags
 

@@ -18,7 +18,6 @@ use Rattle.page_file.specs.declared.file.Broken.{Broken}
 use Rattle.page_file.specs.declared.file.Broken.TheVariants.{Fault, Damaged}
 use Rattle.page_file.specs.Component.{RunPage, entries_of, numbers_of}
 use Rattle.run_cursor.specs.Lookup.{IsGuided}
-use Rattle.run_writer.specs.Writer.{role_region}
 use Rattle.scan_view.specs.Pins.{Pins, beside_pins}
 use Rattle.catalog_swap.specs.Slots.{slot_of, slot_length}
 use Rattle.catalog_swap.specs.Swap.{prepared}
@@ -134,10 +133,6 @@ pub record IsPassSwapped (rotates : Bool) (a : Entries) (old new : Tree) : Type 
 -- a commit writes the gates that a preparation closes, and the slot of the next catalogue
 abbrev pub commit_region : Sizes → Catalog → Region
 commit_region sizes now = λ i. prepared sizes now i ⊎ span (slot_of (now.version + 1)) slot_length i
-
--- a swap writes its run's last page, and commits
-abbrev pub swap_region : Sizes → SpaceState → ℕ → Catalog → Region
-swap_region sizes space tag now = λ i. role_region sizes space tag i ⊎ commit_region sizes now i
 
 -- ---- what a call leaves
 

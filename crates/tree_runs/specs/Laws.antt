@@ -1,21 +1,19 @@
 -- What the components and the runs keep while others write: the log's lanes, the slots of the catalogue. And what of their map is known
 -- once they are read.
-use Rattle.std.specs.Prelude.{◌≡◌, ◌⊎◌, ℕ, ◌+◌, ◌<◌, ◌≤◌, Bool, true, IsTrue, List, Option, Some}
+use Rattle.std.specs.Prelude.{◌≡◌, ◌⊎◌, ℕ, ◌+◌, ◌≤◌, Bool, true, IsTrue, List, Some}
 use Rattle.disk_trait.specs.Region.{Region, span, outside, IsWithin, IsSameOutside}
 use Rattle.blsm_model.specs.declared.key.Key.{Key}
 use Rattle.blsm_model.specs.Sizes.{Sizes, IsGeometry}
 use Rattle.blsm_model.specs.Geometry.{page_count}
 use Rattle.catalog_swap.specs.declared.catalog.Catalog.{Catalog}
 use Rattle.record_delta.specs.declared.record.Rec.{Rec}
-use Rattle.record_delta.specs.Entries.{Entries, AreSorted, entries_weight, is_above, with_record}
+use Rattle.record_delta.specs.Entries.{Entries, entries_weight, is_above, with_record}
 use Rattle.page_space.specs.PageSet.{Members}
 use Rattle.page_space.specs.Space.{SpaceState, Claims, HasRole, IsFree, IsSpace, KeepsOtherRoles, role_size, unused}
 use Rattle.page_file.specs.File.{page_start}
 use Rattle.run_writer.specs.Writer.{role_region}
-use Rattle.merge_ends.specs.Quantum.{IsQuantum}
 use Rattle.scan_view.specs.Pins.{beside_pins}
 use Rattle.snow_merge.specs.Pass.{SnowState}
-use Rattle.tree_machine.specs.Merges.{Merge, cursor_after, quantum_of}
 use Rattle.tree_file.specs.Tree.{Tree, HoldsTree}
 use Rattle.tree_file.specs.Places.{appended_a, appended_b}
 use Rattle.tree_runs.specs.Runs.{RunsState, AreRead, AreRunning, IsFilled, first_tags, left_for_pass}
@@ -62,19 +60,6 @@ abbrev pub LeftGrows : Type 0
 LeftGrows =
     (snow : SnowState) (a : Entries) (key : Key) (rec : Rec) → is_above snow.at key ≡ true
     → left_for_pass (Some snow) (with_record key rec a) + entries_weight a ≡ left_for_pass (Some snow) a + entries_weight (with_record key rec a)
-
--- ---- the tie to the machine
-
--- what is above the later cursor was above the earlier one
-abbrev pub IsOnward : Option Key → Option Key → Type 0
-IsOnward from to = (key : Key) → is_above to key ≡ true → is_above from key ≡ true
-
--- A quantum as the merges take it is the one that the machine computes of the lists: its weight, and how far it comes.
-abbrev pub QuantaAgree : Type 0
-QuantaAgree =
-    (least : ℕ) (merge : Merge) (to : Option Key) (newer older : Entries) (taken : ℕ) → 0 < least → AreSorted newer → AreSorted older → IsOnward merge.cursor to
-    → IsQuantum least merge.cursor to newer older taken
-    → (taken ≡ (quantum_of least merge newer older).weight) × (to ≡ cursor_after merge.cursor (quantum_of least merge newer older).groups)
 
 -- ---- the map of a tree that is read
 

@@ -98,6 +98,7 @@ impl GuideRoom {
     ///
     /// `Damaged` names a page that isn't valid or doesn't go on; it never comes where the file holds a tree. `Fault` comes just where the
     /// disk's count of faults rose. After an `Err` nothing is known of what they hold.
+    /// What it asks of each component is a clause of its own.
     pub fn rebuild<D: Disk>(
         &mut self,
         disk: &mut D,

@@ -28,6 +28,7 @@ impl Runs {
     /// now. Their pages are pinned for the seat, and none that it pinned before. It calls no device.
     ///
     /// Where memory is refused there is no hold, and the seat's pins stay as they were.
+    /// A clause each for the rows of an honest disk and of any, for what the seat pins, and for what the merges keep.
     pub fn hold(
         &mut self,
         alloc: Global,

@@ -1,6 +1,6 @@
 //! What the components and the runs keep while others write, and what of their map is known once they are read. The functions do nothing:
 //! they stand for the laws that their clauses name.
-ghost use Rattle.tree_runs.specs.Laws.{HeadIsBeside, HeadIsUnpinned, RunsStay, ListsStay, EntriesJoin, EntriesWait, LeftGrows, QuantaAgree, ClaimsAdd, TakenAreRead};
+ghost use Rattle.tree_runs.specs.Laws.{HeadIsBeside, HeadIsUnpinned, RunsStay, ListsStay, EntriesJoin, EntriesWait, LeftGrows, ClaimsAdd, TakenAreRead};
 
 use run_cursor::what_is_ahead;
 use run_writer::where_a_run_writes;
@@ -19,11 +19,6 @@ pub fn others_may_write()
     what_is_ahead();
     where_a_run_writes();
 }
-
-/// A quantum that a merge takes is the one that the machine computes of the lists.
-pub fn a_quantum_is_the_machines()
-    ensures { QuantaAgree }
-{}
 
 /// Where the pages of C1, C1' and C2 are claimed in a map that has none in use, each of them while it is free, no page has two tags, and
 /// each component has as many as it claimed.

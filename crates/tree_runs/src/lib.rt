@@ -11,5 +11,5 @@ mod runs;
 mod swaps;
 
 pub use guides::GuideRoom;
-pub use laws::{a_quantum_is_the_machines, each_claims_its_own, others_may_write};
+pub use laws::{each_claims_its_own, others_may_write};
 pub use runs::{MergeRoom, Runs};

@@ -26,6 +26,7 @@ impl Runs {
     ///
     /// `Damaged` names the page that was asked and isn't valid; it never comes where the file holds a tree that filters and fences are of.
     /// `Fault` comes just where the disk's count of faults rose.
+    /// A clause each for the record on an honest disk, for what any pages tell, for where it ends, and for the calls.
     pub fn find<D: Disk>(
         &self,
         disk: &mut D,

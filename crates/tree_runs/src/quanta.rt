@@ -57,6 +57,7 @@ impl Runs {
     }
 
     /// The deep merge takes a quantum of C1' and C2, and gives the weight that it took. It answers as `pass_quantum` does.
+    /// It has the clauses of `pass_quantum`.
     pub fn deep_quantum<D: Disk>(&mut self, disk: &mut D, a: &Table) -> Result<u64, Broken>
         requires runs { IsSome self.old.deep }
         requires length { IsTrue (D.state disk.old).tells_bytes → length (D.state disk.old).bytes ≡ file_length self.old.sizes }

@@ -52,6 +52,7 @@ impl Runs {
     ///
     /// After an `Err`, whose cause is a fault of the disk, each image holds the tree as it was or as it would be, and all else is as
     /// before. No merge is to be gone on with.
+    /// A clause each for the lists of an honest disk, for what is in memory, for the merges, an `Err`, the calls and the faults.
     pub fn swap_deep<D: Disk>(&mut self, disk: &mut D) -> Result<(), Failed>
         requires done { IsTrue (is_some self.old.deep) × (left_for_deep self.old.deep ≡ 0) }
         requires length { IsTrue (D.state disk.old).tells_bytes → length (D.state disk.old).bytes ≡ file_length self.old.sizes }
@@ -80,6 +81,7 @@ impl Runs {
     /// in the same commit. The pages of the old C1 are free then. Tells whether C1 was rotated.
     ///
     /// No deep merge may run where the new C1 is as heavy as its mark. An `Err` leaves what one of `swap_deep` leaves.
+    /// A clause each for the lists of an honest disk, for what is in memory, for the merges, an `Err`, the calls and the faults.
     pub fn swap_pass<D: Disk>(&mut self, disk: &mut D, a: &Table) -> Result<bool, Failed>
         requires done { IsTrue (is_some self.old.pass) × (left_for_pass self.old.pass a.now.entries ≡ 0) }
         requires way { IsTrue (is_full self.old.sizes (made_by_pass self.old.pass)) → self.old.deep ≡ None }
@@ -155,6 +157,7 @@ impl Runs {
     }
 
     /// C1 becomes C1', by a commit of its own, and a deep merge begins. No merge may run. An `Err` leaves what one of `swap_deep` leaves.
+    /// It has the clauses of `swap_deep`.
     pub fn rotate<D: Disk>(&mut self, disk: &mut D) -> Result<(), Failed>
         requires rests { (self.old.pass ≡ None) × (self.old.deep ≡ None) }
         requires length { IsTrue (D.state disk.old).tells_bytes → length (D.state disk.old).bytes ≡ file_length self.old.sizes }

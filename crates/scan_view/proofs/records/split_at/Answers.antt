@@ -2,11 +2,12 @@ use Rattle.std.proofs.Common.{◌+◌, Option, IfOk, IfErr, sym, subst, rules, o
 use Rattle.std.proofs.lemmas.Fn.{always_returns_same}
 use Rattle.blsm_model.specs.declared.key.Key.{Key}
 use Rattle.blsm_model.specs.Keys.{key_cmp}
-use Rattle.mem_table.specs.Places.{IsAt, IsGapFor, IsSplit}
+use Rattle.mem_table.specs.Places.{IsSplit}
 use Rattle.mem_table.proofs.OrderLemmas.{split_at, split_gap}
 use Rattle.mem_table.proofs.PlaceLemmas.{Searched, searched}
 use Rattle.scan_view.proofs.records.split_at.Goals as goal
 use Rattle.scan_view.proofs.records.split_at.Goals.{After-binary_search_by}
+use Rattle.mem_table.proofs.Terms.{IsAt, IsGapFor}
 
 searched_for : (c : After-binary_search_by) → Searched c.args.entries.now c.in-Some.key c.binary_search_by.result
 searched_for c =

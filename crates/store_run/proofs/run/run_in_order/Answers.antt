@@ -52,7 +52,7 @@ returns-clause-served g c = λ honest.
     let runs = c.run_lines.ensures in
     let begins = c.kept.ensures.begins in
     let kept = c.kept-2.ensures.core in
-    served_in_order c.seats_apart.ensures.opening c.outcomes_are_told.ensures.pages state c.args.room c.args.lines.now (state c.args.disk) old new honest
+    served_in_order state c.args.room c.args.lines.now (state c.args.disk) old new honest
     (record {
       opens = c.in-Ok.ensures.stands honest;
       goes_on = c.in-Ok.ensures.effect.effect.goes_on;

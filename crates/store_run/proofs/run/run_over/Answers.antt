@@ -117,7 +117,7 @@ returns-in-Ok-run_all-clause-headline g c = λ honest.
     let unasked = is_unasked state annals faults old opened rests c.kept.ensures.core c.kept.ensures.begins in
     let goes_on = c.in-Ok.ensures.effect.effect.goes_on in
     let honest_then = goes_on.is_honest ∙ honest in
-    whole_headline c.seats_apart.ensures.opening c.outcomes_are_told.ensures.pages c.runs_alone.ensures.alone state (g.met.D.Disk g.world.𝓛 g.world.𝓜 g.world.𝓡 ((λ s x. x), (λ x. x), (λ x. x), λ x. x)).timed c.args.room c.args.lines.now c.args.workers c.args.turns (state c.args.disk) old new
+    whole_headline state (g.met.D.Disk g.world.𝓛 g.world.𝓜 g.world.𝓡 ((λ s x. x), (λ x. x), (λ x. x), λ x. x)).timed c.args.room c.args.lines.now c.args.workers c.args.turns (state c.args.disk) old new
     (record {
       opens = opens;
       goes_on = goes_on;

@@ -1,5 +1,4 @@
 use Rattle.tree_machine.proofs.MergeLemmas.{groups_sorted, groups_ahead, quantum_keeps, written_as_it_is, written_as_base, output_then_rest}
-use Rattle.tree_machine.proofs.WeightLemmas.{pass_output, deep_output}
 use Rattle.std.proofs.Common.{refl}
 use Rattle.tree_machine.specs.Layers.{as_it_is, as_base}
 use Rattle.record_delta.specs.Entries.{settled_entries}
@@ -20,9 +19,3 @@ returns-clause-deep c = λ quantum merge newer older sorted_newer sorted_older i
 
 pub returns-clause-rest : goal.returns-clause-rest
 returns-clause-rest c = output_then_rest
-
-pub returns-clause-pass_done : goal.returns-clause-pass_done
-returns-clause-pass_done c = pass_output
-
-pub returns-clause-deep_done : goal.returns-clause-deep_done
-returns-clause-deep_done c = deep_output

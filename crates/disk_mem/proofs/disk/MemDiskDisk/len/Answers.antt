@@ -1,4 +1,6 @@
-use Rattle.std.proofs.Common.{inl, refl, is_ok}
+use Rattle.std.proofs.lemmas.Grind.{common_steps}
+use Rattle.std.proofs.lemmas.Bool.Decides.{nat_tests}
+use Rattle.std.proofs.Common.{inl, refl, is_ok, arith}
 use Rattle.disk_mem.specs.Recorded.{look}
 use Rattle.disk_mem.specs.Recorder.{recorded}
 use Rattle.disk_mem.specs.Events.{passed}
@@ -6,29 +8,22 @@ use Rattle.disk_mem.proofs.Told.{told_passes, told_no_sync, told_nothing, told_k
 use Rattle.disk_mem.proofs.Results.{is_err}
 use Rattle.disk_mem.proofs.disk.MemDiskDisk.len.Goals as goal
 
-pub returns-clause-passes : goal.returns-clause-passes
-returns-clause-passes c =
+pub returns-clause-call : goal.returns-clause-call
+returns-clause-call c =
     let r = c.self.inside.recorder in
     let new = c.len.new.self in
-    rw (← c.self.view_is) (told_passes (recorded r) (recorded new) r.replayed new.replayed r.faults_fit (look 0) (is_ok c.len.result) c.len.ensures.outcome r.past_fits)
-
-pub returns-clause-no_sync : goal.returns-clause-no_sync
-returns-clause-no_sync c =
-    let r = c.self.inside.recorder in
-    let new = c.len.new.self in
-    rw (← c.self.view_is) (told_no_sync (recorded r) (recorded new) r.replayed new.replayed r.faults_fit (look 0) (is_ok c.len.result) c.len.ensures.outcome (λ is. is) (λ is. is))
-
-pub returns-clause-same : goal.returns-clause-same
-returns-clause-same c =
-    let r = c.self.inside.recorder in
-    let new = c.len.new.self in
-    rw (← c.self.view_is) (told_nothing (recorded r) (recorded new) r.replayed new.replayed r.faults_fit 0 passed (is_ok c.len.result) c.len.ensures.outcome (inl refl))
-
-pub returns-clause-images : goal.returns-clause-images
-returns-clause-images c =
-    let r = c.self.inside.recorder in
-    let new = c.len.new.self in
-    rw (← c.self.view_is) (told_keeps (recorded r) (recorded new) r.replayed new.replayed r.faults_fit 0 (is_ok c.len.result) c.len.ensures.outcome)
+    let ok = is_ok c.len.result in
+    let outcome = c.len.ensures.outcome in
+    rw (← c.self.view_is) (record {
+      passes = told_passes (recorded r) (recorded new) r.replayed new.replayed r.faults_fit (look 0) ok outcome r.past_fits;
+      no_sync = told_no_sync (recorded r) (recorded new) r.replayed new.replayed r.faults_fit (look 0) ok outcome (λ is. is) (λ is. is);
+      same = told_nothing (recorded r) (recorded new) r.replayed new.replayed r.faults_fit 0 passed ok outcome (inl refl);
+      images = told_keeps (recorded r) (recorded new) r.replayed new.replayed r.faults_fit 0 ok outcome;
+      sure = grind (arith, common_steps, nat_tests);
+      stands = grind (arith, common_steps, nat_tests);
+      failed = grind (arith, common_steps, nat_tests);
+      length = grind (arith, common_steps, nat_tests);
+    })
 
 pub returns-clause-cause : goal.returns-clause-cause
 returns-clause-cause c =

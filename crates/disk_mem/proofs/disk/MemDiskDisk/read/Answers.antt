@@ -1,4 +1,6 @@
-use Rattle.std.proofs.Common.{◌+◌, inl, refl, length, is_ok}
+use Rattle.std.proofs.lemmas.Grind.{common_steps}
+use Rattle.std.proofs.lemmas.Bool.Decides.{nat_tests}
+use Rattle.std.proofs.Common.{◌+◌, inl, length, refl, is_ok, arith}
 use Rattle.disk_mem.specs.Recorded.{look}
 use Rattle.disk_mem.specs.Recorder.{recorded}
 use Rattle.disk_mem.specs.Events.{passed}
@@ -6,29 +8,24 @@ use Rattle.disk_mem.proofs.Told.{told_passes, told_no_sync, told_nothing, told_k
 use Rattle.disk_mem.proofs.Results.{is_err}
 use Rattle.disk_mem.proofs.disk.MemDiskDisk.read.Goals as goal
 
-pub returns-clause-passes : goal.returns-clause-passes
-returns-clause-passes c =
+pub returns-clause-call : goal.returns-clause-call
+returns-clause-call c =
     let r = c.self.inside.recorder in
     let new = c.read.new.self in
-    rw (← c.self.view_is) (told_passes (recorded r) (recorded new) r.replayed new.replayed r.faults_fit (look (c.args.at + length c.args.into.now)) (is_ok c.read.result) c.read.ensures.outcome r.past_fits)
-
-pub returns-clause-no_sync : goal.returns-clause-no_sync
-returns-clause-no_sync c =
-    let r = c.self.inside.recorder in
-    let new = c.read.new.self in
-    rw (← c.self.view_is) (told_no_sync (recorded r) (recorded new) r.replayed new.replayed r.faults_fit (look (c.args.at + length c.args.into.now)) (is_ok c.read.result) c.read.ensures.outcome (λ is. is) (λ is. is))
-
-pub returns-clause-same : goal.returns-clause-same
-returns-clause-same c =
-    let r = c.self.inside.recorder in
-    let new = c.read.new.self in
-    rw (← c.self.view_is) (told_nothing (recorded r) (recorded new) r.replayed new.replayed r.faults_fit (c.args.at + length c.args.into.now) passed (is_ok c.read.result) c.read.ensures.outcome (inl refl))
-
-pub returns-clause-images : goal.returns-clause-images
-returns-clause-images c =
-    let r = c.self.inside.recorder in
-    let new = c.read.new.self in
-    rw (← c.self.view_is) (told_keeps (recorded r) (recorded new) r.replayed new.replayed r.faults_fit (c.args.at + length c.args.into.now) (is_ok c.read.result) c.read.ensures.outcome)
+    let ok = is_ok c.read.result in
+    let outcome = c.read.ensures.outcome in
+    let end = c.args.at + length c.args.into.now in
+    rw (← c.self.view_is) (record {
+      passes = told_passes (recorded r) (recorded new) r.replayed new.replayed r.faults_fit (look end) ok outcome r.past_fits;
+      no_sync = told_no_sync (recorded r) (recorded new) r.replayed new.replayed r.faults_fit (look end) ok outcome (λ is. is) (λ is. is);
+      same = told_nothing (recorded r) (recorded new) r.replayed new.replayed r.faults_fit end passed ok outcome (inl refl);
+      images = told_keeps (recorded r) (recorded new) r.replayed new.replayed r.faults_fit end ok outcome;
+      sure = grind (arith, common_steps, nat_tests);
+      past_end = grind (arith, common_steps, nat_tests);
+      stands = grind (arith, common_steps, nat_tests);
+      failed = grind (arith, common_steps, nat_tests);
+      bytes = grind (arith, common_steps, nat_tests);
+    })
 
 pub returns-clause-cause : goal.returns-clause-cause
 returns-clause-cause c =

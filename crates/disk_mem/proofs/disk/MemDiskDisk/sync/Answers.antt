@@ -1,40 +1,28 @@
-use Rattle.std.proofs.Common.{inr, refl, is_ok}
+use Rattle.std.proofs.lemmas.Grind.{common_steps}
+use Rattle.std.proofs.lemmas.Bool.Decides.{nat_tests}
+use Rattle.std.proofs.Common.{inr, refl, is_ok, arith}
 use Rattle.disk_mem.specs.Recorded.{sync_call}
 use Rattle.disk_mem.specs.Recorder.{recorded}
 use Rattle.disk_mem.specs.Events.{synced}
-use Rattle.disk_mem.proofs.Told.{told_passes, told_sync, told_nothing, told_unsettled, told_durable, outcome_cause}
+use Rattle.disk_mem.proofs.Told.{told_passes, told_sync, told_nothing, told_durable, told_unsettled, outcome_cause}
 use Rattle.disk_mem.proofs.Results.{on_ok, on_err, is_err}
 use Rattle.disk_mem.proofs.disk.MemDiskDisk.sync.Goals as goal
 
-pub returns-clause-passes : goal.returns-clause-passes
-returns-clause-passes c =
+pub returns-clause-call : goal.returns-clause-call
+returns-clause-call c =
     let r = c.self.inside.recorder in
     let new = c.sync.new.self in
-    rw (← c.self.view_is) (told_passes (recorded r) (recorded new) r.replayed new.replayed r.faults_fit sync_call (is_ok c.sync.result) c.sync.ensures r.past_fits)
-
-pub returns-clause-marks : goal.returns-clause-marks
-returns-clause-marks c =
-    let r = c.self.inside.recorder in
-    let new = c.sync.new.self in
-    rw (← c.self.view_is) (told_sync (recorded r) (recorded new) r.replayed new.replayed r.faults_fit (is_ok c.sync.result) c.sync.ensures)
-
-pub returns-clause-same : goal.returns-clause-same
-returns-clause-same c =
-    let r = c.self.inside.recorder in
-    let new = c.sync.new.self in
-    rw (← c.self.view_is) (told_nothing (recorded r) (recorded new) r.replayed new.replayed r.faults_fit 0 synced (is_ok c.sync.result) c.sync.ensures (inr refl))
-
-pub returns-clause-durable : goal.returns-clause-durable
-returns-clause-durable c =
-    let r = c.self.inside.recorder in
-    let new = c.sync.new.self in
-    rw (← c.self.view_is) (on_ok c.sync.result _ (λ well. told_durable (recorded r) (recorded new) r.replayed new.replayed r.faults_fit (is_ok c.sync.result) c.sync.ensures well))
-
-pub returns-clause-unsettled : goal.returns-clause-unsettled
-returns-clause-unsettled c =
-    let r = c.self.inside.recorder in
-    let new = c.sync.new.self in
-    rw (← c.self.view_is) (on_err c.sync.result _ (λ failed. told_unsettled (recorded r) (recorded new) r.replayed new.replayed r.faults_fit (is_ok c.sync.result) c.sync.ensures failed))
+    let ok = is_ok c.sync.result in
+    rw (← c.self.view_is) (record {
+      passes = told_passes (recorded r) (recorded new) r.replayed new.replayed r.faults_fit sync_call ok c.sync.ensures r.past_fits;
+      marks = told_sync (recorded r) (recorded new) r.replayed new.replayed r.faults_fit ok c.sync.ensures;
+      same = told_nothing (recorded r) (recorded new) r.replayed new.replayed r.faults_fit 0 synced ok c.sync.ensures (inr refl);
+      sure = grind (arith, common_steps, nat_tests);
+      durable = on_ok c.sync.result _ (λ well. told_durable (recorded r) (recorded new) r.replayed new.replayed r.faults_fit ok c.sync.ensures well);
+      unsettled = on_err c.sync.result _ (λ failed. told_unsettled (recorded r) (recorded new) r.replayed new.replayed r.faults_fit ok c.sync.ensures failed);
+      stands = grind (arith, common_steps, nat_tests);
+      failed = grind (arith, common_steps, nat_tests);
+    })
 
 pub returns-clause-cause : goal.returns-clause-cause
 returns-clause-cause c =

@@ -1,57 +1,33 @@
-use Rattle.std.proofs.Common.{Some, None, Option, List, map, length, string_bytes, String, is_none, is_some, true, false, ◌≡◌, ◌<◌, sym, ◌∙◌, ap, subst, arith}
+use Rattle.std.proofs.Common.{None, Some, Option, is_none, is_some, not, true, false, ◌≡◌, refl, sym, ◌∙◌, ap, arith}
 use Rattle.std.proofs.lemmas.List.{get_or_read}
-use Rattle.std.specs.declared.alloc.Global.{Global}
 use Rattle.disk_mem.specs.Recorded.{Recorded}
-use Rattle.disk_mem.specs.Places.{IsPlace, HasNoPlace}
-use Rattle.disk_mem.proofs.PlaceLemmas.{under_set, under_other, out_set, out_get, out_other, out_nowhere}
+use Rattle.disk_mem.specs.Stock.{shelved}
+use Rattle.disk_mem.proofs.PlaceLemmas.{out_get, out_nowhere}
+use Rattle.disk_mem.proofs.ShelfLemmas.{drops, puts}
 use Rattle.disk_mem.proofs.stock.Stock.give_back.Goals as goal
 
 -- A disk stands there or doesn't.
-both : (d : Option Recorded) → is_none d ≡ true → is_some d ≡ true → ⊥
-both None none some = absurd (cc)
-both (Some x) none some = absurd (cc)
+none_is : (d : Option Recorded) → is_none d ≡ not (is_some d)
+none_is None = refl
+none_is (Some x) = refl
 
-neither : (d : Option Recorded) → is_none d ≡ false → is_some d ≡ false → ⊥
-neither None none some = absurd (cc)
-neither (Some x) none some = absurd (cc)
+pub returns-in_default-clause-call : goal.returns-in_default-clause-call
+returns-in_default-clause-call c =
+    let s = shelved c.args.self.now in
+    drops c.args.name.now s c.args.disk _ (omega (arith, c.saturating_add-self.ensures, c.faults.ensures)) (out_nowhere c.args.name.now s.names s.disks c.in_default.ensures.none)
 
-pub returns-in_default-clause-put : goal.returns-in_default-clause-put
-returns-in_default-clause-put c = λ out.
-    let none : HasNoPlace c.args.name.now (map string_bytes c.args.self.now.names.items) = subst (λ (l : List (String Global)). HasNoPlace c.args.name.now (map string_bytes l)) c.deref.ensures.value c.in_default.ensures.none in
-    let nowhere = out_nowhere c.args.name.now (map string_bytes c.args.self.now.names.items) c.args.self.now.disks.items none in
-    absurd (cc (nowhere, out))
-
-pub returns-then-is_some-clause-put : goal.returns-then-is_some-clause-put
-returns-then-is_some-clause-put c = λ out.
-    let names = map string_bytes c.args.self.now.names.items in
-    let disks = c.args.self.now.disks.items in
-    let lt : c.in-Some.place < length disks = omega (arith, c.in-Some.ensures.bound, c.args.self.now.paired) in
-    let at : IsPlace c.args.name.now names c.in-Some.place = subst (λ (l : List (String Global)). IsPlace c.args.name.now (map string_bytes l) c.in-Some.place) c.deref.ensures.value c.in-Some.ensures.place in
-    let there : is_none c.index.result.now ≡ true = ap is_none (get_or_read disks c.in-Some.place c.index.result.now lt c.index.ensures None) ∙ sym (out_get c.args.name.now names c.in-Some.place disks at lt) ∙ out in
+pub returns-then-is_some-clause-call : goal.returns-then-is_some-clause-call
+returns-then-is_some-clause-call c =
+    let s = shelved c.args.self.now in
+    let place = c.in-Some.ensures.place in
     let some : is_some c.index.result.now ≡ true = cc (c.is_some.ensures, c.if-is_some.true) in
-    absurd (both c.index.result.now there some)
+    drops c.args.name.now s c.args.disk _ (omega (arith, c.saturating_add-self.ensures, c.faults.ensures)) (out_get c.args.name.now s.names c.in-Some.place s.disks place.0 place.1
+    ∙ ap is_none (sym (get_or_read s.disks c.in-Some.place c.index.result.now place.1 c.index.ensures None)) ∙ none_is c.index.result.now ∙ ap not some)
 
-pub returns-clause-put : goal.returns-clause-put
-returns-clause-put c = λ _.
-    let names = map string_bytes c.args.self.now.names.items in
-    let disks = c.args.self.now.disks.items in
-    let lt : c.in-Some.place < length disks = omega (arith, c.in-Some.ensures.bound, c.args.self.now.paired) in
-    let at : IsPlace c.args.name.now names c.in-Some.place = subst (λ (l : List (String Global)). IsPlace c.args.name.now (map string_bytes l) c.in-Some.place) c.deref.ensures.value c.in-Some.ensures.place in
-    record {
-      stands = under_set c.args.name.now names c.in-Some.place disks (Some c.args.disk) at lt;
-      in_again = out_set c.args.name.now names c.in-Some.place disks (Some c.args.disk) at lt;
-      others = record {
-        disks = λ other ne. under_other c.args.name.now other names c.in-Some.place disks (Some c.args.disk) at ne;
-        out = λ other ne. out_other c.args.name.now other names c.in-Some.place disks (Some c.args.disk) at ne;
-      };
-    }
-
-pub returns-clause-not_out : goal.returns-clause-not_out
-returns-clause-not_out c = λ inside.
-    let names = map string_bytes c.args.self.now.names.items in
-    let disks = c.args.self.now.disks.items in
-    let lt : c.in-Some.place < length disks = omega (arith, c.in-Some.ensures.bound, c.args.self.now.paired) in
-    let at : IsPlace c.args.name.now names c.in-Some.place = subst (λ (l : List (String Global)). IsPlace c.args.name.now (map string_bytes l) c.in-Some.place) c.deref.ensures.value c.in-Some.ensures.place in
-    let gone : is_none c.index.result.now ≡ false = ap is_none (get_or_read disks c.in-Some.place c.index.result.now lt c.index.ensures None) ∙ sym (out_get c.args.name.now names c.in-Some.place disks at lt) ∙ inside in
+pub returns-clause-call : goal.returns-clause-call
+returns-clause-call c =
+    let s = shelved c.args.self.now in
+    let place = c.in-Some.ensures.place in
     let none : is_some c.index.result.now ≡ false = cc (c.is_some.ensures, c.if-is_some.false) in
-    absurd (neither c.index.result.now gone none)
+    puts c.args.name.now s c.args.disk _ (omega (arith, c.saturating_add-self.ensures, c.faults.ensures)) c.in-Some.place place
+    (ap is_none (sym (get_or_read s.disks c.in-Some.place c.index.result.now place.1 c.index.ensures None)) ∙ none_is c.index.result.now ∙ ap not none)

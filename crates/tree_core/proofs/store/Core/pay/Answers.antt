@@ -67,7 +67,7 @@ returns-in-Ok g c =
       lists = λ tree honest over. x.lists tree honest over;
     } in
     subst (λ (s : CoreState g.row.D.Denot). Pays g.D.Disk.state c.args.seat payment.Paid s (record { disk = c.take.new.disk; held = with_book c.count_for_write.new.self c.take.new.held; holds = old.holds })) c.self.view_is
-    (pay_taken c.payments_land.ensures.payment g.D.Disk.state c.args.seat c.in-Ok.field-0 c.plan-plan.result old c.plan-plan.new.self c.take.new.held c.take.new.disk c.count_for_write.new.self t x.on c.count_for_write.ensures)
+    (pay_taken g.D.Disk.state c.args.seat c.in-Ok.field-0 c.plan-plan.result old c.plan-plan.new.self c.take.new.held c.take.new.disk c.count_for_write.new.self t x.on c.count_for_write.ensures)
 
 pub returns-in-Err-Fault : goal.returns-in-Err-Fault
 returns-in-Err-Fault g c =

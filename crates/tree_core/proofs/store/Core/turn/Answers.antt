@@ -88,7 +88,7 @@ returns g c =
     let may = may_inside c.self.view_is w seat c.requires.may in
     let even = even_inside c.self.view_is w seat c.requires.even in
     subst (λ (s : CoreState g.row.D.Denot). TakesTurn w g.D.Disk.state seat ended s (record { disk = c.make-made.new.disk; held = with_book b moved; holds = old.holds })) c.self.view_is
-    (takes_turn c.turns_land.ensures.work c.turns_land.ensures.help g.D.Disk.state w seat mv made c.faults.result old c.make-made.new.disk moved ended b c.has_places.ensures
+    (takes_turn g.D.Disk.state w seat mv made c.faults.result old c.make-made.new.disk moved ended b c.has_places.ensures
     (record {
       core = c.self.invariant.0;
       timed = g.met.D.Disk.timed c.make-made.new.disk;

@@ -13,7 +13,7 @@ use Rattle.tree_file.specs.Tree.{Tree, HoldsTree}
 use Rattle.tree_file.specs.Places.{with_components, StandsOn}
 use Rattle.tree_runs.specs.Runs.{RunsState, PassRuns, DeepRuns, guide_at}
 use Rattle.tree_runs.specs.Holding.{AreTagged, IsGuidedBy, IsPassOver, with_deep_run}
-use Rattle.tree_runs.specs.Holding.{StandOver, commit_region, swap_region}
+use Rattle.tree_runs.specs.Holding.{StandOver, commit_region}
 use Rattle.tree_runs.proofs.PinLemmas.{run_beside, swap_beside}
 use Rattle.tree_runs.proofs.KeptMerges.{pass_runs_still, pass_over_still}
 use Rattle.tree_runs.proofs.QuantumLemmas.{deep_is_run}
@@ -21,6 +21,7 @@ use Rattle.tree_runs.proofs.SwapLemmas.{stands_finished, leaves_swapped, leaves_
 use Rattle.tree_runs.proofs.Swapped.{Switches, IsFinished, DeepCommitted, deep_becomes, deep_unswapped}
 use Rattle.tree_runs.proofs.runs.Runs.swap_deep.Goals as goal
 use Rattle.tree_runs.proofs.runs.Runs.swap_deep.Goals.{After-commit_next}
+use Rattle.tree_runs.proofs.Terms.{swap_region}
 
 -- ---- the run's end wasn't written
 

@@ -16,7 +16,7 @@ use Rattle.tree_file.specs.Tree.{Tree, HoldsTree}
 use Rattle.tree_file.specs.Places.{with_pass, StandsOn}
 use Rattle.tree_runs.specs.Runs.{RunsState, PassRuns, DeepRuns, guide_at, made_by_pass}
 use Rattle.tree_runs.specs.Holding.{AreTagged, IsDeepOver, IsGuidedBy, with_pass_run, is_full}
-use Rattle.tree_runs.specs.Holding.{StandOver, commit_region, swap_region}
+use Rattle.tree_runs.specs.Holding.{StandOver, commit_region}
 use Rattle.tree_runs.proofs.PinLemmas.{run_beside, swap_beside}
 use Rattle.tree_runs.proofs.KeptMerges.{deep_runs_still, deep_over_still}
 use Rattle.tree_runs.proofs.QuantumLemmas.{pass_is_run}
@@ -25,6 +25,7 @@ use Rattle.tree_runs.proofs.Swapped.{Switches, IsFinished, PassCommitted, next_v
 use Rattle.tree_runs.proofs.NextTrees.{pass_tree}
 use Rattle.tree_runs.proofs.runs.Runs.swap_pass.Goals as goal
 use Rattle.tree_runs.proofs.runs.Runs.swap_pass.Goals.{After-commit_next}
+use Rattle.tree_runs.proofs.Terms.{swap_region}
 
 -- ---- the run's end wasn't written
 
