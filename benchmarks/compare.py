@@ -69,7 +69,7 @@ def dealt(commands: Sequence[str], callers: int) -> str:
 
 
 def is_write(command: str) -> bool:
-    return command.split(" ", 1)[0] in ("put", "add", "del")
+    return command.split(" ", 1)[0] in judge.WRITES
 
 
 def generated(seed: int, count: int) -> Script:
@@ -87,7 +87,9 @@ class Present:
     def write(self, command: str) -> None:
         verb, key = command.split(" ")[:2]
         old = self.weights.pop(key, 0)
-        new = {"put": weight(command), "add": old or weight(command), "del": 0}[verb]
+        bare = weight(f"del {key}")
+        tailed = bare + min(max(old - bare, 0) + weight(command) - bare, judge.MOST_TAIL)
+        new = {"put": weight(command), "add": old or bare, "tail": tailed, "del": 0}[verb]
         self.sum += new - old
         if new:
             self.weights[key] = new

@@ -1,9 +1,9 @@
-// Runs a script of puts, adds, dels, gets and works over LevelDB, each write synced before its caller's next command, and prints the history.
+// Runs a script of puts, adds, tails, dels, gets and works over LevelDB, each write synced before its caller's next command, and prints the history.
 //
 //     leveldb_run [--buffer BYTES] [--count] FOLDER < script.txt        (or --version)
 //
-// Each caller of the script does its lines in order, on a thread of its own where there are several. LevelDB has no blind add, so an add reads the value
-// first; so that no other write of the key comes between, a caller has the key's lock (one of many, by its hash) while it does a command. Writes of other
+// Each caller of the script does its lines in order, on a thread of its own where there are several. LevelDB has no blind add, so an add or a tail reads the
+// value first; so that no other write of the key comes between, a caller has the key's lock (one of many, by its hash) while it does a command. Writes of other
 // keys still meet in LevelDB, which syncs them together. The history's order is that in which the locks were had: commands of one key took effect in it, and
 // those of two keys are nothing to one another. A work does nothing, since LevelDB merges by itself.
 //
@@ -124,7 +124,9 @@ Command Parse(const std::string& line) {
   Command command;
   command.line = line;
   std::istringstream words(line);
-  words >> command.caller >> command.kind >> command.key >> command.count >> command.text;
+  words >> command.caller >> command.kind >> command.key;
+  if (command.kind != "tail") words >> command.count;
+  words >> command.text;
   return command;
 }
 
@@ -155,11 +157,15 @@ class Store {
     if (command.kind == "work") return "did 0";
     const bool found = Find(db_.get(), command.key, &value);
     if (command.kind == "add") return Put(command.key, {value.count + command.count, value.text});
+    if (command.kind == "tail") return Put(command.key, {value.count, LastOf(value.text + command.text)});
     if (command.kind != "get") std::exit(2);
     return found ? "is " + std::to_string(value.count) + " " + (value.text.empty() ? "-" : value.text) : "none";
   }
 
   std::string Put(const std::string& key, const Value& value) { return Done(db_->Put(durable(), key, Encode(value))); }
+
+  // What stays of a text and the tail behind it.
+  static std::string LastOf(const std::string& text) { return text.size() > 64 ? text.substr(text.size() - 64) : text; }
 
   static std::string Done(const Status& status) {
     if (!status.ok()) std::exit(7);

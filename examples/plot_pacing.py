@@ -17,17 +17,20 @@ import bisect
 import sys
 
 
+MOST_TAIL = 64  # of a text and the tail behind it, so many bytes stay
+
+
 def weight(key, record):
-    return 13 + len(key) + (len(record[2]) if record[0] == "base" else 0)
+    return 13 + len(key) + len(record[2])
 
 
 def fold(newer, older):
-    """A record over an older one."""
+    """A record over an older one. A delta has what it adds and its tail, which may be empty."""
     if newer[0] != "delta" or older is None:
         return newer
     if older[0] == "tomb":
-        return ("base", newer[1], "")
-    return (older[0], (older[1] + newer[1]) % 2**64, older[2])
+        return ("base", newer[1], newer[2])
+    return (older[0], (older[1] + newer[1]) % 2**64, (older[2] + newer[2])[-MOST_TAIL:] if newer[2] else older[2])
 
 
 def settle(record):
@@ -211,11 +214,16 @@ class Tree:
         return quanta
 
 
+WRITES = ("put", "add", "tail", "del")
+
+
 def record_of(words):
     if words[0] == "put":
         return ("base", int(words[2]), "" if words[3] == "-" else words[3])
     if words[0] == "add":
         return ("delta", int(words[2]), "")
+    if words[0] == "tail":
+        return ("delta", 0, words[2])
     return ("tomb", 0, "")
 
 
@@ -228,9 +236,9 @@ class Entry:
         self.seat, self.words = int(seat) - 1, command.split(" ")
         self.reply, quanta = rest.rsplit(" q", 1)
         self.quanta = int(quanta)
-        self.is_write = self.words[0] in ("put", "add", "del") and self.reply == "ok"
+        self.is_write = self.words[0] in WRITES and self.reply == "ok"
         self.is_work = self.words[0] == "work"
-        self.weight = weight(self.words[1], record_of(self.words)) if self.words[0] in ("put", "add", "del") else 0
+        self.weight = weight(self.words[1], record_of(self.words)) if self.words[0] in WRITES else 0
         self.table = self.charge = self.passes = self.deeps = 0
 
     def redo(self, tree):
@@ -359,7 +367,7 @@ def draw(drawn, tree):
     high = 2 * tree.half
     marks = ((high, "high mark"), (tree.half, "half spring"), (tree.low, "low mark"))
     picture.curve("weight of the memory table after each entry, in bytes", [e.table for e in entries], high, marks, 240, "#1565c0")
-    full = ((tree.capacity, "capacity"), (tree.capacity - tree.half, "no put or add passes"))
+    full = ((tree.capacity, "capacity"), (tree.capacity - tree.half, "a del alone passes"))
     picture.curve("charge after each entry, in bytes", [e.charge for e in entries], tree.capacity, full, 120, "#2e7d32")
     for title, values, colour in (("swaps that ended a pass", [e.passes for e in entries], "#6a1b9a"), ("swaps that ended a deep merge", [e.deeps for e in entries], "#ef6c00")):
         picture.stems(f"{title}, by entry: {sum(values)}", values, max([1, *values]), 24, colour)

@@ -83,6 +83,21 @@ class Pictures(unittest.TestCase):
         lines = ["open charge 0", *(f"{i} {line}" for i, line in enumerate(entries, 1)), "end c0 2273 of 65536 callers 2 workers 0 swaps 1 0"]
         self.assertTrue(plot_pacing.Drawn(lines, plot_pacing.Tree(32768, 4, 16384, 1024)).is_exact)
 
+    def test_tails_are_done_again(self) -> None:
+        lines = ["1 1 put a 5 hello => ok q0", f"2 1 put b 0 {'x' * 70} => ok q0", "3 1 work 100 => did 6 q2", "4 1 tail a world => ok q0", "5 1 tail b y => ok q0", "6 1 work 100 => did 6 q2"]
+        tree = default()
+        drawn = plot_pacing.Drawn(["open charge 0", *lines, "end c0 103 of 65536 callers 4 workers 0 swaps 2 2"], tree)
+        self.assertTrue(drawn.is_exact)
+        self.assertEqual([(entry.is_write, entry.weight) for entry in drawn.entries[3:5]], [(True, 19), (True, 15)])
+        self.assertEqual(tree.c2.records, {"a": ("base", 5, "helloworld"), "b": ("base", 0, "x" * 63 + "y")})
+        self.assertEqual(tree.charge(), 102)
+
+    def test_tails_fold_as_texts_do(self) -> None:
+        tail, add, tomb = ("delta", 0, "z" * 60), ("delta", 2, ""), ("tomb", 0, "")
+        self.assertEqual(plot_pacing.fold(tail, ("delta", 1, "abcdef")), ("delta", 1, "cdef" + "z" * 60))
+        self.assertEqual(plot_pacing.fold(add, ("base", 1, "y" * 70)), ("base", 3, "y" * 70))
+        self.assertEqual(plot_pacing.fold(tail, tomb), ("base", 0, "z" * 60))
+
     def test_works_stand_apart_from_writes(self) -> None:
         lines = ["open charge 0", "1 1 put x 100 old => ok q0", "2 1 work 100 => did 6 q2", "3 1 del x => ok q0", "4 1 add x 7 => ok q0", "5 1 get x => is 7 - q0", "end c0 17 of 65536 callers 2 workers 0 swaps 1 1"]
         _, svg = self.drawn(lines)
