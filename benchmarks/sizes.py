@@ -1,43 +1,78 @@
 #!/usr/bin/env python3
-"""Prints the lines of code, specification and proof of each crate, as a table of docs/ARCHITECTURE.md.
+"""Prints the lines of code, specification and proof of each crate and of each layer, with the lines of imports and the bytes, as tables of docs/MEASURED.md.
 
-Lines without blank ones, comments, imports and tests. Clauses and ghost items of the code count as specification, as all of specs/
-does; proofs/ is proof. Of a crate of tests alone the root file counts.
+Lines without blank ones, comments and tests; imports are counted by themselves. Clauses and ghost items of the code count as specification, as all of
+specs/ does; proofs/ is proof. Bytes are those of the same lines, without their margins. Of a crate of tests alone the root file counts.
 """
 import os
 import re
+from dataclasses import dataclass, fields
 
 IMPORT = re.compile(r"(pub(\(crate\))? )?use |ghost use ")
 CLAUSE = re.compile(r"(requires|ensures|decreases|ghost )")
+TESTS = re.compile(r"_tests$|^merge_trip$|^hostile_cases$")
+LAWS = ("disk_trait", "pacing", "tree_machine", "paced_tree", "alone_run", "tree_file", "core_pace", "core_lists", "core_chain")
+# where a layer begins, in the order of crates.txt
+LAYERS = {"refusal": "leaves", "merge_step": "middle", "script_text": "text and program", "store_trial": "middle", "blsm_run": "text and program"}
+NAMES = {
+    "leaves": "leaves: up to the sorted runs",
+    "middle": "middle: merges up to scripts over a disk",
+    "laws": "laws: crates without code of their own",
+    "text and program": "text and program",
+    "tests": "tests alone",
+}
+
+
+@dataclass
+class Size:
+    """Lines, and bytes."""
+
+    code: int = 0
+    specification: int = 0
+    proof: int = 0
+    imports: int = 0
+    code_bytes: int = 0
+    specification_bytes: int = 0
+    proof_bytes: int = 0
+
+    def add(self, kind, line):
+        setattr(self, kind, getattr(self, kind) + 1)
+        if kind != "imports":
+            name = f"{kind}_bytes"
+            setattr(self, name, getattr(self, name) + len(line.encode()))
+
+    def __add__(self, other):
+        return Size(*(getattr(self, it.name) + getattr(other, it.name) for it in fields(self)))
+
+    def cells(self):
+        return [f"{getattr(self, it.name):,}" for it in fields(self)]
 
 
 def is_test(crate, path):
     inside = os.path.basename(path) == "tests.rt" or f"{os.sep}tests{os.sep}" in path
-    of_tests = crate.endswith("_tests") or crate in ("merge_trip", "hostile_cases")
-    return inside or (of_tests and os.path.basename(path) not in ("lib.rt", "main.rt"))
+    return inside or (bool(TESTS.search(crate)) and os.path.basename(path) not in ("lib.rt", "main.rt"))
 
 
-def of_code(path):
+def of_code(lines, size):
     """The lines of code and of clauses in a file."""
-    code = clauses = depth = 0
-    in_import = False
-    with open(path, encoding="utf-8") as lines:
-        for line in map(str.strip, lines):
-            if not line or line.startswith("//"):
-                continue
-            if in_import or IMPORT.match(line):
-                in_import = not line.endswith(";")
-            elif depth > 0 or CLAUSE.match(line):
-                clauses += 1
-                depth = max(depth + line.count("{") - line.count("}"), 0)
-            else:
-                code += 1
-    return code, clauses
+    depth, in_import = 0, False
+    for line in map(str.strip, lines):
+        if not line or line.startswith("//"):
+            continue
+        if in_import or IMPORT.match(line):
+            size.add("imports", line)
+            in_import = not line.endswith(";")
+        elif depth > 0 or CLAUSE.match(line):
+            size.add("specification", line)
+            depth = max(depth + line.count("{") - line.count("}"), 0)
+        else:
+            size.add("code", line)
 
 
-def of_logic(path):
-    with open(path, encoding="utf-8") as lines:
-        return sum(1 for line in map(str.strip, lines) if line and not line.startswith("--") and not re.match(r"(pub )?use ", line))
+def of_logic(lines, size, kind):
+    for line in map(str.strip, lines):
+        if line and not line.startswith("--"):
+            size.add("imports" if re.match(r"(pub )?use ", line) else kind, line)
 
 
 def files(folder, ending):
@@ -45,21 +80,51 @@ def files(folder, ending):
 
 
 def of_crate(crate):
-    folder = f"crates/{crate}"
-    counts = [of_code(it) for it in files(f"{folder}/src", ".rt") if not is_test(crate, it)]
-    code, clauses = (sum(it) for it in zip(*counts)) if counts else (0, 0)
-    return code, clauses + sum(map(of_logic, files(f"{folder}/specs", ".antt"))), sum(map(of_logic, files(f"{folder}/proofs", ".antt")))
+    folder, size = f"crates/{crate}", Size()
+    for path in files(f"{folder}/src", ".rt"):
+        if not is_test(crate, path):
+            with open(path, encoding="utf-8") as lines:
+                of_code(lines, size)
+    for part, kind in (("specs", "specification"), ("proofs", "proof")):
+        for path in files(f"{folder}/{part}", ".antt"):
+            with open(path, encoding="utf-8") as lines:
+                of_logic(lines, size, kind)
+    return size
+
+
+def listed():
+    """The crates, in the order of crates.txt, each with its layer."""
+    layer = ""
+    with open("crates.txt", encoding="utf-8") as lines:
+        for crate in (line.split(":")[0] for line in lines if re.match(r"[a-z]", line)):
+            layer = LAYERS.get(crate, layer)
+            yield crate, "tests" if TESTS.search(crate) else "laws" if crate in LAWS else layer
+
+
+def table(first, rows):
+    heads = (first, "Code", "Specification", "Proof", "Imports", "Bytes of code", "Of specification", "Of proof")
+    print(f"| {' | '.join(heads)} |\n|{'---|' * len(heads)}")
+    for name, size in rows:
+        print(f"| {name} | {' | '.join(size.cells())} |")
+
+
+def ratio(size):
+    """Lines of specification and of proof for a line of code, and so for bytes."""
+    parts = ((size.specification, size.code), (size.proof, size.code), (size.specification_bytes, size.code_bytes), (size.proof_bytes, size.code_bytes))
+    return " | ".join(f"{part / whole:.2f}" if whole else "" for part, whole in parts)
 
 
 def main():
     os.chdir(os.path.join(os.path.dirname(os.path.abspath(__file__)), ".."))
-    with open("crates.txt", encoding="utf-8") as lines:
-        crates = [line.split(":")[0] for line in lines if re.match(r"[a-z]", line)]
-    rows = [(crate, *of_crate(crate)) for crate in crates]
-    print("| Crate | Code | Specification | Proof |\n|---|---|---|---|")
-    for crate, *counts in rows:
-        print(f"| `{crate}` |" + "".join(f" {count} |" for count in counts))
-    print("| all |" + "".join(f" {sum(row[place] for row in rows)} |" for place in (1, 2, 3)))
+    sizes = [(crate, layer, of_crate(crate)) for crate, layer in listed()]
+    layers = [(layer, sum((size for _, its, size in sizes if its == layer), Size())) for layer in NAMES]
+    whole = sum((size for _, _, size in sizes), Size())
+    table("Layer", [*((NAMES[layer], size) for layer, size in layers), ("all", whole)])
+    print("\n| Layer | Specification a line of code | Proof | Bytes of specification a byte of code | Of proof |\n|---|---|---|---|---|")
+    for name, size in [*((NAMES[layer], size) for layer, size in layers if layer not in ("laws", "tests")), ("all", whole)]:
+        print(f"| {name} | {ratio(size)} |")
+    print()
+    table("Crate", [(f"`{crate}`", size) for crate, _, size in sizes])
 
 
 if __name__ == "__main__":
