@@ -18,6 +18,7 @@ from sources import NAME, TOP, Sources  # noqa: E402
 
 SPAN = re.compile(r"`([^`]+)`")
 PATH = re.compile(r"(?<![\w/.])((?:crates|docs|python|benchmarks|examples)/[\w./*-]+)")
+IN_CRATE = re.compile(r"(?<![\w/])([a-z_]+/(?:src|specs|proofs|must-fail)/[\w./*-]+)")  # a path below crates/
 NAMED = re.compile(r"[^\W\d]\w*(?:(?:::|\.)[^\W\d]\w*)*")
 # `a`, `b` and `c` of `d`
 OF = re.compile(r"(`[^`]+`(?:(?:, | and | or )`[^`]+`)*) of `([^`]+)`")
@@ -45,12 +46,14 @@ def scripts() -> set[str]:
 def missing(text: str, sources: Sources, known: frozenset[str] | set[str]) -> Iterator[tuple[int, str]]:
     """The lines with what isn't there."""
     for number, line in enumerate(text.splitlines(), 1):
-        for path in PATH.findall(line):
+        for path in PATH.findall(line) + [f"crates/{path}" for path in IN_CRATE.findall(line)]:
             if "/out/" not in path and not list(TOP.glob(path.rstrip("./"))):
                 yield number, f"no file {path}"
         for span in SPAN.findall(line):
             if NAMED.fullmatch(span):
                 yield from ((number, f"no name `{name}`") for name in NAME.findall(span) if name not in known)
+        if line.startswith("|"):
+            yield from ((number, what) for what in elsewhere(line))
         for names, owner in OF.findall(line):
             yield from ((number, f"no `{name}` of `{owner}`") for name in SPAN.findall(names) if is_apart(name, owner, sources))
         for owners, name in BESIDE.findall(line):
@@ -87,6 +90,18 @@ def is_declared(name: str, crates: list[str], sources: Sources) -> bool:
 
 def called_in(crates: list[str], sources: Sources) -> list[str]:
     return [it.called() for it in sources.functions if it.crate in crates]
+
+
+def elsewhere(line: str) -> Iterator[str]:
+    """In a row of a table: names that aren't in the file that stands behind them."""
+    for piece in (piece for cell in line.split("|") for piece in cell.split(";")):
+        names: list[str] = []
+        for span in SPAN.findall(piece):
+            if IN_CRATE.fullmatch(span) and (TOP / "crates" / span).is_file():
+                there = NAME.findall((TOP / "crates" / span).read_text(encoding="utf-8"))
+                yield from (f"no `{name}` in {span}" for name in names if not set(NAME.findall(name)) <= set(there))
+            elif NAMED.fullmatch(span):
+                names.append(span)
 
 
 def is_apart(name: str, owner: str, sources: Sources) -> bool:

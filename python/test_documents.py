@@ -38,6 +38,9 @@ class Names(unittest.TestCase):
         self.assertEqual(told("`run` of `each_run_keeps_pace`, `run` and `pass` of `merges_are_few`"), ["no `run` of `each_run_keeps_pace`", "no `pass` of `merges_are_few`"])
         self.assertEqual(told("`seats_apart` `holds`, `swap_deep`, `rotate` `swaps`"), ["no `holds` of `seats_apart`"])
 
+    def test_a_row_names_the_file_of_a_word(self) -> None:
+        self.assertEqual(told("| `open_byte` and `plan`, `gated_write/specs/Gated.antt` | `plan`, `gear_sched/src/lib.rt` |"), ["no `plan` in gated_write/specs/Gated.antt"])
+
     def test_a_line_of_a_crate_begins_with_its_names(self) -> None:
         lines = ["### `gated_write`", "- `write_gated` `gated`, `written`: as `Affects` says.", "- `write_gated` `appends`: no.", "- `read_page`: no.", "## The rest", "- `read_page`: of no crate."]
         self.assertEqual([number for number, _ in names.astray("\n".join(lines), sources())], [3, 4])
