@@ -25,12 +25,13 @@ OF = re.compile(r"(`[^`]+`(?:(?:, | and | or )`[^`]+`)*) of `([^`]+)`")
 # `a`, `b` `c`, where c is of the one or the other
 BESIDE = re.compile(r"(`[^`]+`(?:(?:, | and )`[^`]+`)*) `([^`]+)`")
 FOREIGN = {"qN", "Lts", "Proof", "requires", "ensures"}  # of what is printed, of the checker and of the language
-PAGES = (TOP / "docs/PROOFS.md",)  # with a section for each crate
+PAGES = (TOP / "docs/CLAUSES.md",)  # with a section for each crate
 SCRIPTS = ("python/*", "benchmarks/*", "examples/*", "docs/*.py")
 
 
 def documents() -> list[Path]:
-    return [TOP / "README.md", *sorted((TOP / "docs").glob("*.md"))]
+    """All that are written by hand: the index of clauses is made of the sources."""
+    return [TOP / "README.md", *(path for path in sorted((TOP / "docs").glob("*.md")) if path.name != "PROOFS.md")]
 
 
 def scripts() -> set[str]:

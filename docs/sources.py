@@ -39,6 +39,7 @@ class Function:
     is_public: bool
     comment: str
     clauses: list[Clause] = field(default_factory=list)
+    is_law: bool = False  # it does nothing, or is a law of a trait
 
     def called(self) -> str:
         return f"{self.home}::{self.name}" if self.home else self.name
@@ -58,12 +59,11 @@ class Word:
 
 
 def functions(crate: str, path: Path) -> Iterator[Function]:
-    """The functions of a file, each with its clauses, and the laws of its traits. A comment is of what stands next; before clauses, of all up to a blank line."""
+    """The functions of a file, each with its clauses, and the laws of its traits. A comment is of what stands next."""
     home, is_open, above, last, is_head = "", False, [], None, False
     for line in path.read_text(encoding="utf-8").splitlines():
         comment, function, clause, law, place = (it.match(line) for it in (RT_COMMENT, FUNCTION, CLAUSE, LAW, HOME))
         if comment:
-            above = above if above and above[-1] is not None else []
             above.append(comment[1])
             continue
         if function:
@@ -73,13 +73,13 @@ def functions(crate: str, path: Path) -> Iterator[Function]:
             last, is_head = Function(crate, str(path.relative_to(TOP)), home, function[3], bool(function[2]) or bool(home) and is_open, joined(above)), True
         elif is_head and last and clause:
             last.clauses.append(Clause(clause[1], clause[2] or "", joined(above), clause[3]))
-            above = [*[it for it in above if it is not None], None]  # the next one has it too, unless there is one of its own
+            above = []
             is_head = not line.rstrip().endswith(";")
             continue
         elif law:
-            yield Function(crate, str(path.relative_to(TOP)), home, law[1], True, joined(above), [Clause("ensures", "", "", law[2])])
+            yield Function(crate, str(path.relative_to(TOP)), home, law[1], True, joined(above), [Clause("ensures", "", "", law[2])], True)
         elif is_head and last and line.strip() in ("{", "{}"):
-            is_head = False
+            is_head, last.is_law = False, line.strip() == "{}"
         elif is_head and last and last.clauses and line.strip():
             last.clauses[-1].body += " " + line.strip()
             is_head = not line.rstrip().endswith(";")
@@ -116,8 +116,8 @@ def words(crate: str, path: Path) -> Iterator[Word]:
         yield last
 
 
-def joined(lines: list[str | None]) -> str:
-    return " ".join(line.strip() for line in lines if line and line.strip())
+def joined(lines: list[str]) -> str:
+    return " ".join(line.strip() for line in lines if line.strip())
 
 
 class Sources:

@@ -8,6 +8,7 @@ from pathlib import Path
 TOP = Path(__file__).resolve().parent.parent
 sys.path.insert(0, str(TOP / "docs"))
 import names  # noqa: E402
+import proofs  # noqa: E402
 from sources import Sources  # noqa: E402
 
 
@@ -44,6 +45,25 @@ class Names(unittest.TestCase):
     def test_a_line_of_a_crate_begins_with_its_names(self) -> None:
         lines = ["### `gated_write`", "- `write_gated` `gated`, `written`: as `Affects` says.", "- `write_gated` `appends`: no.", "- `read_page`: no.", "## The rest", "- `read_page`: of no crate."]
         self.assertEqual([number for number, _ in names.astray("\n".join(lines), sources())], [3, 4])
+
+
+class Index(unittest.TestCase):
+    def test_the_index_is_what_the_sources_make(self) -> None:
+        self.assertEqual(proofs.PAGE.read_text(encoding="utf-8"), proofs.Index(sources()).text(), "run docs/proofs.py")
+
+    def test_no_clause_that_is_named_is_gone(self) -> None:
+        self.assertEqual(proofs.gone(sources()), [])
+
+    def test_a_clause_has_its_marks_its_word_and_a_comment(self) -> None:
+        lines = "\n".join(proofs.Index(sources()).of_crate(proofs.Index(sources()).public("gated_write")))
+        self.assertIn("- `write_gated` (`lib.rt`). Writes the text behind a closed gate,", lines)
+        self.assertIn("  - `gated` **[H]** `LeavesGated`: Where the gate was closed,", lines)
+        self.assertIn("  - `written` **[h]** **[b]** *Ok* `HasWritten`: These bytes were written over what was there,", lines)
+
+    def test_each_public_clause_is_in_the_index(self) -> None:
+        index, text = proofs.Index(sources()), proofs.PAGE.read_text(encoding="utf-8")
+        lost = [it.called() for crate in index.crates() for it in index.public(crate) if f"`{it.called()}`" not in text]
+        self.assertEqual(lost, [])
 
 
 if __name__ == "__main__":
