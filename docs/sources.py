@@ -60,7 +60,7 @@ class Word:
 
 def functions(crate: str, path: Path) -> Iterator[Function]:
     """The functions of a file, each with its clauses, and the laws of its traits. A comment is of what stands next."""
-    home, is_open, above, last, is_head = "", False, [], None, False
+    home, is_open, is_trait, above, last, is_head = "", False, False, [], None, False
     for line in path.read_text(encoding="utf-8").splitlines():
         comment, function, clause, law, place = (it.match(line) for it in (RT_COMMENT, FUNCTION, CLAUSE, LAW, HOME))
         if comment:
@@ -76,7 +76,7 @@ def functions(crate: str, path: Path) -> Iterator[Function]:
             above = []
             is_head = not line.rstrip().endswith(";")
             continue
-        elif law:
+        elif law and is_trait:
             yield Function(crate, str(path.relative_to(TOP)), home, law[1], True, joined(above), [Clause("ensures", "", "", law[2])], True)
         elif is_head and last and line.strip() in ("{", "{}"):
             is_head, last.is_law = False, line.strip() == "{}"
@@ -87,7 +87,8 @@ def functions(crate: str, path: Path) -> Iterator[Function]:
         elif line.lstrip().startswith("#["):
             continue
         elif place:
-            home, is_open = place[4], place[2] == "trait" or place[3] is not None
+            home, is_trait = place[4], place[2] == "trait"
+            is_open = is_trait or place[3] is not None
         above = []
     if last:
         yield last
