@@ -1,5 +1,5 @@
 #!/usr/bin/env python3
-"""Prints the lines of code, specification and proof of each crate and of each layer, with the lines of imports and the bytes, as tables of docs/MEASURED.md.
+"""Prints the lines of code, specification and proof of each layer and crate, with imports and bytes, as the tables of docs/MEASURED.md.
 
 Lines without blank ones, comments and tests; imports are counted by themselves. Clauses and ghost items of the code count as specification, as all of
 specs/ does; proofs/ is proof. Bytes are those of the same lines, without their margins. Of a crate of tests alone the root file counts.
@@ -110,8 +110,8 @@ def table(first, rows):
 
 def ratio(size):
     """Lines of specification and of proof for a line of code, and so for bytes."""
-    parts = ((size.specification, size.code), (size.proof, size.code), (size.specification_bytes, size.code_bytes), (size.proof_bytes, size.code_bytes))
-    return " | ".join(f"{part / whole:.2f}" if whole else "" for part, whole in parts)
+    lines = [f"{part / size.code:.2f}" for part in (size.specification, size.proof)]
+    return " | ".join([*lines, *(f"{part / size.code_bytes:.2f}" for part in (size.specification_bytes, size.proof_bytes))])
 
 
 def main():

@@ -1,9 +1,9 @@
 #!/usr/bin/env python3
 """Finds each name in backticks of the documents in the sources, and each file that they name. Prints those that are not there, with their lines.
 
-A name is a word of the code, of the specifications or of the scripts. Where a document says `clause` of `function`, or puts them side by side, the clause
-must be the function's own, or a field of a record that its clauses name; so with a field of a record, and with what stands in a crate. In a page with a
-section for each crate a line begins with names of that crate.
+A name is a word of the code, of the specifications or of the scripts. Where a document says `clause` of `function`, or puts them side by side,
+the clause must be the function's own, or a field of a record that its clauses name; so with a field of a record, and with what stands in a crate.
+In a page with a section for each crate a line begins with names of that crate. In a row of a table a name is in the file that stands behind it.
 """
 
 from __future__ import annotations
@@ -63,7 +63,7 @@ def missing(text: str, sources: Sources, known: frozenset[str] | set[str]) -> It
 
 
 def astray(text: str, sources: Sources) -> Iterator[tuple[int, str]]:
-    """In a page with a section for each crate: what stands at the head of a line and is neither declared in the section's crates nor a clause there."""
+    """What stands at the head of a line of a crate's section, and is neither declared in that crate nor a clause there."""
     crates: list[str] = []
     for number, line in enumerate(text.splitlines(), 1):
         if line.startswith("#"):
@@ -86,7 +86,8 @@ def head_of(line: str) -> str:
 
 
 def is_declared(name: str, crates: list[str], sources: Sources) -> bool:
-    return name in crates or any(it.crate in crates for it in sources.owners.get(name, [])) or any(name in sources.homes and name in sources.tokens[crate] for crate in crates)
+    is_home = name in sources.homes and any(name in sources.tokens[crate] for crate in crates)
+    return name in crates or is_home or any(it.crate in crates for it in sources.owners.get(name, []))
 
 
 def called_in(crates: list[str], sources: Sources) -> list[str]:

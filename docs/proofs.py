@@ -4,8 +4,9 @@
     proofs.py            writes the index; ends with status 1 where docs/CLAUSES.md names a clause that is gone
     proofs.py --check    writes nothing; ends with status 1 also where the index isn't what the sources make
 
-A clause's line has its name, marks that are read off the clause, the word of the specifications that it states, and the comment above the clause, or else the
-one above that word. Clauses without a comment stand behind what the function does. Functions whose clauses are equations alone are listed by name.
+A clause's line has its name, marks that are read off the clause, the word of the specifications that it states, and the comment above the clause,
+or else the one above that word. Clauses without a comment stand behind what the function does. Functions whose clauses are equations alone are
+listed by name.
 """
 
 from __future__ import annotations
@@ -27,15 +28,20 @@ WRAPPED = re.compile(r"^\s*(?:OnOk|OnErr|IfOk|IfErr) \S+ \((?:λ [^.]*\. )?(.*)\
 IMPORT = re.compile(r"Rattle\.(\w+)\.specs\.[\w.]+?\.\{([^}]*)\}")
 MANY = 12  # a word that so many clauses state stands at the top, with its comment, and in each line by name alone
 
-HEAD = """# The clauses
-
-An index, made by `python3 docs/proofs.py` from the sources: each clause of each public function, with the comment that stands above it, or above the word that it states. What clauses mean together, and what they leave open, is in `docs/CLAUSES.md` and `docs/AUDIT.md`.
-
-- **[H]** it speaks of an honest disk; **[h]** a part of its word does. **[B]** it speaks of a disk that tells its bytes; **[b]** a part of its word does. No mark: on every disk, or of no disk.
-- *Ok*, *Err*: it speaks of that answer. *law*: the function does nothing, and the clause is a theorem over plain values; or it is what a trait asks of its values.
-- What stands above a word is said where the word comes first in a crate. A name of a file is one of the crate's `src/`.
-- Functions under "Equations" have clauses of the form `result ≡ ..`, `self.new ≡ ..` or `result` exactly where .. alone.
-"""
+HEAD = (
+    "# The clauses\n"
+    "\n"
+    "An index, made by `python3 docs/proofs.py` from the sources: each clause of each public function, with the comment that stands above"
+    " it, or above the word that it states. What clauses mean together, and what they leave open, is in `docs/CLAUSES.md` and "
+    "`docs/AUDIT.md`.\n"
+    "\n"
+    "- **[H]** it speaks of an honest disk; **[h]** a part of its word does. **[B]** it speaks of a disk that tells its bytes; **[b]** a "
+    "part of its word does. No mark: on every disk, or of no disk.\n"
+    "- *Ok*, *Err*: it speaks of that answer. *law*: the function does nothing, and the clause is a theorem over plain values; or it is "
+    "what a trait asks of its values.\n"
+    "- What stands above a word is said where the word comes first in a crate. A name of a file is one of the crate's `src/`.\n"
+    "- Functions under \"Equations\" have clauses of the form `result ≡ ..`, `self.new ≡ ..` or `result` exactly where .. alone.\n"
+)
 
 
 class Index:

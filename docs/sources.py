@@ -70,7 +70,8 @@ def functions(crate: str, path: Path) -> Iterator[Function]:
             if last:
                 yield last
             home = home if function[1] else ""
-            last, is_head = Function(crate, str(path.relative_to(TOP)), home, function[3], bool(function[2]) or bool(home) and is_open, joined(above)), True
+            is_public = bool(function[2]) or bool(home) and is_open
+            last, is_head = Function(crate, str(path.relative_to(TOP)), home, function[3], is_public, joined(above)), True
         elif is_head and last and clause:
             last.clauses.append(Clause(clause[1], clause[2] or "", joined(above), clause[3]))
             above = []
@@ -187,4 +188,5 @@ class Sources:
             return True
         records = {word for word in cited if word[0].isupper()} - seen
         seen |= records
-        return depth > 0 and any(self.is_in(name, word, depth - 1, seen) for one in records for word in self.owners.get(one, []) if isinstance(word, Word))
+        words = [word for one in records for word in self.owners.get(one, []) if isinstance(word, Word)]
+        return depth > 0 and any(self.is_in(name, word, depth - 1, seen) for word in words)

@@ -32,18 +32,22 @@ class Names(unittest.TestCase):
 
     def test_names_and_files_that_are_gone_are_told(self) -> None:
         self.assertEqual(told("`write_gated` and `gone_for_good`, `Lanes::append`, `0 made 4`"), ["no name `gone_for_good`"])
-        self.assertEqual(told("docs/PLAN.md, crates/tree_core/src/gone.rt, `python3 benchmarks/sizes.py`, crates/*/specs"), ["no file crates/tree_core/src/gone.rt"])
+        text = "docs/PLAN.md, crates/tree_core/src/gone.rt, `python3 benchmarks/sizes.py`, crates/*/specs"
+        self.assertEqual(told(text), ["no file crates/tree_core/src/gone.rt"])
 
     def test_a_clause_is_its_functions_own(self) -> None:
         self.assertEqual(told("`gated` of `write_gated`, `steps` of `admit`, `replies` of `HasCauses`, `is_page` of `page_file`"), [])
-        self.assertEqual(told("`run` of `each_run_keeps_pace`, `run` and `pass` of `merges_are_few`"), ["no `run` of `each_run_keeps_pace`", "no `pass` of `merges_are_few`"])
+        text = "`run` of `each_run_keeps_pace`, `run` and `pass` of `merges_are_few`"
+        self.assertEqual(told(text), ["no `run` of `each_run_keeps_pace`", "no `pass` of `merges_are_few`"])
         self.assertEqual(told("`seats_apart` `holds`, `swap_deep`, `rotate` `swaps`"), ["no `holds` of `seats_apart`"])
 
     def test_a_row_names_the_file_of_a_word(self) -> None:
-        self.assertEqual(told("| `open_byte` and `plan`, `gated_write/specs/Gated.antt` | `plan`, `gear_sched/src/lib.rt` |"), ["no `plan` in gated_write/specs/Gated.antt"])
+        text = "| `open_byte` and `plan`, `gated_write/specs/Gated.antt` | `plan`, `gear_sched/src/lib.rt` |"
+        self.assertEqual(told(text), ["no `plan` in gated_write/specs/Gated.antt"])
 
     def test_a_line_of_a_crate_begins_with_its_names(self) -> None:
-        lines = ["### `gated_write`", "- `write_gated` `gated`, `written`: as `Affects` says.", "- `write_gated` `appends`: no.", "- `read_page`: no.", "## The rest", "- `read_page`: of no crate."]
+        of_crate = ["### `gated_write`", "- `write_gated` `gated`, `written`: as `Affects` says.", "- `write_gated` `appends`: no.", "- `read_page`: no."]
+        lines = [*of_crate, "## The rest", "- `read_page`: of no crate."]
         self.assertEqual([number for number, _ in names.astray("\n".join(lines), sources())], [3, 4])
 
 

@@ -84,7 +84,8 @@ class Pictures(unittest.TestCase):
         self.assertTrue(plot_pacing.Drawn(lines, plot_pacing.Tree(32768, 4, 16384, 1024)).is_exact)
 
     def test_tails_are_done_again(self) -> None:
-        lines = ["1 1 put a 5 hello => ok q0", f"2 1 put b 0 {'x' * 70} => ok q0", "3 1 work 100 => did 6 q2", "4 1 tail a world => ok q0", "5 1 tail b y => ok q0", "6 1 work 100 => did 6 q2"]
+        puts = ["1 1 put a 5 hello => ok q0", f"2 1 put b 0 {'x' * 70} => ok q0", "3 1 work 100 => did 6 q2"]
+        lines = [*puts, "4 1 tail a world => ok q0", "5 1 tail b y => ok q0", "6 1 work 100 => did 6 q2"]
         tree = default()
         drawn = plot_pacing.Drawn(["open charge 0", *lines, "end c0 103 of 65536 callers 4 workers 0 swaps 2 2"], tree)
         self.assertTrue(drawn.is_exact)

@@ -35,7 +35,8 @@ class Counts(unittest.TestCase):
     def test_logic_has_imports_too(self) -> None:
         size = sizes.Size()
         sizes.of_logic(["-- a remark", "use Rattle.a.specs.B.{c}", "", "pub record A : Type 0 where", "  pub a : ℕ"], size, "proof")
-        self.assertEqual((size.proof, size.specification, size.imports, size.proof_bytes), (2, 0, 1, len("pub record A : Type 0 where".encode()) + len("pub a : ℕ".encode())))
+        self.assertEqual((size.proof, size.specification, size.imports), (2, 0, 1))
+        self.assertEqual(size.proof_bytes, len("pub record A : Type 0 where".encode()) + len("pub a : ℕ".encode()))
 
     def test_each_crate_has_a_layer(self) -> None:
         before = os.getcwd()
@@ -45,8 +46,8 @@ class Counts(unittest.TestCase):
         finally:
             os.chdir(before)
         self.assertLessEqual(set(layers.values()), set(sizes.NAMES))
-        self.assertEqual([layers[crate] for crate in ("run_cursor", "merge_step", "disk_trait", "script_text", "store_trial", "blsm", "hostile_cases")],
-                         ["leaves", "middle", "laws", "text and program", "middle", "text and program", "tests"])
+        some = ("run_cursor", "merge_step", "disk_trait", "script_text", "store_trial", "blsm", "hostile_cases")
+        self.assertEqual([layers[crate] for crate in some], ["leaves", "middle", "laws", "text and program", "middle", "text and program", "tests"])
 
 
 if __name__ == "__main__":
