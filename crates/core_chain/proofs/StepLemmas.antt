@@ -1,5 +1,5 @@
 -- On an honest disk each call is a step of the machine, and so a chain of them is a list of steps.
-use Rattle.std.proofs.Common.{◌≡◌, ◌∙◌, ℕ, ◌+◌, ◌≤◌, Bool, true, cond, List, [], ◌∷◌, None, Some, length, refl, ap, sym, subst, arith}
+use Rattle.std.proofs.Common.{◌≡◌, ◌∙◌, ⊎_elim, ℕ, ◌+◌, ◌≤◌, Bool, true, cond, List, [], ◌∷◌, None, Some, length, refl, ap, sym, subst, arith}
 use Rattle.std.proofs.lemmas.Grind.{common_steps}
 use Rattle.std.proofs.lemmas.Bool.Decides.{nat_tests}
 use Rattle.std.specs.Prelude.{IsSome, IsTrue, Option, map, suc, take, zero}
@@ -13,9 +13,6 @@ use Rattle.blsm_model.specs.declared.row.Value.{Value}
 use Rattle.disk_trait.specs.Disk.{DiskState}
 use Rattle.disk_trait.specs.Moments.{IsTimed, LeavesOnly}
 use Rattle.disk_trait.proofs.MomentLemmas.{leaves_only_run, leaves_only_weaken}
-use Rattle.pacing.specs.Pace.{Pace}
-use Rattle.paced_tree.specs.After.{pace_after}
-use Rattle.paced_tree.specs.Kept.{paced_all, paced_one}
 use Rattle.seat_book.specs.State.{BookState}
 use Rattle.tree_machine.specs.Machine as machine
 use Rattle.tree_machine.specs.Machine.{Machine, Turned, is_closed}
@@ -43,14 +40,14 @@ use Rattle.core_chain.proofs.TellLemmas.{link_reaches}
 -- ---- how it calls the disk
 
 -- no more often than the step may where the machine stands
-few_calls : {D : Type 0} (state : D → DiskState) (opening : List (Key × Value)) (seat : ℕ) (k : Kind) (old new : CoreState D) (m : Machine) (pace : Pace) → IsCall state seat k old new → IsCore old.held (state old.disk) → IsTrue (state old.disk).is_honest
-    → StandsWhole state opening old m pace → (state new.disk).clock ≤ (state old.disk).clock + calls_of m.gears.sizes (swaps_due m) k
-few_calls {D} state opening seat k old new m pace call keeps honest whole =
+few_calls : {D : Type 0} (state : D → DiskState) (opening : List (Key × Value)) (seat : ℕ) (k : Kind) (old new : CoreState D) (m : Machine) → IsCall state seat k old new → IsCore old.held (state old.disk) → IsTrue (state old.disk).is_honest
+    → StandsWhole state opening old m → (state new.disk).clock ≤ (state old.disk).clock + calls_of m.gears.sizes (swaps_due m) k
+few_calls {D} state opening seat k old new m call keeps honest whole =
     subst (λ (s : Sizes). (state new.disk).clock ≤ (state old.disk).clock + calls_of s (swaps_due m) k) (sym whole.sizes) (by old.held.book.stopped refl)
   where
     by : (o : Option Why) → old.held.book.stopped ≡ o → (state new.disk).clock ≤ (state old.disk).clock + calls_of old.held.runs.sizes (swaps_due m) k
     by None runs =
-        subst (λ (n : ℕ). (state new.disk).clock ≤ (state old.disk).clock + calls_of old.held.runs.sizes n k) (sym (due_agree opening old.held m pace (state old.disk) whole keeps runs)) (link_reaches state seat k old new call).calls
+        subst (λ (n : ℕ). (state new.disk).clock ≤ (state old.disk).clock + calls_of old.held.runs.sizes n k) (sym (due_agree opening old.held m (state old.disk) whole keeps runs)) (link_reaches state seat k old new call).calls
     by (Some why) is = let same = ap (λ (d : D). (state d).clock) (link_rests state seat k old new call (subst (λ (o : Option Why). IsSome o) (sym is) refl)) in omega (arith, same)
 
 abbrev turned_in : Answer → Turned
@@ -61,18 +58,21 @@ turned_in _ = machine.Idle
 closed_ends : (stopped : Option Why) (m : Machine) (seat : ℕ) (outcome : Outcome) → TurnsNone (worker_turning stopped true m seat outcome).ended
 closed_ends stopped m seat outcome = grind (arith, common_steps, nat_tests)
 
-closed_rests : {D : Type 0} (state : D → DiskState) (opening : List (Key × Value)) (seat : ℕ) (k : Kind) (old new : CoreState D) (m : Machine) (pace : Pace) → IsCall state seat k old new → IsTrue (state old.disk).is_honest
-    → StandsWhole state opening old m pace → is_closed m ≡ true → is_help k ≡ true → new.disk ≡ old.disk
-closed_rests state opening seat kind.WorkerTurn old new m pace call honest whole closed helps =
-    let step = call.1.goes.steps opening m pace honest whole in
+closed_rests : {D : Type 0} (state : D → DiskState) (opening : List (Key × Value)) (seat : ℕ) (k : Kind) (old new : CoreState D) (m : Machine) → IsCall state seat k old new → IsTrue (state old.disk).is_honest
+    → StandsWhole state opening old m → is_closed m ≡ true → is_help k ≡ true → new.disk ≡ old.disk
+closed_rests state opening seat kind.WorkerTurn old new m call honest whole closed helps =
+    let step = call.1.goes.steps opening m honest whole in
     let ended : call.0 ≡ (worker_turning m.stopped (is_closed m) m seat step.outcome).ended = ap turned_in step.answers in
     call.1.untouched (subst (λ (t : Turned). TurnsNone t) (sym ended) (subst (λ (b : Bool). TurnsNone (worker_turning m.stopped b m seat step.outcome).ended) (sym closed) (closed_ends m.stopped m seat step.outcome)))
-closed_rests state opening seat k old new m pace call honest whole closed helps = absurd (false≢true helps)
+closed_rests state opening seat k old new m call honest whole closed helps = absurd (false≢true helps)
 
 -- and not at all where nothing is left to do
-over_rests : {D : Type 0} (state : D → DiskState) (opening : List (Key × Value)) (seat : ℕ) (k : Kind) (old new : CoreState D) (m : Machine) (pace : Pace) → IsCall state seat k old new → IsTrue (state old.disk).is_honest
-    → StandsWhole state opening old m pace → IsOver m k → new.disk ≡ old.disk
-over_rests state opening seat k old new m pace call honest whole over = grind (arith, common_steps, nat_tests, link_rests, closed_rests)
+over_rests : {D : Type 0} (state : D → DiskState) (opening : List (Key × Value)) (seat : ℕ) (k : Kind) (old new : CoreState D) (m : Machine) → IsCall state seat k old new → IsTrue (state old.disk).is_honest
+    → StandsWhole state opening old m → IsOver m k → new.disk ≡ old.disk
+over_rests state opening seat k old new m call honest whole over = ⊎_elim
+    (λ (stopped : IsSome m.stopped). link_rests state seat k old new call (subst (λ (b : BookState). IsSome b.stopped) whole.book stopped))
+    (λ (closed : IsTrue (is_closed m) × IsTrue (is_help k)). closed_rests state opening seat k old new m call honest whole closed.0 closed.1)
+    over
 
 -- ---- the chain
 
@@ -81,8 +81,8 @@ no_steps [] none = refl
 no_steps (one ∷ made) none = absurd (cc none)
 
 -- no call
-module _ {D : Type 0} (state : D → DiskState) (opening : List (Key × Value)) (start : CoreState D) (m : Machine) (pace : Pace) (timed : IsTimed (state start.disk)) (whole : StandsWhole state opening start m pace) where
-  pub no_step : ChainIsSteps state opening [] start start m pace
+module _ {D : Type 0} (state : D → DiskState) (opening : List (Key × Value)) (start : CoreState D) (m : Machine) (timed : IsTimed (state start.disk)) (whole : StandsWhole state opening start m) where
+  pub no_step : ChainIsSteps state opening [] start start m
   no_step = record {
     made = [];
     steps_are = refl;
@@ -101,8 +101,8 @@ module _ {D : Type 0} (state : D → DiskState) (opening : List (Key × Value)) 
         (shows.each c (timed.since_earlier (state start.disk).clock t c (early k late) left)));
   }
     where
-      none : IsPlayed state opening [] start start m pace
-      none = none_is_played state opening start m pace timed whole
+      none : IsPlayed state opening [] start start m
+      none = none_is_played state opening start m timed whole
 
       -- nothing was played, and the clock stands
       shows : LeavesOnly (state start.disk) (state start.disk) (ShowsHistory m.gears.sizes opening m.book.entries (length m.book.entries))
@@ -116,15 +116,12 @@ module _ {D : Type 0} (state : D → DiskState) (opening : List (Key × Value)) 
       early (suc k) late = late
 
 -- one call, and then the others
-module _ {D : Type 0} (state : D → DiskState) (opening : List (Key × Value)) (first : Step × CoreState D) (calls : List (Step × CoreState D)) (start end : CoreState D) (m : Machine) (pace : Pace) (timed : IsTimed (state end.disk))
+module _ {D : Type 0} (state : D → DiskState) (opening : List (Key × Value)) (first : Step × CoreState D) (calls : List (Step × CoreState D)) (start end : CoreState D) (m : Machine) (timed : IsTimed (state end.disk))
     (rises : (state start.disk).clock ≤ (state first.1.disk).clock) (few : (state first.1.disk).clock ≤ (state start.disk).clock + calls_of m.gears.sizes (swaps_due m) first.0.kind) (faults : (state start.disk).faults ≤ (state first.1.disk).faults) (quiet : IsOver m first.0.kind → (state first.1.disk).clock ≡ (state start.disk).clock)
-    (answer : Answer) (can : may m first.0.seat first.0.kind ≡ true) (one : IsWholeStep state opening first.0.seat first.0.kind answer start first.1 m pace)
-    (rest : ChainIsSteps state opening calls first.1 end (stepped_as m first.0.seat first.0.kind one.outcome).state (pace_after m pace first.0.seat first.0.kind one.outcome)) where
+    (answer : Answer) (can : may m first.0.seat first.0.kind ≡ true) (one : IsWholeStep state opening first.0.seat first.0.kind answer start first.1 m)
+    (rest : ChainIsSteps state opening calls first.1 end (stepped_as m first.0.seat first.0.kind one.outcome).state) where
   abbrev next : Machine
   next = (stepped_as m first.0.seat first.0.kind one.outcome).state
-
-  abbrev next_pace : Pace
-  next_pace = pace_after m pace first.0.seat first.0.kind one.outcome
 
   abbrev made : List (Step × Outcome × ℕ)
   made = (first.0, one.outcome, (state first.1.disk).clock) ∷ rest.made
@@ -132,9 +129,6 @@ module _ {D : Type 0} (state : D → DiskState) (opening : List (Key × Value)) 
   -- the step is made, since it may be
   played_is : played_one m (first.0, one.outcome) ≡ next
   played_is = ap (λ (b : Bool). cond b next m) can
-
-  paced_is : paced_one m pace (first.0, one.outcome) ≡ next_pace
-  paced_is = ap (λ (b : Bool). cond b next_pace pace) can
 
   same_sizes : next.gears.sizes ≡ m.gears.sizes
   same_sizes = (step_fixed m first.0.seat first.0.kind one.outcome can).0
@@ -151,9 +145,6 @@ module _ {D : Type 0} (state : D → DiskState) (opening : List (Key × Value)) 
 
   all_played : played m (outcomes_in made) ≡ played next (outcomes_in rest.made)
   all_played = ap (λ (x : Machine). played x (outcomes_in rest.made)) played_is
-
-  all_paced : paced_all m pace (outcomes_in made) ≡ paced_all next next_pace (outcomes_in rest.made)
-  all_paced = ap (λ (x : Machine). paced_all x (paced_one m pace (first.0, one.outcome)) (outcomes_in rest.made)) played_is ∙ ap (λ (p : Pace). paced_all next p (outcomes_in rest.made)) paced_is
 
   grows_all : IsPrefix m.book.entries (played next (outcomes_in rest.made)).book.entries
   grows_all = prefix_then m.book.entries next.book.entries (played next (outcomes_in rest.made)).book.entries grows_one rest.grows
@@ -178,7 +169,7 @@ module _ {D : Type 0} (state : D → DiskState) (opening : List (Key × Value)) 
       subst (λ (x : Machine). ShowsHistory m.gears.sizes opening end.held.book.book.entries (length (played x (take k (outcomes_in rest.made))).book.entries) c) (sym played_is)
       (subst (λ (s : Sizes). ShowsHistory s opening end.held.book.book.entries (length (played next (take k (outcomes_in rest.made))).book.entries) c) same_sizes (rest.moments k t c late left))
 
-  pub one_step : ChainIsSteps state opening (first ∷ calls) start end m pace
+  pub one_step : ChainIsSteps state opening (first ∷ calls) start end m
   one_step = record {
     made = made;
     steps_are = ap (λ (xs : List Step). first.0 ∷ xs) rest.steps_are;
@@ -188,27 +179,27 @@ module _ {D : Type 0} (state : D → DiskState) (opening : List (Key × Value)) 
     may = (can, rest_may);
     told = ((state first.1.disk).faults, faults, λ can. one.possible, rest_told);
     whole = (one.whole, rest.whole);
-    stands = subst (λ (p : Pace). StandsWhole state opening end (played m (outcomes_in made)) p) (sym all_paced) (subst (λ (x : Machine). StandsWhole state opening end x (paced_all next next_pace (outcomes_in rest.made))) (sym all_played) rest.stands);
+    stands = subst (λ (x : Machine). StandsWhole state opening end x) (sym all_played) rest.stands;
     grows = subst (λ (x : Machine). IsPrefix m.book.entries x.book.entries) (sym all_played) grows_all;
     images = subst (λ (x : Machine). LeavesOnly (state start.disk) (state end.disk) (ShowsHistory m.gears.sizes opening x.book.entries (length m.book.entries))) (sym all_played) images_all;
     moments = moments_all;
   }
 
 -- Each call of the chain is a step.
-pub chain_is_steps : {D : Type 0} (state : D → DiskState) (opening : List (Key × Value)) (calls : List (Step × CoreState D)) (start end : CoreState D) (m : Machine) (pace : Pace) → IsTimed (state end.disk) → IsCore start.held (state start.disk)
-    → AreCalls state calls start end → IsTrue (state start.disk).is_honest → StandsWhole state opening start m pace → ChainIsSteps state opening calls start end m pace
-chain_is_steps {D} state opening [] start end m pace timed keeps are honest whole =
-    subst (λ (core : CoreState D). ChainIsSteps state opening [] start core m pace) (sym are)
-    (no_step state opening start m pace (subst (λ (core : CoreState D). IsTimed (state core.disk)) are timed) whole)
-chain_is_steps {D} state opening (one ∷ calls) start end m pace timed keeps are honest whole =
+pub chain_is_steps : {D : Type 0} (state : D → DiskState) (opening : List (Key × Value)) (calls : List (Step × CoreState D)) (start end : CoreState D) (m : Machine) → IsTimed (state end.disk) → IsCore start.held (state start.disk)
+    → AreCalls state calls start end → IsTrue (state start.disk).is_honest → StandsWhole state opening start m → ChainIsSteps state opening calls start end m
+chain_is_steps {D} state opening [] start end m timed keeps are honest whole =
+    subst (λ (core : CoreState D). ChainIsSteps state opening [] start core m) (sym are)
+    (no_step state opening start m (subst (λ (core : CoreState D). IsTimed (state core.disk)) are timed) whole)
+chain_is_steps {D} state opening (one ∷ calls) start end m timed keeps are honest whole =
     let step = one.0 in
     let mid = one.1 in
     let goes_as = goes_of state step.seat step.kind start mid are.0 in
-    let link = goes_as.1.steps opening m pace honest whole in
+    let link = goes_as.1.steps opening m honest whole in
     let can : may m step.seat step.kind ≡ true = may_agrees step.seat step.kind start.held m whole.book whole.gears ∙ goes_as.1.may in
     let reaches = link_reaches state step.seat step.kind start mid are.0 in
     let goes = reaches.goes_on in
-    one_step state opening one calls start end m pace timed goes.clock (few_calls state opening step.seat step.kind start mid m pace are.0 keeps honest whole) goes.faults
-    (λ over. ap (λ (d : D). (state d).clock) (over_rests state opening step.seat step.kind start mid m pace are.0 honest whole over)) goes_as.0 can link
-    (chain_is_steps state opening calls mid end (stepped_as m step.seat step.kind link.outcome).state (pace_after m pace step.seat step.kind link.outcome) timed (link_keeps state step.seat step.kind start mid are.0 keeps) are.1
+    one_step state opening one calls start end m timed goes.clock (few_calls state opening step.seat step.kind start mid m are.0 keeps honest whole) goes.faults
+    (λ over. ap (λ (d : D). (state d).clock) (over_rests state opening step.seat step.kind start mid m are.0 honest whole over)) goes_as.0 can link
+    (chain_is_steps state opening calls mid end (stepped_as m step.seat step.kind link.outcome).state timed (link_keeps state step.seat step.kind start mid are.0 keeps) are.1
     (subst IsTrue (sym goes.is_honest) honest) link.stands)

@@ -5,8 +5,6 @@ use Rattle.blsm_model.specs.declared.key.Key.{Key}
 use Rattle.blsm_model.specs.declared.row.Value.{Value}
 use Rattle.disk_trait.specs.Disk.{DiskState}
 use Rattle.disk_trait.specs.Moments.{LeavesOnly}
-use Rattle.pacing.specs.Pace.{Pace}
-use Rattle.paced_tree.specs.Kept.{paced_all}
 use Rattle.tree_machine.specs.Machine.{Machine, is_closed}
 use Rattle.tree_machine.specs.Outcomes.{AreTold, NoneBroken}
 use Rattle.tree_machine.specs.Plays.{is_help, may_step, played, played_one}
@@ -56,7 +54,7 @@ AllMay m (made ∷ steps) = IsTrue (may_step m made.0) × AllMay (played_one m m
 -- ---- the whole
 
 -- These calls led from the start, where the core stood for this state of the machine, to the end.
-pub record ChainIsSteps {D : Type 0} (state : D → DiskState) (opening : List (Key × Value)) (calls : List (Step × CoreState D)) (start end : CoreState D) (m : Machine) (pace : Pace) : Type 0 where
+pub record ChainIsSteps {D : Type 0} (state : D → DiskState) (opening : List (Key × Value)) (calls : List (Step × CoreState D)) (start end : CoreState D) (m : Machine) : Type 0 where
   -- one step for each call, in order, with the disk's clock after it
   pub made : List (Step × Outcome × ℕ)
   pub steps_are : map (λ one. one.0) made ≡ steps_of calls
@@ -68,7 +66,7 @@ pub record ChainIsSteps {D : Type 0} (state : D → DiskState) (opening : List (
   pub told : AreTold m (state start.disk).faults (outcomes_in made) (state end.disk).faults
   pub whole : NoneBroken (outcomes_in made)
   -- the core stands for the state to which they lead
-  pub stands : StandsWhole state opening end (played m (outcomes_in made)) (paced_all m pace (outcomes_in made))
+  pub stands : StandsWhole state opening end (played m (outcomes_in made))
   pub grows : IsPrefix m.book.entries (played m (outcomes_in made)).book.entries
   -- each image of each moment since the start shows the history with all entries from before
   pub images : LeavesOnly (state start.disk) (state end.disk) (ShowsHistory m.gears.sizes opening (played m (outcomes_in made)).book.entries (length m.book.entries))

@@ -4,7 +4,6 @@ ghost use Rattle.blsm_model.specs.declared.history.Entry.{Entry};
 ghost use Rattle.blsm_model.specs.declared.history.Why.TheVariants.{BadPage};
 ghost use Rattle.blsm_model.specs.declared.key.Key.{Key};
 ghost use Rattle.blsm_model.specs.declared.row.Value.{Value};
-ghost use Rattle.pacing.specs.Pace.{Pace};
 ghost use Rattle.tree_machine.specs.Machine.{Machine};
 ghost use Rattle.tree_machine.specs.declared.step.Step.{Step};
 ghost use Rattle.tree_core.specs.Calls.{AreCalls};
@@ -65,9 +64,9 @@ pub fn calls_note<D: Disk + Drop>(core: &Core<D>)
 
 /// On an honest disk they are steps of the machine, one for each call, timed by the disk's clock.
 pub fn calls_are_steps<D: Disk + Drop>(core: &Core<D>)
-    ensures { (opening : List (Key × Value)) (calls : List (Step × CoreState D)) (start : CoreState D) (m : Machine) (pace : Pace) → IsCore start.held (D.state start.disk)
-        → AreCalls D.state calls start core.now → IsTrue (D.state start.disk).is_honest → StandsWhole D.state opening start m pace
-        → ChainIsSteps D.state opening calls start core.now m pace }
+    ensures { (opening : List (Key × Value)) (calls : List (Step × CoreState D)) (start : CoreState D) (m : Machine) → IsCore start.held (D.state start.disk)
+        → AreCalls D.state calls start core.now → IsTrue (D.state start.disk).is_honest → StandsWhole D.state opening start m
+        → ChainIsSteps D.state opening calls start core.now m }
 {}
 
 /// The rows that a seat has still to read are those after what it saw, where it saw all its own entries.

@@ -21,11 +21,10 @@ use Rattle.blsm_model.specs.Histories.{writes_of, counted, counted_writes, writt
 use Rattle.blsm_model.specs.Images.{counted_with}
 use Rattle.blsm_model.specs.Legal.{is_write, total_weight, is_del}
 use Rattle.blsm_model.specs.Rows.{map_of, puts_of}
-use Rattle.blsm_model.specs.Values.{key_of}
+use Rattle.blsm_model.specs.Values.{key_of, weight_of}
 use Rattle.record_delta.specs.Records.{record_of}
 use Rattle.record_delta.specs.Entries.{with_record}
-use Rattle.gear_sched.specs.Gears.{first_debt, second_debt}
-use Rattle.pacing.specs.Pace.{Pace, charge as pace_charge}
+use Rattle.pacing.specs.Pace.{Pace}
 use Rattle.pacing.specs.Kept.{IsPaced}
 use Rattle.pacing.specs.Steps.{Admit, Lands, MayAdmit, after as pacing_after, ready_for as pace_ready_for}
 use Rattle.pacing.specs.Fronts.{Fronts, AreFronts}
@@ -43,11 +42,12 @@ use Rattle.tree_machine.proofs.FoldLemmas.{both_hold}
 use Rattle.tree_machine.proofs.LightLemmas.{write_is_light}
 use Rattle.tree_machine.proofs.CarryLemmas.{ready_carries}
 use Rattle.paced_tree.specs.Kept.{IsPacedTree}
-use Rattle.paced_tree.specs.Numbers.{IsPaceOf}
-use Rattle.paced_tree.specs.After.{weight_after, pace_after}
-use Rattle.paced_tree.proofs.Admissions.{Goes}
-use Rattle.paced_tree.proofs.Counted.{lands_at, writes_once}
-use Rattle.paced_tree.proofs.Moves.{ready_of}
+use Rattle.paced_tree.specs.Numbers.{pace_of}
+use Rattle.paced_tree.proofs.Terms.{weight_after, IsToldOf}
+use Rattle.paced_tree.proofs.Admissions.{lands_at, writes_once, written_pace}
+use Rattle.paced_tree.proofs.Moves.{ready_pace, ready_told}
+use Rattle.paced_tree.proofs.Paces.{the_pace}
+use Rattle.pacing.specs.Pace.{with_write as pace_with_write}
 use Rattle.paced_tree.proofs.Steps.{caller_below, even_owes}
 use Rattle.paced_tree.proofs.Promises.{has_way, step_is_paced}
 use Rattle.tree_file.specs.Tree.{Tree, HoldsTree, ReadsAsMap, components_weight}
@@ -70,8 +70,8 @@ use Rattle.pacing.proofs.Terms.{fronts_ready, fronts_written}
 pub not_past : (limit n : ℕ) → n ≤ limit → nat_lt limit n ≡ false
 not_past limit n fits = grind (arith, common_steps, nat_tests)
 
-module _ (opening : List (Key × Value)) (m : Machine) (pace : Pace) (fronts : Fronts) (seat : ℕ) (op : Op) (write : Write) (begun : Held) (tree : Tree)
-    (is : MayAppend opening m pace fronts seat op write begun tree) where
+module _ (opening : List (Key × Value)) (m : Machine) (fronts : Fronts) (seat : ℕ) (op : Op) (write : Write) (begun : Held) (tree : Tree)
+    (is : MayAppend opening m fronts seat op write begun tree) where
   abbrev w : ℕ
   w = total_weight (writes_of op)
 
@@ -96,73 +96,80 @@ module _ (opening : List (Key × Value)) (m : Machine) (pace : Pace) (fronts : F
   abbrev step : Step
   step = record { seat = seat; kind = kind.Admit op }
 
-  abbrev then_pace : Pace
-  then_pace = pacing_after pace (Admit seat w (is_del op) ahead then_weighs)
+  same : pace_of ready ≡ pace_ready_for (pace_of m) w
+  same = ready_pace w m is.paced.stands.sound
 
   carries : Carries m ready
-  carries = ready_carries w m is.paced.stands.sound (has_way opening m pace is.paced)
+  carries = ready_carries w m is.paced.stands.sound (has_way opening m is.paced)
 
   within : nat_lt (charge_limit m.gears.sizes (is_del op)) (charge m + w) ≡ false
   within = not_past (charge_limit m.gears.sizes (is_del op)) (charge m + w) is.room
 
-  -- the step is the write's, and its pace the write's pace
+  -- the step is the write's
   state_is : (stepped m step Well).state ≡ wrote
   state_is =
       ap (λ (o : Option Why). (machine_unless o seat op m (cond (nat_lt (charge_limit m.gears.sizes (is_del op)) (charge m + w)) (replied seat op (Full (charge m)) m) (admit_fitting m seat op w Well))).state) is.runs
       ∙ ap (λ (b : Bool). (cond b (replied seat op (Full (charge m)) m) (admit_fitting m seat op w Well)).state) within
       ∙ ap (λ (ws : List Write). note seat op Done (with_peak (taken_once seat ws ready))) is.writes
 
-  pace_is : pace_after m pace seat (kind.Admit op) Well ≡ then_pace
-  pace_is = grind (arith, common_steps, nat_tests)
+  wrote_paced : IsPacedTree opening wrote
+  wrote_paced = subst (λ (s : Machine). IsPacedTree opening s) state_is (step_is_paced opening m step Well is.paced is.may is.fits)
 
-  wrote_paced : IsPacedTree opening wrote then_pace
-  wrote_paced = subst (λ (s : Machine). IsPacedTree opening s then_pace) state_is
-      (subst (λ (p : Pace). IsPacedTree opening (stepped m step Well).state p) pace_is (step_is_paced opening m pace step Well is.paced is.may is.fits))
+  told : IsToldOf m
+  told = record { booked = is.paced.booked; started = is.paced.started }
 
-  goes : Goes m pace
-  goes = record { of_tree = is.paced.of_tree; paced = is.paced.paced }
-
-  may_admit : MayAdmit pace seat w (is_del op) ahead then_weighs
+  may_admit : MayAdmit (pace_of m) seat w (is_del op) ahead then_weighs
   may_admit =
       let parts = both_hold (is_write op && may_note seat 0 m) (is_even seat m) is.may in
       let inner = both_hold (is_write op) (may_note seat 0 m) parts.0 in
       let noting = both_hold (is_caller seat && has_room m.book.room seat 0) (is_between seat m) inner.1 in
       let weighs = writes_once op write [] is.writes in
       let each = subst (λ (ws : List Write). AllByRecursion FitsFormat ws) is.writes is.fits in
+      let caller = caller_below seat (both_hold (is_caller seat) (has_room m.book.room seat 0) noting.0).0 in
       record {
-        caller = caller_below seat (both_hold (is_caller seat) (has_room m.book.room seat 0) noting.0).0;
-        settled = subst (λ (q : Pace). first_debt q.gears seat + second_debt q.gears seat ≡ 0) is.paced.of_tree.numbers (even_owes m seat parts.1 is.runs);
+        caller = caller;
+        settled = even_owes m seat parts.1 is.runs;
         light = subst (λ (n : ℕ). least_weight ≤ n) (sym weighs) each.0.least;
         heavy = subst (λ (n : ℕ). n ≤ most_weight) (sym weighs) (write_is_light write each.0);
-        room = subst (λ (q : Pace). pace_charge q + w ≤ charge_limit q.gears.sizes (is_del op)) is.paced.of_tree.numbers is.room;
-        lands = lands_at m pace seat op is.paced.stands.sound (has_way opening m pace is.paced) goes write w weighs;
+        room = is.room;
+        lands = lands_at m seat op is.paced.stands.sound (has_way opening m is.paced) is.paced.paced told caller write w weighs;
       }
 
-  then_within : AreFronts then_pace (fronts_written ahead then_weighs (fronts_ready pace fronts))
-  then_within = step_fronts pace (Admit seat w (is_del op) ahead then_weighs) fronts is.paced.paced is.within may_admit
+  writing : is_write op ≡ true
+  writing = (both_hold (is_write op) (may_note seat 0 m) (both_hold (is_write op && may_note seat 0 m) (is_even seat m) is.may).0).0
 
-  lanes : HasFronts tree ready.lists (fronts_ready pace fronts)
-  lanes = subst (λ (l : Lists). HasFronts tree l (fronts_ready pace fronts)) (sym (begun_lists w m)) is.lanes
+  wrote_pace : pace_of wrote ≡ pacing_after (pace_of m) (Admit seat w (is_del op) ahead then_weighs)
+  wrote_pace =
+      let weighs = writes_once op write [] is.writes in
+      let paced = subst IsPaced (sym same) (ready_kept (pace_of m) w is.paced.paced) in
+      subst (λ (n : ℕ). pace_of wrote ≡ pacing_after (pace_of m) (Admit seat n (is_del op) ahead then_weighs)) (sym weighs)
+      (sym (the_pace wrote _ (written_pace ready write carries.sound seat op weighs paced (ready_told w m told) may_admit.caller writing)) ∙ ap (λ (p : Pace). pace_with_write p seat (weight_of write) ahead then_weighs) (subst (λ (n : ℕ). pace_of ready ≡ pace_ready_for (pace_of m) n) weighs same))
+
+  then_within : AreFronts (pace_of wrote) (fronts_written ahead then_weighs (fronts_ready (pace_of m) fronts))
+  then_within = subst (λ (p : Pace). AreFronts p (fronts_written ahead then_weighs (fronts_ready (pace_of m) fronts))) (sym wrote_pace) (step_fronts (pace_of m) (Admit seat w (is_del op) ahead then_weighs) fronts is.paced.paced is.within may_admit)
+
+  lanes : HasFronts tree ready.lists (fronts_ready (pace_of m) fronts)
+  lanes = subst (λ (l : Lists). HasFronts tree l (fronts_ready (pace_of m) fronts)) (sym (begun_lists w m)) is.lanes
 
   grown : (b : Bool) → HasFronts (appended b (key_of write, record_of write) tree)
       (cond b at_a at_b)
-      (fronts_written b (weight_after b (cond b at_a at_b)) (fronts_ready pace fronts))
-  grown true = fronts_grow true (key_of write) (record_of write) tree ready.lists (fronts_ready pace fronts) lanes
-  grown false = fronts_grow false (key_of write) (record_of write) tree ready.lists (fronts_ready pace fronts) lanes
+      (fronts_written b (weight_after b (cond b at_a at_b)) (fronts_ready (pace_of m) fronts))
+  grown true = fronts_grow true (key_of write) (record_of write) tree ready.lists (fronts_ready (pace_of m) fronts) lanes
+  grown false = fronts_grow false (key_of write) (record_of write) tree ready.lists (fronts_ready (pace_of m) fronts) lanes
 
-  then_lanes : HasFronts (with_appended write begun tree) wrote.lists (fronts_written ahead then_weighs (fronts_ready pace fronts))
-  then_lanes = subst (λ (b : Bool). HasFronts (appended b (key_of write, record_of write) tree) wrote.lists (fronts_written ahead then_weighs (fronts_ready pace fronts)))
+  then_lanes : HasFronts (with_appended write begun tree) wrote.lists (fronts_written ahead then_weighs (fronts_ready (pace_of m) fronts))
+  then_lanes = subst (λ (b : Bool). HasFronts (appended b (key_of write, record_of write) tree) wrote.lists (fronts_written ahead then_weighs (fronts_ready (pace_of m) fronts)))
       (same_way ready.merges.pass begun.runs.pass (key_of write) is.holds.pass) (grown ahead)
 
   abbrev then_fronts : Fronts
-  then_fronts = fronts_written ahead then_weighs (fronts_ready pace fronts)
+  then_fronts = fronts_written ahead then_weighs (fronts_ready (pace_of m) fronts)
 
-  goes_on : (then : Fronts) × GoesOn opening (stepped m step Well).state (pace_after m pace seat (kind.Admit op) Well) then (with_appended write begun tree)
+  goes_on : (then : Fronts) × GoesOn opening (stepped m step Well).state then (with_appended write begun tree)
   goes_on = (
     then_fronts,
     record {
-      paced = step_is_paced opening m pace step Well is.paced is.may is.fits;
-      within = subst (λ (p : Pace). AreFronts p then_fronts) (sym pace_is) then_within;
+      paced = step_is_paced opening m step Well is.paced is.may is.fits;
+      within = subst (λ (s : Machine). AreFronts (pace_of s) then_fronts) (sym state_is) then_within;
       lanes = subst (λ (s : Machine). HasFronts (with_appended write begun tree) s.lists then_fronts) (sym state_is) then_lanes;
     },
   )
@@ -172,12 +179,12 @@ module _ (opening : List (Key × Value)) (m : Machine) (pace : Pace) (fronts : F
   wrote_reads file holds =
       subst (λ (b : Book). ReadsAsMap m.gears.sizes (map_of (written opening (b.entries ++ record { seat = seat; op = op; reply = Done } ∷ []))) file) carries.book
       (subst (λ (s : Sizes). ReadsAsMap s (map_of (written opening wrote.book.entries)) file) carries.sizes
-      (standing_reads opening wrote then_pace (fronts_written ahead then_weighs (fronts_ready pace fronts)) (with_appended write begun tree) file wrote_paced then_within
+      (standing_reads opening wrote (fronts_written ahead then_weighs (fronts_ready (pace_of m) fronts)) (with_appended write begun tree) file wrote_paced then_within
       (write_has_lists seat write begun tree ready is.holds) then_lanes (subst (λ (s : Sizes). HoldsTree s (with_appended write begun tree) file) (sym carries.sizes) holds)))
 
   -- and one without it as the map before
   ready_reads : (file : List ℕ) → HoldsTree m.gears.sizes tree file → ReadsHistory opening m file
-  ready_reads file holds = swapped_reads opening m pace fronts tree file is.paced is.within (sym (begun_lists w m) ∙ is.holds.lists) is.lanes holds
+  ready_reads file holds = swapped_reads opening m fronts tree file is.paced is.within (sym (begun_lists w m) ∙ is.holds.lists) is.lanes holds
 
   enough : (entry : Entry) → length m.book.entries + 1 ≤ length (m.book.entries ++ entry ∷ [])
   enough entry = omega (arith, length-append m.book.entries (entry ∷ []))
@@ -195,7 +202,7 @@ module _ (opening : List (Key × Value)) (m : Machine) (pace : Pace) (fronts : F
   counts_in = sym (flat_map_more counted (puts_of opening) m.book.entries done)
 
   counts_in_doubt : (b : Bool) → puts_of opening ++ flat_map (counted_with b) (history_with seat op FaultUnsure m) ≡ before ++ counted_with b unsure
-  counts_in_doubt b = grind (arith, common_steps, nat_tests, flat_map_more, running_writes)
+  counts_in_doubt b = sym (flat_map_more (counted_with b) (puts_of opening) m.book.entries unsure) ∙ ap (λ (ws : List Write). (puts_of opening ++ ws) ++ counted_with b unsure) (running_writes b m.book.entries (is.paced.stands.told.running is.runs))
 
   shows_done : (file : List ℕ) → HoldsTree m.gears.sizes (with_appended write begun tree) file → ShowsHistory m.gears.sizes opening (history_with seat op Done m) (length m.book.entries + 1) file
   shows_done file holds =
@@ -204,11 +211,8 @@ module _ (opening : List (Key × Value)) (m : Machine) (pace : Pace) (fronts : F
 
   -- ---- what it weighs
 
-  pace_of : IsPaceOf ready (pace_ready_for pace w)
-  pace_of = ready_of m pace w is.paced.stands.sound is.paced.of_tree
-
-  kept : IsPaced (pace_ready_for pace w)
-  kept = ready_kept pace w is.paced.paced
+  kept : IsPaced (pace_ready_for (pace_of m) w)
+  kept = ready_kept (pace_of m) w is.paced.paced
 
   -- the components don't change
   same_components : (b : Bool) → components_weight (appended b (key_of write, record_of write) tree) ≡ components_weight tree
@@ -216,11 +220,11 @@ module _ (opening : List (Key × Value)) (m : Machine) (pace : Pace) (fronts : F
   same_components false = refl
 
   -- and the tables weigh no more than before and the write
-  tables_grow : (b : Bool) → Lands (pace_ready_for pace w) w b (weight_after b (cond b at_a at_b)) → memory_weight (cond b at_a at_b) ≤ m.counts.peak + w
+  tables_grow : (b : Bool) → Lands (pace_ready_for (pace_of m) w) w b (weight_after b (cond b at_a at_b)) → memory_weight (cond b at_a at_b) ≤ m.counts.peak + w
   tables_grow true lands =
-      omega (arith, lands.0, kept.within.within_peak, (ready_counts w m).peak, ap (λ (p : Pace). p.b) pace_of.numbers, ap (λ (p : Pace). p.peak) pace_of.numbers)
+      omega (arith, lands.0, kept.within.within_peak, (ready_counts w m).peak, ap (λ (p : Pace). p.b) same, ap (λ (p : Pace). p.peak) same)
   tables_grow false lands =
-      omega (arith, lands.2, kept.within.within_peak, (ready_counts w m).peak, ap (λ (p : Pace). p.a) pace_of.numbers, ap (λ (p : Pace). p.peak) pace_of.numbers)
+      omega (arith, lands.2, kept.within.within_peak, (ready_counts w m).peak, ap (λ (p : Pace). p.a) same, ap (λ (p : Pace). p.peak) same)
 
   lanes_grow : lanes_weight (with_appended write begun tree) ≤ m.counts.peak + w
   lanes_grow = omega (arith, tables_grow ahead may_admit.lands, ap memory_weight (write_has_lists seat write begun tree ready is.holds))
@@ -233,7 +237,7 @@ module _ (opening : List (Key × Value)) (m : Machine) (pace : Pace) (fronts : F
     tree = with_appended write begun tree;
     holds = holds;
     components = subst (λ (n : ℕ). n ≤ most_worked m) (sym (same_components (goes_ahead (key_of write) begun)))
-        (subst (λ (n : ℕ). components_weight tree ≤ n) (same_work m ready carries.sizes (ready_counts w m)) (paced_components ready (pace_ready_for pace w) tree pace_of kept is.holds.lists));
+        (subst (λ (n : ℕ). components_weight tree ≤ n) (same_work m ready carries.sizes (ready_counts w m)) (paced_components ready tree (subst IsPaced (sym same) kept) is.holds.lists));
     lanes = omega (arith, lanes_grow, in_doubt);
   }
 
@@ -248,20 +252,20 @@ module _ (opening : List (Key × Value)) (m : Machine) (pace : Pace) (fronts : F
   shows_out file holds = (
     shows_by false m.gears.sizes opening (history_with seat op FaultUnsure m) (written opening m.book.entries) (length m.book.entries + 1) file (enough unsure)
         (sym (append-nil before) ∙ sym (counts_in_doubt false)) (ready_reads file holds),
-    ready_weighs w opening m pace tree (history_with seat op FaultUnsure m) file is.paced is.holds.lists holds,
+    ready_weighs w opening m tree (history_with seat op FaultUnsure m) file is.paced is.holds.lists holds,
   )
 
-pub append_goes_on : (opening : List (Key × Value)) (m : Machine) (pace : Pace) (fronts : Fronts) (seat : ℕ) (op : Op) (write : Write) (begun : Held) (tree : Tree) → MayAppend opening m pace fronts seat op write begun tree
-    → (then : Fronts) × GoesOn opening (admit m seat op Well).state (pace_after m pace seat (kind.Admit op) Well) then (with_appended write begun tree)
-append_goes_on opening m pace fronts seat op write begun tree is = goes_on opening m pace fronts seat op write begun tree is
+pub append_goes_on : (opening : List (Key × Value)) (m : Machine) (fronts : Fronts) (seat : ℕ) (op : Op) (write : Write) (begun : Held) (tree : Tree) → MayAppend opening m fronts seat op write begun tree
+    → (then : Fronts) × GoesOn opening (admit m seat op Well).state then (with_appended write begun tree)
+append_goes_on opening m fronts seat op write begun tree is = goes_on opening m fronts seat op write begun tree is
 
 -- A file that has the write shows the history with it as done.
-pub append_shows : (opening : List (Key × Value)) (m : Machine) (pace : Pace) (fronts : Fronts) (seat : ℕ) (op : Op) (write : Write) (begun : Held) (tree : Tree) (file : List ℕ) → MayAppend opening m pace fronts seat op write begun tree
+pub append_shows : (opening : List (Key × Value)) (m : Machine) (fronts : Fronts) (seat : ℕ) (op : Op) (write : Write) (begun : Held) (tree : Tree) (file : List ℕ) → MayAppend opening m fronts seat op write begun tree
     → HoldsTree m.gears.sizes (with_appended write begun tree) file → ShowsHistory m.gears.sizes opening (history_with seat op Done m) (length m.book.entries + 1) file
-append_shows opening m pace fronts seat op write begun tree file is holds = shows_done opening m pace fronts seat op write begun tree is file holds
+append_shows opening m fronts seat op write begun tree file is holds = shows_done opening m fronts seat op write begun tree is file holds
 
 -- A file that has it or not shows the history with it as unsure.
-pub unsure_shows : (opening : List (Key × Value)) (m : Machine) (pace : Pace) (fronts : Fronts) (seat : ℕ) (op : Op) (write : Write) (begun : Held) (tree : Tree) (file : List ℕ) → MayAppend opening m pace fronts seat op write begun tree
+pub unsure_shows : (opening : List (Key × Value)) (m : Machine) (fronts : Fronts) (seat : ℕ) (op : Op) (write : Write) (begun : Held) (tree : Tree) (file : List ℕ) → MayAppend opening m fronts seat op write begun tree
     → HoldsEither m.gears.sizes tree (with_appended write begun tree) file → ShowsNoted opening seat op FaultUnsure m file
-unsure_shows opening m pace fronts seat op write begun tree file is either =
-    ⊎_elim (shows_out opening m pace fronts seat op write begun tree is file) (shows_in opening m pace fronts seat op write begun tree is file) either
+unsure_shows opening m fronts seat op write begun tree file is either =
+    ⊎_elim (shows_out opening m fronts seat op write begun tree is file) (shows_in opening m fronts seat op write begun tree is file) either

@@ -13,16 +13,14 @@ use Rattle.blsm_model.specs.Images.{is_unsure}
 use Rattle.blsm_model.specs.Legal.{is_running, is_stopped, is_stopping, total_weight}
 use Rattle.blsm_model.specs.Sizes.{Sizes}
 use Rattle.pacing.specs.Kept.{IsPaced}
-use Rattle.pacing.specs.Pace.{Pace}
-use Rattle.pacing.specs.Steps.{deep_settled, ready_for as pace_ready_for}
 use Rattle.pacing.proofs.Admissions.{deep_settled_kept, ready_kept}
 use Rattle.tree_machine.specs.Machine.{Machine}
 use Rattle.tree_machine.specs.Steps.{deep_swapped, pass_begun_for, pass_swapped, ready_for, swapped}
 use Rattle.tree_machine.proofs.CarryLemmas.{deep_swapped_carries, ready_carries}
 use Rattle.tree_machine.proofs.FoldLemmas.{both_hold}
 use Rattle.paced_tree.specs.Kept.{IsPacedTree}
-use Rattle.paced_tree.specs.Numbers.{IsPaceOf}
-use Rattle.paced_tree.proofs.Moves.{settled_of, ready_of}
+use Rattle.paced_tree.specs.Numbers.{pace_of}
+use Rattle.paced_tree.proofs.Moves.{settled_pace, ready_pace}
 use Rattle.paced_tree.proofs.Promises.{has_way}
 use Rattle.tree_file.specs.Tree.{Tree, HoldsTree, components_weight, lists_of}
 use Rattle.core_lists.specs.Shown.{WeighsWithin, doubted, most_worked, weight_in_doubt}
@@ -78,27 +76,27 @@ weighs_as m later history longer file sizes counts more weighs = grind (arith, c
 
 -- ---- by the pace
 
-pub paced_components : (m : Machine) (pace : Pace) (tree : Tree) → IsPaceOf m pace → IsPaced pace → m.lists ≡ lists_of tree → components_weight tree ≤ most_worked m
-paced_components m pace tree of_tree paced lists = grind (arith, common_steps, nat_tests)
+pub paced_components : (m : Machine) (tree : Tree) → IsPaced (pace_of m) → m.lists ≡ lists_of tree → components_weight tree ≤ most_worked m
+paced_components m tree paced lists = grind (arith, common_steps, nat_tests)
 
 -- each file that holds the tree of a machine that is paced,
-pub paced_weighs : (m : Machine) (pace : Pace) (tree : Tree) (history : List Entry) (file : List ℕ) → IsPaceOf m pace → IsPaced pace → m.lists ≡ lists_of tree → HoldsTree m.gears.sizes tree file → WeighsWithin m history file
-paced_weighs m pace tree history file of_tree paced lists holds = grind (arith, common_steps, nat_tests)
+pub paced_weighs : (m : Machine) (tree : Tree) (history : List Entry) (file : List ℕ) → IsPaced (pace_of m) → m.lists ≡ lists_of tree → HoldsTree m.gears.sizes tree file → WeighsWithin m history file
+paced_weighs m tree history file paced lists holds = grind (arith, common_steps, nat_tests)
 
 -- the tree after the deep merge's swap,
-pub settled_weighs : (opening : List (Key × Value)) (m : Machine) (pace : Pace) (next : Tree) (history : List Entry) (file : List ℕ) → IsPacedTree opening m pace → (deep_swapped m).lists ≡ lists_of next
+pub settled_weighs : (opening : List (Key × Value)) (m : Machine) (next : Tree) (history : List Entry) (file : List ℕ) → IsPacedTree opening m → (deep_swapped m).lists ≡ lists_of next
     → HoldsTree m.gears.sizes next file → WeighsWithin m history file
-settled_weighs opening m pace next history file paced lists holds =
+settled_weighs opening m next history file paced lists holds =
     let sizes = (deep_swapped_carries m paced.stands.sound).sizes in
     weighs_as (deep_swapped m) m history history file (sym sizes) (counts_back m (deep_swapped m) (deep_swapped_counts m)) (omega arith)
-    (paced_weighs (deep_swapped m) (deep_settled pace) next history file (settled_of m pace paced.stands.sound paced.of_tree) (deep_settled_kept pace paced.paced).kept lists
+    (paced_weighs (deep_swapped m) next history file (subst IsPaced (sym (settled_pace m paced.stands.sound)) (deep_settled_kept (pace_of m) paced.paced).kept) lists
     (subst (λ (s : Sizes). HoldsTree s next file) (sym sizes) holds))
 
 -- and the one that stands when a write is to be appended
-pub ready_weighs : (weight : ℕ) (opening : List (Key × Value)) (m : Machine) (pace : Pace) (next : Tree) (history : List Entry) (file : List ℕ) → IsPacedTree opening m pace → (ready_for weight m).lists ≡ lists_of next
+pub ready_weighs : (weight : ℕ) (opening : List (Key × Value)) (m : Machine) (next : Tree) (history : List Entry) (file : List ℕ) → IsPacedTree opening m → (ready_for weight m).lists ≡ lists_of next
     → HoldsTree m.gears.sizes next file → WeighsWithin m history file
-ready_weighs weight opening m pace next history file paced lists holds =
-    let sizes = (ready_carries weight m paced.stands.sound (has_way opening m pace paced)).sizes in
+ready_weighs weight opening m next history file paced lists holds =
+    let sizes = (ready_carries weight m paced.stands.sound (has_way opening m paced)).sizes in
     weighs_as (ready_for weight m) m history history file (sym sizes) (counts_back m (ready_for weight m) (ready_counts weight m)) (omega arith)
-    (paced_weighs (ready_for weight m) (pace_ready_for pace weight) next history file (ready_of m pace weight paced.stands.sound paced.of_tree) (ready_kept pace weight paced.paced) lists
+    (paced_weighs (ready_for weight m) next history file (subst IsPaced (sym (ready_pace weight m paced.stands.sound)) (ready_kept (pace_of m) weight paced.paced)) lists
     (subst (λ (s : Sizes). HoldsTree s next file) (sym sizes) holds))

@@ -1,16 +1,12 @@
 -- What goes on from an opening on, step by step.
-use Rattle.std.specs.Prelude.{⊤, ◌≤◌, ◌<◌, IsTrue}
+use Rattle.std.specs.Prelude.{◌≤◌, IsTrue}
 use Rattle.std.proofs.lemmas.Grind.{common_steps}
 use Rattle.std.proofs.lemmas.Bool.Decides.{nat_tests}
-use Rattle.std.proofs.Common.{◌≡◌, ◌∙◌, ℕ, ◌+◌, Bool, true, false, cond, List, Option, None, ap, sym, subst, arith}
-use Rattle.std.specs.Prelude.{nat_lt}
-use Rattle.std.proofs.lemmas.Bool.{lt-ltb}
+use Rattle.std.proofs.Common.{◌≡◌, ◌∙◌, ℕ, ◌+◌, Bool, true, false, List, None, ap, sym, subst, arith}
 use Rattle.blsm_model.specs.Sizes.{Sizes}
 use Rattle.blsm_model.specs.Geometry.{charge_limit}
 use Rattle.blsm_model.specs.declared.key.Key.{Key}
 use Rattle.blsm_model.specs.declared.row.Value.{Value}
-use Rattle.blsm_model.specs.declared.history.Reply.TheVariants.{Full}
-use Rattle.blsm_model.specs.declared.history.Why.{Why}
 use Rattle.blsm_model.specs.Histories.{writes_of}
 use Rattle.blsm_model.specs.Legal.{total_weight, is_del}
 use Rattle.gear_sched.specs.Gears.{GearState}
@@ -21,22 +17,18 @@ use Rattle.pacing.specs.Steps.{Move, Pay, Turn, turn_of, is_worker_seat}
 use Rattle.pacing.specs.Fronts.{Fronts, AreFronts}
 use Rattle.pacing.proofs.Fronts.{step_fronts}
 use Rattle.tree_machine.specs.Lists.{Lists}
-use Rattle.tree_machine.specs.Machine.{Machine, Failed, BadPage, charge, is_closed}
-use Rattle.tree_machine.specs.Moves.{note}
+use Rattle.tree_machine.specs.Machine.{Machine, Failed, BadPage, charge}
 use Rattle.tree_machine.specs.Steps as machine
-use Rattle.tree_machine.specs.Steps.{Outcome, Well, Answer, Paid, Settled, Choice, replied, unless_stopped as machine_unless, admit_fitting, chosen, ended_as, worker_turning, admit, worker_turn}
+use Rattle.tree_machine.specs.Steps.{Outcome, Well, Answer, Paid, Settled, Choice, admit_fitting, chosen, ended_as, admit}
 use Rattle.tree_machine.specs.Plays.{may, stepped_as}
 use Rattle.tree_machine.specs.Stands.{WritesFit}
 use Rattle.tree_machine.specs.declared.step.Kind.{Kind}
 use Rattle.tree_machine.specs.declared.step.Kind.TheVariants as kind
 use Rattle.tree_machine.specs.declared.step.Step.{Step}
-use Rattle.paced_tree.specs.After.{after_admission, after_turn, pace_after, unless_stopped as pace_unless}
 use Rattle.paced_tree.specs.Kept.{IsPacedTree}
-use Rattle.paced_tree.specs.Numbers.{with_numbers_of}
+use Rattle.paced_tree.specs.Numbers.{pace_of}
 use Rattle.paced_tree.specs.Made.{IsMadeBy, IsPaidBy, IsTurnedBy}
-use Rattle.paced_tree.proofs.Made.{step_made}
-use Rattle.paced_tree.proofs.Moves.{of_pace}
-use Rattle.paced_tree.proofs.Promises.{has_way, step_is_paced}
+use Rattle.paced_tree.proofs.Promises.{step_is_paced, step_made}
 use Rattle.paced_tree.proofs.Turns.{move_of, turn_is}
 use Rattle.tree_file.specs.Tree.{Tree}
 use Rattle.core_moves.specs.declared.held.Held.{Held}
@@ -48,14 +40,14 @@ use Rattle.core_lists.proofs.StepLands.{choices_agree}
 use Rattle.core_lists.proofs.AppendLemmas.{append_goes_on}
 use Rattle.blsm_model.specs.declared.op.Op.{Op}
 use Rattle.blsm_model.specs.declared.op.Write.{Write}
-use Rattle.core_lists.proofs.Terms.{helped, chosen_by, IsSteady, IsQuiet, kind_of_turn, IsOpenTo, AdmissionFails, StandsIn, MayAppend, with_appended}
+use Rattle.core_lists.proofs.Terms.{chosen_by, IsSteady, kind_of_turn, IsOpenTo, StandsIn, MayAppend, with_appended}
 use Rattle.pacing.proofs.Terms.{fronts_by}
 
 -- Where the core stands so, and runs, its steps over lists have what they rest on.
-pub standing_is_steady : (opening : List (Key × Value)) (held : Held) (m : Machine) (pace : Pace) (fronts : Fronts) (tree : Tree) (file : List ℕ) → StandsIn opening held m pace fronts tree file → m.stopped ≡ None
-    → IsSteady held tree m file × GoesOn opening m pace fronts tree
-standing_is_steady opening held m pace fronts tree file is runs =
-    let sizes : pace.gears.sizes ≡ held.runs.sizes = sym (ap (λ (p : Pace). p.gears.sizes) is.paced.of_tree.numbers) ∙ ap (λ (g : GearState). g.sizes) is.at.holds.gears ∙ is.one in (
+pub standing_is_steady : (opening : List (Key × Value)) (held : Held) (m : Machine) (fronts : Fronts) (tree : Tree) (file : List ℕ) → StandsIn opening held m fronts tree file → m.stopped ≡ None
+    → IsSteady held tree m file × GoesOn opening m fronts tree
+standing_is_steady opening held m fronts tree file is runs =
+    let sizes : m.gears.sizes ≡ held.runs.sizes = ap (λ (g : GearState). g.sizes) is.at.holds.gears ∙ is.one in (
       record {
         at = is.at;
         sound = is.paced.stands.sound;
@@ -75,78 +67,52 @@ pub admission_fits : (m : Machine) (seat : ℕ) (op : Op) (outcome : Outcome) �
     → admit m seat op outcome ≡ admit_fitting m seat op (total_weight (writes_of op)) outcome
 admission_fits m seat op outcome runs room = grind (arith, common_steps, nat_tests)
 
-pub failures_are_the_machines : (m : Machine) (seat : ℕ) (op : Op) (w faults : ℕ) → AdmissionFails m seat op w faults
-failures_are_the_machines m seat op w faults = grind (arith, common_steps, nat_tests)
-
-pub admission_goes_on : (opening : List (Key × Value)) (m : Machine) (pace : Pace) (fronts : Fronts) (seat : ℕ) (op : Op) (write : Write) (begun : Held) (tree : Tree) → MayAppend opening m pace fronts seat op write begun tree
-    → (then : Fronts) × GoesOn opening (admit m seat op Well).state (pace_after m pace seat (kind.Admit op) Well) then (with_appended write begun tree)
-admission_goes_on opening m pace fronts seat op write begun tree is = append_goes_on opening m pace fronts seat op write begun tree is
+pub admission_goes_on : (opening : List (Key × Value)) (m : Machine) (fronts : Fronts) (seat : ℕ) (op : Op) (write : Write) (begun : Held) (tree : Tree) → MayAppend opening m fronts seat op write begun tree
+    → (then : Fronts) × GoesOn opening (admit m seat op Well).state then (with_appended write begun tree)
+admission_goes_on opening m fronts seat op write begun tree is = append_goes_on opening m fronts seat op write begun tree is
 
 -- ---- a step's pace
 
-module _ (opening : List (Key × Value)) (m : Machine) (pace : Pace) (seat : ℕ) (k : Kind) (outcome : Outcome) (ok : may m seat k ≡ true) (fits : WritesFit k) (paced : IsPacedTree opening m pace) where
+module _ (opening : List (Key × Value)) (m : Machine) (seat : ℕ) (k : Kind) (outcome : Outcome) (ok : may m seat k ≡ true) (fits : WritesFit k) (paced : IsPacedTree opening m) where
   abbrev step : Step
   step = record { seat = seat; kind = k }
 
-  then_paced : IsPacedTree opening (stepped_as m seat k outcome).state (pace_after m pace seat k outcome)
-  then_paced = step_is_paced opening m pace step outcome paced ok fits
+  then_paced : IsPacedTree opening (stepped_as m seat k outcome).state
+  then_paced = step_is_paced opening m step outcome paced ok fits
 
-  made : IsMadeBy seat k (stepped_as m seat k outcome).answer pace (pace_after m pace seat k outcome)
-  made = step_made opening m pace seat k outcome paced.stands (has_way opening m pace paced) (record { of_tree = paced.of_tree; paced = paced.paced }) ok fits
-
--- a write that is refused for its size
-pub refusal_goes_on : (opening : List (Key × Value)) (m : Machine) (pace : Pace) (fronts : Fronts) (tree : Tree) (seat : ℕ) (op : Op) (outcome : Outcome) → m.stopped ≡ None
-    → charge_limit m.gears.sizes (is_del op) < charge m + total_weight (writes_of op) → IsTrue (may m seat (kind.Admit op)) → WritesFit (kind.Admit op) → GoesOn opening m pace fronts tree
-    → ((admit m seat op outcome).state ≡ note seat op (Full (charge m)) m) × GoesOn opening (admit m seat op outcome).state (pace_after m pace seat (kind.Admit op) outcome) fronts tree
-refusal_goes_on opening m pace fronts tree seat op outcome runs heavy ok fits goes =
-    (state, record { paced = then_paced opening m pace seat (kind.Admit op) outcome ok fits goes.paced; within = subst (λ (p : Pace). AreFronts p fronts) (sym same_pace) goes.within; lanes = subst (λ (s : Machine). HasFronts tree s.lists fronts) (sym state) goes.lanes })
-  where
-    past : nat_lt (charge_limit m.gears.sizes (is_del op)) (charge m + total_weight (writes_of op)) ≡ true
-    past = lt-ltb (charge_limit m.gears.sizes (is_del op)) (charge m + total_weight (writes_of op)) heavy
-
-    state : (stepped_as m seat (kind.Admit op) outcome).state ≡ note seat op (Full (charge m)) m
-    state =
-        ap (λ (o : Option Why). (machine_unless o seat op m (cond (nat_lt (charge_limit m.gears.sizes (is_del op)) (charge m + total_weight (writes_of op))) (replied seat op (Full (charge m)) m) (admit_fitting m seat op (total_weight (writes_of op)) outcome))).state) runs
-        ∙ ap (λ (b : Bool). (cond b (replied seat op (Full (charge m)) m) (admit_fitting m seat op (total_weight (writes_of op)) outcome)).state) past
-
-    same_pace : pace_after m pace seat (kind.Admit op) outcome ≡ pace
-    same_pace =
-        ap (λ (o : Option Why). pace_unless o pace (cond (nat_lt (charge_limit m.gears.sizes (is_del op)) (charge m + total_weight (writes_of op))) pace (after_admission m pace seat op (total_weight (writes_of op)) outcome))) runs
-        ∙ ap (λ (b : Bool). cond b pace (after_admission m pace seat op (total_weight (writes_of op)) outcome)) past
+  made : IsMadeBy seat k (stepped_as m seat k outcome).answer (pace_of m) (pace_of (stepped_as m seat k outcome).state)
+  made = step_made opening m seat k outcome paced ok fits
 
 -- ---- a payment
 
 -- debts are no part of the fronts' bounds
 forgiven_fronts : (pace : Pace) (fronts : Fronts) (seat : ℕ) → AreFronts pace fronts → AreFronts (with_forgiven pace seat) fronts
-forgiven_fronts pace fronts seat within = record { table = within.table; high = within.high; full = within.full; next = within.next; behind = within.behind }
+forgiven_fronts pace fronts seat within = record { table = within.table; high = within.high; full = within.full; next = within.next; behind = within.behind; both = within.both; none = within.none }
 
-paid_fronts : (opening : List (Key × Value)) (m : Machine) (pace then : Pace) (fronts : Fronts) (seat : ℕ) (answer : Answer) → IsPacedTree opening m pace → AreFronts pace fronts → IsPaidBy answer seat pace then → AreFronts then fronts
-paid_fronts opening m pace then fronts seat Paid paced within made = subst (λ (p : Pace). AreFronts p fronts) (sym made.2) (step_fronts pace (Pay seat made.0) fronts paced.paced within made.1)
-paid_fronts opening m pace then fronts seat Settled paced within made = subst (λ (p : Pace). AreFronts p fronts) (sym made) (forgiven_fronts pace fronts seat within)
-paid_fronts opening m pace then fronts seat (machine.Turn Failed) paced within made = subst (λ (p : Pace). AreFronts p fronts) (sym made) (forgiven_fronts pace fronts seat within)
-paid_fronts opening m pace then fronts seat (machine.Turn (BadPage page)) paced within made = subst (λ (p : Pace). AreFronts p fronts) (sym made) (forgiven_fronts pace fronts seat within)
-paid_fronts opening m pace then fronts seat answer paced within made = subst (λ (p : Pace). AreFronts p fronts) (sym made) within
+paid_fronts : (pace then : Pace) (fronts : Fronts) (seat : ℕ) (answer : Answer) → IsPaced pace → AreFronts pace fronts → IsPaidBy answer seat pace then → AreFronts then fronts
+paid_fronts pace then fronts seat Paid paced within made = subst (λ (p : Pace). AreFronts p fronts) (sym made.2) (step_fronts pace (Pay seat made.0) fronts paced within made.1)
+paid_fronts pace then fronts seat Settled paced within made = subst (λ (p : Pace). AreFronts p fronts) (sym made) (forgiven_fronts pace fronts seat within)
+paid_fronts pace then fronts seat (machine.Turn Failed) paced within made = subst (λ (p : Pace). AreFronts p fronts) (sym made) (forgiven_fronts pace fronts seat within)
+paid_fronts pace then fronts seat (machine.Turn (BadPage page)) paced within made = subst (λ (p : Pace). AreFronts p fronts) (sym made) (forgiven_fronts pace fronts seat within)
+paid_fronts pace then fronts seat answer paced within made = subst (λ (p : Pace). AreFronts p fronts) (sym made) within
 
 paid_lists : (m : Machine) (seat : ℕ) (outcome : Outcome) → (stepped_as m seat kind.Pay outcome).state.lists ≡ m.lists
 paid_lists m seat outcome = grind (arith, common_steps, nat_tests)
 
-pub payment_goes_on : (opening : List (Key × Value)) (m : Machine) (pace : Pace) (fronts : Fronts) (tree : Tree) (seat : ℕ) (outcome : Outcome) → IsTrue (may m seat kind.Pay) → GoesOn opening m pace fronts tree
-    → GoesOn opening (stepped_as m seat kind.Pay outcome).state (pace_after m pace seat kind.Pay outcome) fronts tree
-payment_goes_on opening m pace fronts tree seat outcome ok goes = record {
-  paced = then_paced opening m pace seat kind.Pay outcome ok tt goes.paced;
-  within = paid_fronts opening m pace (pace_after m pace seat kind.Pay outcome) fronts seat (stepped_as m seat kind.Pay outcome).answer goes.paced goes.within (made opening m pace seat kind.Pay outcome ok tt goes.paced);
+pub payment_goes_on : (opening : List (Key × Value)) (m : Machine) (fronts : Fronts) (tree : Tree) (seat : ℕ) (outcome : Outcome) → IsTrue (may m seat kind.Pay) → GoesOn opening m fronts tree
+    → GoesOn opening (stepped_as m seat kind.Pay outcome).state fronts tree
+payment_goes_on opening m fronts tree seat outcome ok goes = record {
+  paced = then_paced opening m seat kind.Pay outcome ok tt goes.paced;
+  within = paid_fronts (pace_of m) (pace_of (stepped_as m seat kind.Pay outcome).state) fronts seat (stepped_as m seat kind.Pay outcome).answer goes.paced.paced goes.within (made opening m seat kind.Pay outcome ok tt goes.paced);
   lanes = subst (λ (l : Lists). HasFronts tree l fronts) (sym (paid_lists m seat outcome)) goes.lanes;
 }
 
 -- ---- a turn
 
 -- the machine's choice is the pacing's move
-same_turn : (is_worker : Bool) (opening : List (Key × Value)) (m : Machine) (pace : Pace) → IsPacedTree opening m pace → turn_of is_worker pace ≡ move_of (chosen_by is_worker m)
-same_turn is_worker opening m pace paced = of_pace (λ q. turn_of is_worker q ≡ move_of (chosen_by is_worker m)) (λ q. ⊤) m pace paced.of_tree.numbers tt (λ l h. by is_worker l)
-  where
-    by : (b : Bool) (l : Pace) → turn_of b (with_numbers_of m l) ≡ move_of (chosen_by b m)
-    by true l = turn_is true m l paced.stands.sound
-    by false l = turn_is false m l paced.stands.sound
+same_turn : (is_worker : Bool) (opening : List (Key × Value)) (m : Machine) → IsPacedTree opening m → turn_of is_worker (pace_of m) ≡ move_of (chosen_by is_worker m)
+same_turn true opening m paced = turn_is true m paced.stands.sound
+same_turn false opening m paced = turn_is false m paced.stands.sound
 
 turned_fronts : (c : Choice) (pace then : Pace) (fronts : Fronts) (seat : ℕ) → IsPaced pace → AreFronts pace fronts → turn_of (is_worker_seat seat) pace ≡ move_of c → IsTurnedBy (machine.Turn (ended_as c)) seat pace then
     → AreFronts then (fronts_by (move_of c) fronts)
@@ -170,63 +136,30 @@ turn_answer is_worker m seat h1 h2 = grind (arith, common_steps, nat_tests)
 whose_turn : (is_worker : Bool) (m : Machine) (seat : ℕ) → may m seat (kind_of_turn is_worker) ≡ true → is_worker_seat seat ≡ is_worker
 whose_turn is_worker m seat h1 = grind (arith, common_steps, nat_tests)
 
-turn_made : (is_worker : Bool) (opening : List (Key × Value)) (m : Machine) (pace : Pace) (seat : ℕ) → may m seat (kind_of_turn is_worker) ≡ true → IsPacedTree opening m pace
-    → IsTurnedBy (stepped_as m seat (kind_of_turn is_worker) Well).answer seat pace (pace_after m pace seat (kind_of_turn is_worker) Well)
-turn_made true opening m pace seat ok paced = made opening m pace seat kind.WorkerTurn Well ok tt paced
-turn_made false opening m pace seat ok paced = made opening m pace seat kind.WorkTurn Well ok tt paced
+turn_made : (is_worker : Bool) (opening : List (Key × Value)) (m : Machine) (seat : ℕ) → may m seat (kind_of_turn is_worker) ≡ true → IsPacedTree opening m
+    → IsTurnedBy (stepped_as m seat (kind_of_turn is_worker) Well).answer seat (pace_of m) (pace_of (stepped_as m seat (kind_of_turn is_worker) Well).state)
+turn_made true opening m seat ok paced = made opening m seat kind.WorkerTurn Well ok tt paced
+turn_made false opening m seat ok paced = made opening m seat kind.WorkTurn Well ok tt paced
 
-turn_paced : (is_worker : Bool) (opening : List (Key × Value)) (m : Machine) (pace : Pace) (seat : ℕ) → may m seat (kind_of_turn is_worker) ≡ true → IsPacedTree opening m pace
-    → IsPacedTree opening (stepped_as m seat (kind_of_turn is_worker) Well).state (pace_after m pace seat (kind_of_turn is_worker) Well)
-turn_paced true opening m pace seat ok paced = then_paced opening m pace seat kind.WorkerTurn Well ok tt paced
-turn_paced false opening m pace seat ok paced = then_paced opening m pace seat kind.WorkTurn Well ok tt paced
+turn_paced : (is_worker : Bool) (opening : List (Key × Value)) (m : Machine) (seat : ℕ) → may m seat (kind_of_turn is_worker) ≡ true → IsPacedTree opening m
+    → IsPacedTree opening (stepped_as m seat (kind_of_turn is_worker) Well).state
+turn_paced true opening m seat ok paced = then_paced opening m seat kind.WorkerTurn Well ok tt paced
+turn_paced false opening m seat ok paced = then_paced opening m seat kind.WorkTurn Well ok tt paced
 
-pub turn_goes_on : (is_worker : Bool) (opening : List (Key × Value)) (m : Machine) (pace : Pace) (fronts : Fronts) (seat n : ℕ) (old moved : Held) (tree next : Tree) (file : List ℕ) → IsTrue (may m seat (kind_of_turn is_worker))
-    → IsOpenTo is_worker m → IsSteady old tree m file → TurnsTree (move_in is_worker old) n old moved tree next → GoesOn opening m pace fronts tree
-    → (then : Fronts) × GoesOn opening (stepped_as m seat (kind_of_turn is_worker) Well).state (pace_after m pace seat (kind_of_turn is_worker) Well) then next
-turn_goes_on is_worker opening m pace fronts seat n old moved tree next file ok opened is trees goes =
+pub turn_goes_on : (is_worker : Bool) (opening : List (Key × Value)) (m : Machine) (fronts : Fronts) (seat n : ℕ) (old moved : Held) (tree next : Tree) (file : List ℕ) → IsTrue (may m seat (kind_of_turn is_worker))
+    → IsOpenTo is_worker m → IsSteady old tree m file → TurnsTree (move_in is_worker old) n old moved tree next → GoesOn opening m fronts tree
+    → (then : Fronts) × GoesOn opening (stepped_as m seat (kind_of_turn is_worker) Well).state then next
+turn_goes_on is_worker opening m fronts seat n old moved tree next file ok opened is trees goes =
     let c = chosen_by is_worker m in
     let same = choices_agree is_worker old tree m file is in
     let then = fronts_by (move_of c) fronts in
-    let made = subst (λ (a : Answer). IsTurnedBy a seat pace (pace_after m pace seat (kind_of_turn is_worker) Well)) (turn_answer is_worker m seat is.runs opened) (turn_made is_worker opening m pace seat ok goes.paced) in
-    let turn : turn_of (is_worker_seat seat) pace ≡ move_of c = ap (λ (b : Bool). turn_of b pace) (whose_turn is_worker m seat ok) ∙ same_turn is_worker opening m pace goes.paced in (
+    let made = subst (λ (a : Answer). IsTurnedBy a seat (pace_of m) (pace_of (stepped_as m seat (kind_of_turn is_worker) Well).state)) (turn_answer is_worker m seat is.runs opened) (turn_made is_worker opening m seat ok goes.paced) in
+    let turn : turn_of (is_worker_seat seat) (pace_of m) ≡ move_of c = ap (λ (b : Bool). turn_of b (pace_of m)) (whose_turn is_worker m seat ok) ∙ same_turn is_worker opening m goes.paced in (
       then,
       record {
-        paced = turn_paced is_worker opening m pace seat ok goes.paced;
-        within = turned_fronts c pace (pace_after m pace seat (kind_of_turn is_worker) Well) fronts seat goes.paced.paced goes.within turn made;
+        paced = turn_paced is_worker opening m seat ok goes.paced;
+        within = turned_fronts c (pace_of m) (pace_of (stepped_as m seat (kind_of_turn is_worker) Well).state) fronts seat goes.paced.paced goes.within turn made;
         lanes = subst (λ (l : Lists). HasFronts next l then) (sym (turn_state is_worker m seat is.runs opened))
             (subst (λ (x : Choice). HasFronts next (chosen x seat m).lists (fronts_by (move_of x) fronts)) (sym same) (turned_lanes (move_in is_worker old) seat n old moved tree next m fronts trees goes.lanes));
       },
     )
-
--- a closed store's worker only counts its turn
-pub closed_turn_goes_on : (opening : List (Key × Value)) (m : Machine) (pace : Pace) (fronts : Fronts) (tree : Tree) (seat : ℕ) (outcome : Outcome) → m.stopped ≡ None → is_closed m ≡ true
-    → IsTrue (may m seat kind.WorkerTurn) → GoesOn opening m pace fronts tree
-    → ((worker_turn m seat outcome).state ≡ helped seat m) × GoesOn opening (worker_turn m seat outcome).state (pace_after m pace seat kind.WorkerTurn outcome) fronts tree
-closed_turn_goes_on opening m pace fronts tree seat outcome runs closed ok goes =
-    (state, record { paced = then_paced opening m pace seat kind.WorkerTurn outcome ok tt goes.paced; within = subst (λ (p : Pace). AreFronts p fronts) (sym same_pace) goes.within; lanes = subst (λ (s : Machine). HasFronts tree s.lists fronts) (sym state) goes.lanes })
-  where
-    state : (stepped_as m seat kind.WorkerTurn outcome).state ≡ helped seat m
-    state = ap (λ (o : Option Why). helped seat (worker_turning o (is_closed m) m seat outcome).state) runs ∙ ap (λ (b : Bool). helped seat (worker_turning None b m seat outcome).state) closed
-
-    same_pace : pace_after m pace seat kind.WorkerTurn outcome ≡ pace
-    same_pace = ap (λ (o : Option Why). pace_unless o pace (cond (is_closed m) pace (after_turn m pace seat outcome))) runs ∙ ap (λ (b : Bool). cond b pace (after_turn m pace seat outcome)) closed
-
--- ---- a quiet step
-
-quiet_paced : (opening : List (Key × Value)) (m : Machine) (pace : Pace) (seat : ℕ) (k : Kind) (outcome : Outcome) → may m seat k ≡ true → IsQuiet k → IsPacedTree opening m pace → IsPacedTree opening (stepped_as m seat k outcome).state pace
-quiet_paced opening m pace seat (kind.Admit op) outcome ok quiet paced = absurd quiet
-quiet_paced opening m pace seat kind.Pay outcome ok quiet paced = absurd quiet
-quiet_paced opening m pace seat kind.WorkTurn outcome ok quiet paced = absurd quiet
-quiet_paced opening m pace seat kind.WorkerTurn outcome ok quiet paced = absurd quiet
-quiet_paced opening m pace seat k outcome ok quiet paced = then_paced opening m pace seat k outcome ok tt paced
-
-quiet_lists : (m : Machine) (seat : ℕ) (k : Kind) (outcome : Outcome) → IsQuiet k → (stepped_as m seat k outcome).state.lists ≡ m.lists
-quiet_lists m seat k outcome h1 = grind (arith, common_steps, nat_tests)
-
-pub quiet_goes_on : (opening : List (Key × Value)) (m : Machine) (pace : Pace) (fronts : Fronts) (tree : Tree) (seat : ℕ) (k : Kind) (outcome : Outcome) → IsTrue (may m seat k) → IsQuiet k → GoesOn opening m pace fronts tree
-    → GoesOn opening (stepped_as m seat k outcome).state pace fronts tree
-quiet_goes_on opening m pace fronts tree seat k outcome ok quiet goes = record {
-  paced = quiet_paced opening m pace seat k outcome ok quiet goes.paced;
-  within = goes.within;
-  lanes = subst (λ (l : Lists). HasFronts tree l fronts) (sym (quiet_lists m seat k outcome quiet)) goes.lanes;
-}

@@ -23,8 +23,8 @@ use Rattle.tree_machine.specs.Moves.{swap_deep, swap_pass, rotate_alone}
 use Rattle.tree_machine.specs.Steps.{deep_swapped, swapped}
 use Rattle.tree_machine.proofs.CarryLemmas.{deep_swapped_carries, rotate_alone_carries}
 use Rattle.tree_machine.proofs.MapLemmas.{map_in_is}
-use Rattle.paced_tree.specs.Numbers.{with_numbers_of}
-use Rattle.paced_tree.proofs.Moves.{pass_test, settled_of}
+use Rattle.paced_tree.specs.Numbers.{pace_of}
+use Rattle.paced_tree.proofs.Moves.{pass_test, settled_pace}
 use Rattle.tree_file.specs.Tree.{Tree, FitsSizes, HoldsTree, lists_of, components_weight}
 use Rattle.tree_file.specs.Places.{HoldsEither}
 use Rattle.tree_runs.specs.Holding.{IsPassSwapped, IsDeepSwapped, IsRotated}
@@ -42,9 +42,9 @@ use Rattle.pacing.proofs.Terms.{fronts_turned, fronts_ready}
 
 -- ---- the deep merge
 
-pub settled_fronts : (opening : List (Key × Value)) (old : Held) (m : Machine) (pace : Pace) (fronts : Fronts) (tree middle : Tree) (file : List ℕ) → StandsIn opening old m pace fronts tree file → DeepSettlesTree old tree middle
+pub settled_fronts : (opening : List (Key × Value)) (old : Held) (m : Machine) (fronts : Fronts) (tree middle : Tree) (file : List ℕ) → StandsIn opening old m fronts tree file → DeepSettlesTree old tree middle
     → HasFronts middle (deep_swapped m).lists fronts
-settled_fronts opening old m pace fronts tree middle file is moves = by (deep_done m) refl
+settled_fronts opening old m fronts tree middle file is moves = by (deep_done m) refl
   where
     agrees : Agrees old m
     agrees = tests_agree_with_lists old tree m file is.numbers is.at is.paced.stands.sound is.has
@@ -58,16 +58,16 @@ settled_fronts opening old m pace fronts tree middle file is moves = by (deep_do
         subst (λ (t : Tree). HasFronts t m.lists fronts) (sym stays) is.lanes
 
 -- While the deep merge is swapped in, each image shows the history.
-pub deep_swap_images : (opening : List (Key × Value)) (held : Held) (m : Machine) (pace : Pace) (fronts : Fronts) (tree next : Tree) (file image : List ℕ) → StandsIn opening held m pace fronts tree file
+pub deep_swap_images : (opening : List (Key × Value)) (held : Held) (m : Machine) (fronts : Fronts) (tree next : Tree) (file image : List ℕ) → StandsIn opening held m fronts tree file
     → IsDeepDone held → IsDeepSwapped tree next → HoldsEither m.gears.sizes tree next image → ShowsWhole opening m image
-deep_swap_images opening held m pace fronts tree next file image is done swapped either =
+deep_swap_images opening held m fronts tree next file image is done swapped either =
     let agrees = tests_agree_with_lists held tree m file is.numbers is.at is.paced.stands.sound is.has in
     let test : deep_done m ≡ true = agrees.deep_is_done.0 done in
     let lists : (deep_swapped m).lists ≡ lists_of next = subst (λ (b : Bool). (cond b (swap_deep m) m).lists ≡ lists_of next) (sym test)
     (deep_swap_has_lists held tree next m is.at.holds is.paced.stands.sound test swapped) in
     let moves : DeepSettlesTree held tree next = record { done = λ over. swapped; rests = λ never. absurd (never done) } in
-    ⊎_elim (standing_shows opening m pace fronts tree image is.paced is.within is.at.holds.lists is.lanes)
-    (settled_shows opening m pace fronts next image is.paced is.within lists (settled_fronts opening held m pace fronts tree next file is moves))
+    ⊎_elim (standing_shows opening m fronts tree image is.paced is.within is.at.holds.lists is.lanes)
+    (settled_shows opening m fronts next image is.paced is.within lists (settled_fronts opening held m fronts tree next file is moves))
     either
 
 -- ---- the pass
@@ -76,25 +76,25 @@ deep_swap_images opening held m pace fronts tree next file image is done swapped
 pub swapped_tables : (m : Machine) → ((swap_pass m).lists.a ≡ m.lists.b) × ((swap_pass m).lists.b ≡ [])
 swapped_tables m = grind (arith, common_steps, nat_tests)
 
-module _ (opening : List (Key × Value)) (old settled : Held) (m : Machine) (pace : Pace) (fronts : Fronts) (tree middle : Tree) (file between : List ℕ)
-    (is : SettledIn opening old settled m pace fronts tree middle file between) where
+module _ (opening : List (Key × Value)) (old settled : Held) (m : Machine) (fronts : Fronts) (tree middle : Tree) (file between : List ℕ)
+    (is : SettledIn opening old settled m fronts tree middle file between) where
   sound : IsSound (deep_swapped m)
   sound = (deep_swapped_carries m is.stood.paced.stands.sound).sound
 
-  numbers : with_numbers_of (deep_swapped m) (deep_settled pace) ≡ deep_settled pace
-  numbers = (settled_of m pace is.stood.paced.stands.sound is.stood.paced.of_tree).numbers
+  same : pace_of (deep_swapped m) ≡ deep_settled (pace_of m)
+  same = settled_pace m is.stood.paced.stands.sound
 
   agrees : Agrees settled (deep_swapped m)
   agrees = tests_agree_with_lists settled middle (deep_swapped m) between is.numbers is.at sound is.has
 
   lanes : HasFronts middle (deep_swapped m).lists fronts
-  lanes = settled_fronts opening old m pace fronts tree middle file is.stood is.moves
+  lanes = settled_fronts opening old m fronts tree middle file is.stood is.moves
 
-  test : pass_done (deep_swapped m) ≡ ((deep_settled pace).gears.pass && pace_pass_done (deep_settled pace))
-  test = pass_test (deep_swapped m) sound ∙ ap (λ (q : Pace). q.gears.pass && pace_pass_done q) numbers
+  test : pass_done (deep_swapped m) ≡ ((deep_settled (pace_of m)).gears.pass && pace_pass_done (deep_settled (pace_of m)))
+  test = pass_test (deep_swapped m) sound ∙ ap (λ (q : Pace). q.gears.pass && pace_pass_done q) same
 
   fronts_by_test : (next : Tree) → (IsPassDone settled → IsPassSwapped (is_run_full settled) settled.log.a.entries middle next) → ((IsPassDone settled → ⊥) → next ≡ middle)
-      → HasFronts next (swapped m).lists (fronts_ready pace fronts)
+      → HasFronts next (swapped m).lists (fronts_ready (pace_of m) fronts)
   fronts_by_test next done rests = subst (λ (b : Bool). HasFronts next (swapped m).lists (cond b (fronts_turned fronts) fronts)) test (by (pass_done (deep_swapped m)) refl)
     where
       by : (b : Bool) → pass_done (deep_swapped m) ≡ b → HasFronts next (cond b (swap_pass (deep_swapped m)) (deep_swapped m)).lists (cond b (fronts_turned fronts) fronts)
@@ -112,20 +112,20 @@ module _ (opening : List (Key × Value)) (old settled : Held) (m : Machine) (pac
       let over : pass_done (deep_swapped m) ≡ true = agrees.pass_is_done.0 done in
       let lists : (swapped m).lists ≡ lists_of next = subst (λ (b : Bool). (cond b (swap_pass (deep_swapped m)) (deep_swapped m)).lists ≡ lists_of next) (sym over)
       (pass_swap_has_lists settled middle next (deep_swapped m) between is.at sound over is.one turned) in
-      ⊎_elim (settled_shows opening m pace fronts middle image is.stood.paced is.stood.within is.at.holds.lists lanes)
-      (swapped_shows opening m pace fronts next image is.stood.paced is.stood.within lists (fronts_by_test next (λ yes. turned) (λ never. absurd (never done))))
+      ⊎_elim (settled_shows opening m fronts middle image is.stood.paced is.stood.within is.at.holds.lists lanes)
+      (swapped_shows opening m fronts next image is.stood.paced is.stood.within lists (fronts_by_test next (λ yes. turned) (λ never. absurd (never done))))
       either
 
-pub ready_fronts : (opening : List (Key × Value)) (old settled ready : Held) (m : Machine) (pace : Pace) (fronts : Fronts) (tree middle next : Tree) (file between : List ℕ)
-    → SettledIn opening old settled m pace fronts tree middle file between → PassSettlesTree settled ready middle next → HasFronts next (swapped m).lists (fronts_ready pace fronts)
-ready_fronts opening old settled ready m pace fronts tree middle next file between is moves = fronts_by_test opening old settled m pace fronts tree middle file between is next moves.done moves.rests
+pub ready_fronts : (opening : List (Key × Value)) (old settled ready : Held) (m : Machine) (fronts : Fronts) (tree middle next : Tree) (file between : List ℕ)
+    → SettledIn opening old settled m fronts tree middle file between → PassSettlesTree settled ready middle next → HasFronts next (swapped m).lists (fronts_ready (pace_of m) fronts)
+ready_fronts opening old settled ready m fronts tree middle next file between is moves = fronts_by_test opening old settled m fronts tree middle file between is next moves.done moves.rests
 
 -- While the pass is swapped in, each image does, too.
-pub pass_swap_images : (opening : List (Key × Value)) (old settled : Held) (m : Machine) (pace : Pace) (fronts : Fronts) (tree middle next : Tree) (file between image : List ℕ)
-    → SettledIn opening old settled m pace fronts tree middle file between → IsPassDone settled → IsPassSwapped (is_run_full settled) settled.log.a.entries middle next
+pub pass_swap_images : (opening : List (Key × Value)) (old settled : Held) (m : Machine) (fronts : Fronts) (tree middle next : Tree) (file between image : List ℕ)
+    → SettledIn opening old settled m fronts tree middle file between → IsPassDone settled → IsPassSwapped (is_run_full settled) settled.log.a.entries middle next
     → HoldsEither m.gears.sizes middle next image → ShowsWhole opening m image
-pass_swap_images opening old settled m pace fronts tree middle next file between image is done turned either =
-    shows_either opening old settled m pace fronts tree middle file between is next image done turned either
+pass_swap_images opening old settled m fronts tree middle next file between image is done turned either =
+    shows_either opening old settled m fronts tree middle file between is next image done turned either
 
 -- ---- C1 by itself
 
@@ -136,10 +136,10 @@ no_deep : (deep : Option Merge) (merge : Option DeepState) → IsDeepAt deep mer
 no_deep deep merge h1 h2 = grind (arith, common_steps, nat_tests)
 
 -- And while C1 is rotated by itself: no merge may run then.
-pub rotation_images : (opening : List (Key × Value)) (held : Held) (m : Machine) (pace : Pace) (fronts : Fronts) (tree next : Tree) (file image : List ℕ) → StandsIn opening held m pace fronts tree file
+pub rotation_images : (opening : List (Key × Value)) (held : Held) (m : Machine) (fronts : Fronts) (tree next : Tree) (file image : List ℕ) → StandsIn opening held m fronts tree file
     → held.runs.pass ≡ None → held.runs.deep ≡ None → IsRotated tree next → HoldsEither m.gears.sizes tree next image → ShowsWhole opening m image
-rotation_images opening held m pace fronts tree next file image is rests unmerged rotated either =
-    ⊎_elim (standing_shows opening m pace fronts tree image is.paced is.within is.at.holds.lists is.lanes) (λ holds. whole_of opening m image (record { tree = next; holds = holds; fits = fits; map_is = map_is }) (weighs_within holds)) either
+rotation_images opening held m fronts tree next file image is rests unmerged rotated either =
+    ⊎_elim (standing_shows opening m fronts tree image is.paced is.within is.at.holds.lists is.lanes) (λ holds. whole_of opening m image (record { tree = next; holds = holds; fits = fits; map_is = map_is }) (weighs_within holds)) either
   where
     pass_none : m.merges.pass ≡ None
     pass_none = no_pass m.merges.pass held.runs.pass is.at.holds.pass rests
@@ -156,7 +156,7 @@ rotation_images opening held m pace fronts tree next file image is rests unmerge
         ap map_in (sym lists) ∙ map_in_is (rotate_alone m).lists (rotate_alone m).merges (written opening m.book.entries) carries.sound.layered (λ key. carries.values key ∙ is.paced.stands.values key)
 
     old_fits : FitsSizes m.gears.sizes tree
-    old_fits = shown_fits opening m pace fronts tree (steps_show opening m pace fronts tree is.paced is.at.holds.lists is.within is.lanes)
+    old_fits = shown_fits opening m fronts tree (steps_show opening m fronts tree is.paced is.at.holds.lists is.within is.lanes)
 
     -- C1' has nothing
     empty : entries_of tree.c1x ≡ []

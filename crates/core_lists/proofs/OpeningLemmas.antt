@@ -8,7 +8,7 @@ use Rattle.record_delta.specs.Entries.{Entries, entries_weight, replayed}
 use Rattle.page_file.specs.Component.{entries_of}
 use Rattle.deep_merge.specs.Merge.{DeepState}
 use Rattle.gear_sched.specs.Gears.{GearState}
-use Rattle.pacing.specs.Pace.{opened as pace_opened, Pace}
+use Rattle.pacing.specs.Pace.{Pace}
 use Rattle.pacing.specs.Laws.{IsOpening}
 use Rattle.pacing.proofs.Fronts.{opening_fronts}
 use Rattle.tree_machine.specs.Lists.{Lists, map_in}
@@ -73,24 +73,22 @@ module _ (annals : Book) (faults : ℕ) (held : Held) (tree : Tree) (file : List
         numbers = subst (λ (n : ℕ). IsOpening held.runs.sizes n (entries_weight (entries_of tree.c2))) (sym weight_c1) (subst (λ (n : ℕ). IsOpening held.runs.sizes held.runs.catalogue.c1.weight n) (sym weight_c2) opening);
       }
 
-  paced : IsPacedTree (map_of_tree tree) first (pace_opened held.runs.sizes held.runs.catalogue.c1.weight held.runs.catalogue.c2.weight)
-  paced = subst (λ (n : ℕ). IsPacedTree (map_of_tree tree) first (pace_opened held.runs.sizes held.runs.catalogue.c1.weight n)) weight_c2
-      (subst (λ (n : ℕ). IsPacedTree (map_of_tree tree) first (pace_opened held.runs.sizes n (entries_weight (entries_of tree.c2)))) weight_c1
-      (subst (λ (l : Lists). IsPacedTree (map_in l) first (pace_opened held.runs.sizes (entries_weight (entries_of tree.c1)) (entries_weight (entries_of tree.c2)))) lists
-      (opened_is_paced held.runs.sizes (entries_of tree.c1) (entries_of tree.c2) (catalogue_of held.runs.catalogue) faults annals.room are)))
+  paced : IsPacedTree (map_of_tree tree) first
+  paced = subst (λ (l : Lists). IsPacedTree (map_in l) first) lists
+      (opened_is_paced held.runs.sizes (entries_of tree.c1) (entries_of tree.c2) (catalogue_of held.runs.catalogue) faults annals.room are)
 
 -- Where the file holds a tree whose lanes are empty, the machine's history begins with the map of that tree.
 pub opening_stands : (annals : Book) (faults : ℕ) (held : Held) (numbers : Pace) (tree : Tree) (file : List ℕ) → IsOpened annals faults held → held.log.lanes.roles ≡ held.runs.catalogue.lanes → HasPace held numbers
     → AreOf held.runs tree held.log.a.entries file → tree.lane_a ≡ [] → tree.lane_b ≡ [] → IsOpening held.runs.sizes held.runs.catalogue.c1.weight held.runs.catalogue.c2.weight
     → StandsIn (map_of_tree tree) held (opened held.runs.sizes (entries_of tree.c1) (entries_of tree.c2) (catalogue_of held.runs.catalogue) faults annals.room)
-    (pace_opened held.runs.sizes held.runs.catalogue.c1.weight held.runs.catalogue.c2.weight) no_fronts tree file
+    no_fronts tree file
 opening_stands annals faults held numbers tree file is roles has of lane_a lane_b opening = record {
   at = record { are_of = of; holds = holds annals faults held tree file is roles of lane_a lane_b opening };
   paced = paced annals faults held tree file is roles of lane_a lane_b opening;
   numbers = numbers;
   has = has;
   one = ap (λ (g : GearState). g.sizes) is.gears;
-  within = opening_fronts held.runs.sizes held.runs.catalogue.c1.weight held.runs.catalogue.c2.weight opening;
+  within = opening_fronts held.runs.sizes (entries_weight (entries_of tree.c1)) (entries_weight (entries_of tree.c2)) (are annals faults held tree file is roles of lane_a lane_b opening).numbers;
   lanes = record {
     lane_a = subst (λ (es : Entries). IsLane es [] 0) (sym lane_a) empty_lane;
     lane_b = subst (λ (es : Entries). IsLane es [] 0) (sym lane_b) empty_lane;

@@ -15,14 +15,13 @@ use Rattle.blsm_model.specs.Histories.{is_done, writes_of, counted, counted_writ
 use Rattle.blsm_model.specs.Images.{counted_with, is_unsure}
 use Rattle.blsm_model.specs.Legal.{is_running, is_stopping, is_stopped}
 use Rattle.blsm_model.specs.Rows.{map_of, puts_of}
-use Rattle.pacing.specs.Pace.{Pace}
-use Rattle.pacing.specs.Steps.{deep_settled, ready_for as pace_ready_for}
 use Rattle.pacing.specs.Fronts.{Fronts, AreFronts}
 use Rattle.tree_machine.specs.Lists.{Lists}
 use Rattle.tree_machine.specs.Machine.{Machine}
 use Rattle.tree_machine.specs.Steps.{deep_swapped, swapped, ready_for}
 use Rattle.tree_machine.proofs.FoldLemmas.{both_hold}
 use Rattle.tree_machine.proofs.CarryLemmas.{deep_swapped_carries, ready_carries}
+use Rattle.paced_tree.specs.Numbers.{pace_of}
 use Rattle.paced_tree.specs.Kept.{IsPacedTree}
 use Rattle.paced_tree.proofs.Promises.{has_way}
 use Rattle.tree_file.specs.Tree.{Tree, HoldsTree, ReadsAsMap, lists_of}
@@ -82,10 +81,10 @@ ReadsHistory opening m file = ReadsAsMap m.gears.sizes (map_of (written opening 
 pub whole_of : (opening : List (Key × Value)) (m : Machine) (file : List ℕ) → ReadsHistory opening m file → WeighsWithin m m.book.entries file → ShowsWhole opening m file
 whole_of opening m file reads weighs = grind (arith, common_steps, nat_tests)
 
-pub standing_reads : (opening : List (Key × Value)) (m : Machine) (pace : Pace) (fronts : Fronts) (tree : Tree) (file : List ℕ) → IsPacedTree opening m pace → AreFronts pace fronts → m.lists ≡ lists_of tree
+pub standing_reads : (opening : List (Key × Value)) (m : Machine) (fronts : Fronts) (tree : Tree) (file : List ℕ) → IsPacedTree opening m → AreFronts (pace_of m) fronts → m.lists ≡ lists_of tree
     → HasFronts tree m.lists fronts → HoldsTree m.gears.sizes tree file → ReadsHistory opening m file
-standing_reads opening m pace fronts tree file paced within lists lanes holds =
-    images_show opening m pace fronts tree file (steps_show opening m pace fronts tree paced lists within lanes) holds
+standing_reads opening m fronts tree file paced within lists lanes holds =
+    images_show opening m fronts tree file (steps_show opening m fronts tree paced lists within lanes) holds
 
 -- a later machine of the same sizes and history reads as the same
 reads_as : (opening : List (Key × Value)) (m later : Machine) (file : List ℕ) → later.gears.sizes ≡ m.gears.sizes → later.book ≡ m.book → ReadsHistory opening later file → ReadsHistory opening m file
@@ -95,37 +94,37 @@ reads_as opening m later file sizes book reads = grind (arith, common_steps, nat
 pub begun_lists : (w : ℕ) (m : Machine) → (ready_for w m).lists ≡ (swapped m).lists
 begun_lists w m = grind (arith, common_steps, nat_tests)
 
-pub swapped_reads : (opening : List (Key × Value)) (m : Machine) (pace : Pace) (fronts : Fronts) (next : Tree) (file : List ℕ) → IsPacedTree opening m pace → AreFronts pace fronts
-    → (swapped m).lists ≡ lists_of next → HasFronts next (swapped m).lists (fronts_ready pace fronts) → HoldsTree m.gears.sizes next file → ReadsHistory opening m file
-swapped_reads opening m pace fronts next file paced within lists lanes holds =
-    let carries = ready_carries 0 m paced.stands.sound (has_way opening m pace paced) in
+pub swapped_reads : (opening : List (Key × Value)) (m : Machine) (fronts : Fronts) (next : Tree) (file : List ℕ) → IsPacedTree opening m → AreFronts (pace_of m) fronts
+    → (swapped m).lists ≡ lists_of next → HasFronts next (swapped m).lists (fronts_ready (pace_of m) fronts) → HoldsTree m.gears.sizes next file → ReadsHistory opening m file
+swapped_reads opening m fronts next file paced within lists lanes holds =
+    let carries = ready_carries 0 m paced.stands.sound (has_way opening m paced) in
     let same = begun_lists 0 m in
     reads_as opening m (ready_for 0 m) file carries.sizes carries.book
-    (images_show opening (ready_for 0 m) (pace_ready_for pace 0) (fronts_ready pace fronts) next file
-    (ready_shows opening m pace fronts 0 next paced within (same ∙ lists) (subst (λ (l : Lists). HasFronts next l (fronts_ready pace fronts)) (sym same) lanes))
+    (images_show opening (ready_for 0 m) (fronts_ready (pace_of m) fronts) next file
+    (ready_shows opening m fronts 0 next paced within (same ∙ lists) (subst (λ (l : Lists). HasFronts next l (fronts_ready (pace_of m) fronts)) (sym same) lanes))
     (subst (λ (s : Sizes). HoldsTree s next file) (sym carries.sizes) holds))
 
 -- Each file shows it that holds the machine's tree;
-pub standing_shows : (opening : List (Key × Value)) (m : Machine) (pace : Pace) (fronts : Fronts) (tree : Tree) (file : List ℕ) → IsPacedTree opening m pace → AreFronts pace fronts → m.lists ≡ lists_of tree
+pub standing_shows : (opening : List (Key × Value)) (m : Machine) (fronts : Fronts) (tree : Tree) (file : List ℕ) → IsPacedTree opening m → AreFronts (pace_of m) fronts → m.lists ≡ lists_of tree
     → HasFronts tree m.lists fronts → HoldsTree m.gears.sizes tree file → ShowsWhole opening m file
-standing_shows opening m pace fronts tree file paced within lists lanes holds =
-    whole_of opening m file (standing_reads opening m pace fronts tree file paced within lists lanes holds) (paced_weighs m pace tree m.book.entries file paced.of_tree paced.paced lists holds)
+standing_shows opening m fronts tree file paced within lists lanes holds =
+    whole_of opening m file (standing_reads opening m fronts tree file paced within lists lanes holds) (paced_weighs m tree m.book.entries file paced.paced lists holds)
 
 -- within an admission the tree after the deep merge's swap, too,
-pub settled_shows : (opening : List (Key × Value)) (m : Machine) (pace : Pace) (fronts : Fronts) (next : Tree) (file : List ℕ) → IsPacedTree opening m pace → AreFronts pace fronts → (deep_swapped m).lists ≡ lists_of next
+pub settled_shows : (opening : List (Key × Value)) (m : Machine) (fronts : Fronts) (next : Tree) (file : List ℕ) → IsPacedTree opening m → AreFronts (pace_of m) fronts → (deep_swapped m).lists ≡ lists_of next
     → HasFronts next (deep_swapped m).lists fronts → HoldsTree m.gears.sizes next file → ShowsWhole opening m file
-settled_shows opening m pace fronts next file paced within lists lanes holds =
+settled_shows opening m fronts next file paced within lists lanes holds =
     let carries = deep_swapped_carries m paced.stands.sound in
     whole_of opening m file (reads_as opening m (deep_swapped m) file carries.sizes carries.book
-    (images_show opening (deep_swapped m) (deep_settled pace) fronts next file (deep_swap_shows opening m pace fronts next paced within lists lanes)
+    (images_show opening (deep_swapped m) fronts next file (deep_swap_shows opening m fronts next paced within lists lanes)
     (subst (λ (s : Sizes). HoldsTree s next file) (sym carries.sizes) holds)))
-    (settled_weighs opening m pace next m.book.entries file paced lists holds)
+    (settled_weighs opening m next m.book.entries file paced lists holds)
 
 -- and the one after the pass's.
-pub swapped_shows : (opening : List (Key × Value)) (m : Machine) (pace : Pace) (fronts : Fronts) (next : Tree) (file : List ℕ) → IsPacedTree opening m pace → AreFronts pace fronts → (swapped m).lists ≡ lists_of next
-    → HasFronts next (swapped m).lists (fronts_ready pace fronts) → HoldsTree m.gears.sizes next file → ShowsWhole opening m file
-swapped_shows opening m pace fronts next file paced within lists lanes holds =
-    whole_of opening m file (swapped_reads opening m pace fronts next file paced within lists lanes holds) (ready_weighs 0 opening m pace next m.book.entries file paced (begun_lists 0 m ∙ lists) holds)
+pub swapped_shows : (opening : List (Key × Value)) (m : Machine) (fronts : Fronts) (next : Tree) (file : List ℕ) → IsPacedTree opening m → AreFronts (pace_of m) fronts → (swapped m).lists ≡ lists_of next
+    → HasFronts next (swapped m).lists (fronts_ready (pace_of m) fronts) → HoldsTree m.gears.sizes next file → ShowsWhole opening m file
+swapped_shows opening m fronts next file paced within lists lanes holds =
+    whole_of opening m file (swapped_reads opening m fronts next file paced within lists lanes holds) (ready_weighs 0 opening m next m.book.entries file paced (begun_lists 0 m ∙ lists) holds)
 
 -- ---- as the history grows
 

@@ -1,5 +1,5 @@
 -- Each image that holds the tree reads as the map of the history.
-use Rattle.std.proofs.Common.{◌∙◌, true, false, ap, sym, arith}
+use Rattle.std.proofs.Common.{◌≡◌, ◌∙◌, true, false, refl, ap, sym, subst, arith}
 use Rattle.std.proofs.lemmas.Grind.{common_steps}
 use Rattle.std.proofs.lemmas.Bool.Decides.{nat_tests}
 use Rattle.blsm_model.specs.Book.{Book}
@@ -10,7 +10,10 @@ use Rattle.pacing.proofs.Fronts.{moves_fronts}
 use Rattle.tree_machine.specs.Lists.{map_in, Lists}
 use Rattle.tree_machine.proofs.MapLemmas.{map_in_is}
 use Rattle.tree_machine.proofs.CarryLemmas.{deep_swapped_carries, ready_carries}
-use Rattle.paced_tree.proofs.Moves.{settled_of, ready_of}
+use Rattle.paced_tree.proofs.Moves.{settled_pace, ready_pace}
+use Rattle.paced_tree.specs.Numbers.{pace_of}
+use Rattle.paced_tree.proofs.Terms.{with_numbers_of}
+use Rattle.pacing.specs.Kept.{IsPaced}
 use Rattle.paced_tree.proofs.Promises.{has_way}
 use Rattle.paced_tree.proofs.LaneLemmas.{lane_grows}
 use Rattle.core_lists.specs.Shown.{HasFronts}
@@ -22,7 +25,6 @@ use Rattle.pacing.specs.Fronts.{Fronts, AreFronts}
 use Rattle.tree_machine.specs.Machine.{Machine}
 use Rattle.paced_tree.specs.Kept.{IsPacedTree}
 use Rattle.tree_file.specs.Tree.{Tree, lists_of, FitsSizes, HoldsTree, ReadsAsMap}
-use Rattle.pacing.specs.Steps.{deep_settled, ready_for as pace_ready_for}
 use Rattle.tree_machine.specs.Steps.{deep_swapped, ready_for}
 use Rattle.blsm_model.specs.Rows.{map_of}
 use Rattle.record_delta.specs.declared.record.Rec.{Rec}
@@ -31,51 +33,52 @@ use Rattle.pacing.proofs.Terms.{fronts_ready, fronts_turned, fronts_written}
 use Rattle.core_lists.proofs.Terms.{IsShown, joined, table_weight}
 
 -- after each step
-pub steps_show : (opening : List (Key × Value)) (m : Machine) (pace : Pace) (fronts : Fronts) (tree : Tree) → IsPacedTree opening m pace → m.lists ≡ lists_of tree → AreFronts pace fronts
-    → HasFronts tree m.lists fronts → IsShown opening m pace fronts tree
-steps_show opening m pace fronts tree is lists within lanes = grind (arith, common_steps, nat_tests)
+pub steps_show : (opening : List (Key × Value)) (m : Machine) (fronts : Fronts) (tree : Tree) → IsPacedTree opening m → m.lists ≡ lists_of tree → AreFronts (pace_of m) fronts
+    → HasFronts tree m.lists fronts → IsShown opening m fronts tree
+steps_show opening m fronts tree is lists within lanes = record { lists = lists; layered = is.stands.sound.layered; values = is.stands.values; paced = is.paced; within = within; lanes = lanes }
 
 -- within an admission, after the deep merge was swapped in where it is done,
-pub deep_swap_shows : (opening : List (Key × Value)) (m : Machine) (pace : Pace) (fronts : Fronts) (next : Tree) → IsPacedTree opening m pace → AreFronts pace fronts → (deep_swapped m).lists ≡ lists_of next
-    → HasFronts next (deep_swapped m).lists fronts → IsShown opening (deep_swapped m) (deep_settled pace) fronts next
-deep_swap_shows opening m pace fronts next is within lists lanes =
+pub deep_swap_shows : (opening : List (Key × Value)) (m : Machine) (fronts : Fronts) (next : Tree) → IsPacedTree opening m → AreFronts (pace_of m) fronts → (deep_swapped m).lists ≡ lists_of next
+    → HasFronts next (deep_swapped m).lists fronts → IsShown opening (deep_swapped m) fronts next
+deep_swap_shows opening m fronts next is within lists lanes =
     let carries = deep_swapped_carries m is.stands.sound in
     record {
       lists = lists;
       layered = carries.sound.layered;
       values = λ key. carries.values key ∙ is.stands.values key ∙ ap (λ (b : Book). value_at (written opening b.entries) key) (sym carries.book);
-      numbers = (settled_of m pace is.stands.sound is.of_tree).numbers;
-      paced = (deep_settled_kept pace is.paced).kept;
-      within = (moves_fronts pace 0 fronts is.paced within).0;
+      paced = subst IsPaced (sym (settled_pace m is.stands.sound)) (deep_settled_kept (pace_of m) is.paced).kept;
+      within = subst (λ (p : Pace). AreFronts p fronts) (sym (settled_pace m is.stands.sound)) (moves_fronts (pace_of m) 0 fronts is.paced within).0;
       lanes = lanes;
     }
 
 -- and when the write is to be appended
-pub ready_shows : (opening : List (Key × Value)) (m : Machine) (pace : Pace) (fronts : Fronts) (weight : ℕ) (next : Tree) → IsPacedTree opening m pace → AreFronts pace fronts
-    → (ready_for weight m).lists ≡ lists_of next → HasFronts next (ready_for weight m).lists (fronts_ready pace fronts)
-    → IsShown opening (ready_for weight m) (pace_ready_for pace weight) (fronts_ready pace fronts) next
-ready_shows opening m pace fronts weight next is within lists lanes =
-    let carries = ready_carries weight m is.stands.sound (has_way opening m pace is) in
+pub ready_shows : (opening : List (Key × Value)) (m : Machine) (fronts : Fronts) (weight : ℕ) (next : Tree) → IsPacedTree opening m → AreFronts (pace_of m) fronts
+    → (ready_for weight m).lists ≡ lists_of next → HasFronts next (ready_for weight m).lists (fronts_ready (pace_of m) fronts)
+    → IsShown opening (ready_for weight m) (fronts_ready (pace_of m) fronts) next
+ready_shows opening m fronts weight next is within lists lanes =
+    let carries = ready_carries weight m is.stands.sound (has_way opening m is) in
     record {
       lists = lists;
       layered = carries.sound.layered;
       values = λ key. carries.values key ∙ is.stands.values key ∙ ap (λ (b : Book). value_at (written opening b.entries) key) (sym carries.book);
-      numbers = (ready_of m pace weight is.stands.sound is.of_tree).numbers;
-      paced = ready_kept pace weight is.paced;
-      within = (moves_fronts pace weight fronts is.paced within).1;
+      paced = subst IsPaced (sym (ready_pace weight m is.stands.sound)) (ready_kept (pace_of m) weight is.paced);
+      within = subst (λ (p : Pace). AreFronts p (fronts_ready (pace_of m) fronts)) (sym (ready_pace weight m is.stands.sound)) (moves_fronts (pace_of m) weight fronts is.paced within).1;
       lanes = lanes;
     }
 
 -- Such a tree fits its sizes, so each file that holds it reads as the map of the history.
-pub shown_fits : (opening : List (Key × Value)) (m : Machine) (pace : Pace) (fronts : Fronts) (tree : Tree) → IsShown opening m pace fronts tree → FitsSizes m.gears.sizes tree
-shown_fits opening m pace fronts tree is = grind (arith, common_steps, nat_tests)
+fits_by : (m : Machine) (pace : Pace) (fronts : Fronts) (tree : Tree) → m.lists ≡ lists_of tree → with_numbers_of m pace ≡ pace → IsPaced pace → AreFronts pace fronts → HasFronts tree m.lists fronts → FitsSizes m.gears.sizes tree
+fits_by m pace fronts tree lists numbers paced within lanes = grind (arith, common_steps, nat_tests)
 
-pub images_show : (opening : List (Key × Value)) (m : Machine) (pace : Pace) (fronts : Fronts) (tree : Tree) (file : List ℕ) → IsShown opening m pace fronts tree
+pub shown_fits : (opening : List (Key × Value)) (m : Machine) (fronts : Fronts) (tree : Tree) → IsShown opening m fronts tree → FitsSizes m.gears.sizes tree
+shown_fits opening m fronts tree is = fits_by m (pace_of m) fronts tree is.lists refl is.paced is.within is.lanes
+
+pub images_show : (opening : List (Key × Value)) (m : Machine) (fronts : Fronts) (tree : Tree) (file : List ℕ) → IsShown opening m fronts tree
     → HoldsTree m.gears.sizes tree file → ReadsAsMap m.gears.sizes (map_of (written opening m.book.entries)) file
-images_show opening m pace fronts tree file is holds = record {
+images_show opening m fronts tree file is holds = record {
   tree = tree;
   holds = holds;
-  fits = shown_fits opening m pace fronts tree is;
+  fits = shown_fits opening m fronts tree is;
   map_is = ap map_in (sym is.lists) ∙ map_in_is m.lists m.merges (written opening m.book.entries) is.layered is.values;
 }
 

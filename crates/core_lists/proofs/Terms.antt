@@ -2,14 +2,12 @@
 use Rattle.std.specs.Prelude.{ℕ, List, ◌≡◌, ◌↔◌, ◌-◌, true, is_some, slice_index, slice_set, Bool, false, ◌+◌, ◌≤◌, ◌∷◌, None, IsTrue, ◌<◌, ◌==◌, not, nat_lt, ⊤, []}
 use Rattle.blsm_model.specs.declared.key.Key.{Key}
 use Rattle.blsm_model.specs.declared.row.Value.{Value}
-use Rattle.disk_trait.specs.Disk.{DiskState}
 use Rattle.pacing.specs.Pace.{Pace}
 use Rattle.pacing.specs.Fronts.{Fronts, AreFronts}
 use Rattle.tree_machine.specs.Machine.{Machine, Turned, work_of, charge, in_deep, in_pass, pass_done, deep_done, turn_more, is_closed}
 use Rattle.paced_tree.specs.Kept.{IsPacedTree}
-use Rattle.paced_tree.specs.Lanes.{IsLane}
 use Rattle.tree_file.specs.Tree.{Tree, lists_of}
-use Rattle.tree_runs.specs.Holding.{AreOf, StandOver, IsPassSwapped}
+use Rattle.tree_runs.specs.Holding.{AreOf, IsPassSwapped}
 use Rattle.core_moves.specs.declared.held.Held.{Held}
 use Rattle.core_lists.specs.Standing.{HoldsMachine}
 use Rattle.blsm_model.specs.Format.{callers}
@@ -19,7 +17,7 @@ use Rattle.blsm_model.specs.declared.history.Why.{Why}
 use Rattle.record_delta.specs.Entries.{entries_weight, with_record}
 use Rattle.tree_machine.specs.Lists.{memory_weight, Lists, value_in}
 use Rattle.tree_machine.specs.Moves.{note, stop}
-use Rattle.tree_machine.specs.Steps.{count_for_write, with_turn, work_noted, work_end, leave, deep_swapped, swapped, ready_for, Choice, choice, FailedAfter, admit_fitting, one_if, swaps_due}
+use Rattle.tree_machine.specs.Steps.{count_for_write, with_turn, work_noted, work_end, leave, deep_swapped, swapped, ready_for, Choice, choice}
 use Rattle.seat_book.specs.State.{noted_in, stopped_in, paid_in, turned_in, helped_in, ended_in, left_in}
 use Rattle.tree_log.specs.Log.{weight_of_tables, appended}
 use Rattle.core_moves.specs.Held.{IsPassDone, IsDeepDone, charge_in, is_run_full, goes_ahead}
@@ -29,7 +27,7 @@ use Rattle.blsm_model.specs.Values.{value_at, key_of}
 use Rattle.record_delta.specs.declared.record.Rec.{Rec}
 use Rattle.pacing.specs.Kept.{IsPaced}
 use Rattle.tree_machine.specs.Layers.{AreLayered, IsSound}
-use Rattle.paced_tree.specs.Numbers.{with_numbers_of}
+use Rattle.paced_tree.specs.Numbers.{pace_of}
 use Rattle.core_lists.specs.Shown.{HasFronts}
 use Rattle.core_lists.specs.Admissions.{DeepSettlesTree}
 use Rattle.blsm_model.specs.declared.op.Write.{Write}
@@ -40,8 +38,6 @@ use Rattle.tree_machine.specs.Plays.{may}
 use Rattle.tree_machine.specs.Stands.{WritesFit}
 use Rattle.tree_machine.specs.declared.step.Kind.TheVariants as kind
 use Rattle.core_pace.specs.Pacing.{HasPace}
-use Rattle.blsm_model.specs.declared.history.Reply.TheVariants.{FaultLost, FaultUnsure}
-use Rattle.blsm_model.specs.declared.history.Why.TheVariants.{Faulted}
 use Rattle.tree_machine.specs.declared.step.Kind.{Kind}
 use Rattle.pacing.proofs.Terms.{fronts_ready}
 
@@ -49,16 +45,6 @@ use Rattle.pacing.proofs.Terms.{fronts_ready}
 pub record IsAt (held : Held) (tree : Tree) (m : Machine) (file : List ℕ) : Type 0 where
   pub are_of : AreOf held.runs tree held.log.a.entries file
   pub holds : HoldsMachine held tree m
-
--- The disk stands on this tree, and the core stands at the machine's state, which is paced from the opening on; no front of a lane weighs more
--- than these.
-pub record StandsAt (opening : List (Key × Value)) (held : Held) (m : Machine) (pace : Pace) (fronts : Fronts) (tree : Tree) (d : DiskState) : Type 0 where
-  pub over : StandOver held.runs tree held.log.a.entries d
-  pub holds : HoldsMachine held tree m
-  pub paced : IsPacedTree opening m pace
-  pub within : AreFronts pace fronts
-  pub lane_a : IsLane tree.lane_a m.lists.a fronts.lane_a
-  pub lane_b : IsLane tree.lane_b m.lists.b fronts.lane_b
 
 -- A turn that is over counts for the caller's work, and one of a worker for the worker.
 abbrev pub turn_noted : ℕ → Turned → ℕ → Machine → Machine
@@ -93,13 +79,12 @@ pub record Agrees (held : Held) (m : Machine) : Type 0 where
 
 -- The machine's lists are the tree's and stand for the history; its numbers keep pace, and so do the fronts of the lanes. It is so after each
 -- step, and within an admission after each of its swaps.
-pub record IsShown (opening : List (Key × Value)) (m : Machine) (pace : Pace) (fronts : Fronts) (tree : Tree) : Type 0 where
+pub record IsShown (opening : List (Key × Value)) (m : Machine) (fronts : Fronts) (tree : Tree) : Type 0 where
   pub lists : m.lists ≡ lists_of tree
   pub layered : AreLayered m.lists m.merges
   pub values : (key : Key) → value_in m.lists key ≡ value_at (written opening m.book.entries) key
-  pub numbers : with_numbers_of m pace ≡ pace
-  pub paced : IsPaced pace
-  pub within : AreFronts pace fronts
+  pub paced : IsPaced (pace_of m)
+  pub within : AreFronts (pace_of m) fronts
   pub lanes : HasFronts tree m.lists fronts
 
 -- The later machine counts the same charge, peak and quanta, so that a file may weigh as much for it.
@@ -141,18 +126,18 @@ pub record Readies (w : ℕ) (old settled ready : Held) (tree middle next : Tree
 
 -- The core stands at the machine's state, over the tree that this file holds, and the machine is paced; no front of a lane weighs more than
 -- these. The core's numbers are some pace's, which need not be the machine's.
-pub record StandsIn (opening : List (Key × Value)) (held : Held) (m : Machine) (pace : Pace) (fronts : Fronts) (tree : Tree) (file : List ℕ) : Type 0 where
+pub record StandsIn (opening : List (Key × Value)) (held : Held) (m : Machine) (fronts : Fronts) (tree : Tree) (file : List ℕ) : Type 0 where
   pub at : IsAt held tree m file
-  pub paced : IsPacedTree opening m pace
+  pub paced : IsPacedTree opening m
   pub numbers : Pace
   pub has : HasPace held numbers
   pub one : held.gears.sizes ≡ held.runs.sizes
-  pub within : AreFronts pace fronts
+  pub within : AreFronts (pace_of m) fronts
   pub lanes : HasFronts tree m.lists fronts
 
 -- What stands then, in an admission or where it was not done.
-pub record SettledIn (opening : List (Key × Value)) (old settled : Held) (m : Machine) (pace : Pace) (fronts : Fronts) (tree middle : Tree) (file between : List ℕ) : Type 0 where
-  pub stood : StandsIn opening old m pace fronts tree file
+pub record SettledIn (opening : List (Key × Value)) (old settled : Held) (m : Machine) (fronts : Fronts) (tree middle : Tree) (file between : List ℕ) : Type 0 where
+  pub stood : StandsIn opening old m fronts tree file
   pub moves : DeepSettlesTree old tree middle
   pub at : IsAt settled middle (deep_swapped m) between
   pub numbers : Pace
@@ -160,16 +145,16 @@ pub record SettledIn (opening : List (Key × Value)) (old settled : Held) (m : M
   pub one : settled.gears.sizes ≡ settled.runs.sizes
 
 -- The machine runs, the seat may write, and there is room. When the write is to be appended the core stands over this tree.
-pub record MayAppend (opening : List (Key × Value)) (m : Machine) (pace : Pace) (fronts : Fronts) (seat : ℕ) (op : Op) (write : Write) (begun : Held) (tree : Tree) : Type 0 where
-  pub paced : IsPacedTree opening m pace
-  pub within : AreFronts pace fronts
+pub record MayAppend (opening : List (Key × Value)) (m : Machine) (fronts : Fronts) (seat : ℕ) (op : Op) (write : Write) (begun : Held) (tree : Tree) : Type 0 where
+  pub paced : IsPacedTree opening m
+  pub within : AreFronts (pace_of m) fronts
   pub runs : m.stopped ≡ None
   pub may : IsTrue (may m seat (kind.Admit op))
   pub fits : WritesFit (kind.Admit op)
   pub writes : writes_of op ≡ write ∷ []
   pub room : charge m + total_weight (writes_of op) ≤ charge_limit m.gears.sizes (is_del op)
   pub holds : HoldsMachine begun tree (ready_for (total_weight (writes_of op)) m)
-  pub lanes : HasFronts tree (swapped m).lists (fronts_ready pace fronts)
+  pub lanes : HasFronts tree (swapped m).lists (fronts_ready (pace_of m) fronts)
 
 abbrev pub with_appended : Write → Held → Tree → Tree
 with_appended write begun tree = appended (goes_ahead (key_of write) begun) (key_of write, record_of write) tree
@@ -188,12 +173,6 @@ abbrev pub chosen_by : Bool → Machine → Choice
 chosen_by true m = choice (nat_lt m.gears.sizes.low m.spring) false m
 chosen_by false m = choice (not (memory_weight m.lists == 0)) (not (entries_weight m.lists.c1 == 0)) m
 
--- What it leaves where a call failed: a swap, after which the write is lost, or the append, after which it is unsure.
-pub record AdmissionFails (m : Machine) (seat : ℕ) (op : Op) (w faults : ℕ) : Type 0 where
-  pub deep : deep_done m ≡ true → (admit_fitting m seat op w (FailedAfter 0 faults)).state ≡ note seat op FaultLost (stop (Faulted faults) m)
-  pub pass : pass_done (deep_swapped m) ≡ true → (admit_fitting m seat op w (FailedAfter (one_if (deep_done m)) faults)).state ≡ note seat op FaultLost (stop (Faulted faults) (deep_swapped m))
-  pub append : (admit_fitting m seat op w (FailedAfter (swaps_due m) faults)).state ≡ note seat op FaultUnsure (stop (Faulted faults) (ready_for w m))
-
 abbrev pub kind_of_turn : Bool → Kind
 kind_of_turn true = kind.WorkerTurn
 kind_of_turn false = kind.WorkTurn
@@ -202,10 +181,3 @@ kind_of_turn false = kind.WorkTurn
 abbrev pub IsOpenTo : Bool → Machine → Type 0
 IsOpenTo true m = is_closed m ≡ false
 IsOpenTo false m = ⊤
-
-abbrev pub IsQuiet : Kind → Type 0
-IsQuiet (kind.Admit op) = ⊥
-IsQuiet kind.Pay = ⊥
-IsQuiet kind.WorkTurn = ⊥
-IsQuiet kind.WorkerTurn = ⊥
-IsQuiet _ = ⊤

@@ -16,7 +16,7 @@ use Rattle.pacing.proofs.Admissions.{ready as pacing_ready}
 use Rattle.pacing.proofs.Counts.{pay}
 use Rattle.pacing.proofs.Forgiven.{falls_at}
 use Rattle.pacing.proofs.Payments.{snow_owed, deep_owed}
-use Rattle.paced_tree.specs.After.{no_quantum}
+use Rattle.paced_tree.proofs.Terms.{no_quantum}
 use Rattle.tree_log.specs.Log.{table_for}
 use Rattle.core_moves.specs.declared.held.Held.{Held}
 use Rattle.core_moves.specs.Held.{goes_ahead, IsDeepDone}
@@ -38,7 +38,7 @@ use Rattle.core_pace.proofs.Terms.{IsBetween, CallsFit, KeepsBook, IsWritable}
 
 -- a step begins between two moves
 pub paced_is_between : (held : Held) (pace : Pace) → IsPacedHeld held pace → IsBetween held pace
-paced_is_between held pace k = record { numbers = k.numbers; told = k.told; one = k.one; version = k.version }
+paced_is_between held pace k = record { numbers = k.numbers; told = k.told; one = k.one; ends = k.ends; version = k.version }
 
 pub between_fits : (held : Held) (pace : Pace) → IsBetween held pace → CallsFit held
 between_fits held pace between = grind (arith, common_steps, nat_tests, pages_fit, counts_are_small)
@@ -59,7 +59,7 @@ pub admission_fits : (seat : ℕ) (op : Op) (key : Key) (rec : Rec) (old settled
     → IsPacedHeld old pace → MayWrite seat (weight key rec) op old → SettlesDeep old settled → SettlesPass settled ready → IsWritable seat key rec (begun_in (weight key rec) ready)
 admission_fits seat op key rec old settled ready pace k may deep pass = record {
   settled = subst (λ (g : GearState). first_debt g seat + second_debt g seat ≡ 0) between.numbers.gears now.1.settled;
-  fits = writes_fit key rec (begun_in (weight key rec) ready) (ready_for pace (weight key rec)) between.numbers between.one between.told.paced now.1.has_room may.heavy;
+  fits = writes_fit key rec (begun_in (weight key rec) ready) (ready_for pace (weight key rec)) between.numbers between.one between.told.paced between.ends now.1.has_room may.heavy;
 }
   where
     between : IsBetween (begun_in (weight key rec) ready) (ready_for pace (weight key rec))
@@ -89,4 +89,4 @@ payers_owe seat held owes = grind (arith, common_steps, nat_tests, falls_at, sno
 pub settling_is_paced : (seat : ℕ) (held : Held) (pace : Pace) → seat < callers → IsPacedHeld held pace → IsPacedHeld (with_debts_forgiven seat held) (with_forgiven pace seat)
 settling_is_paced seat held pace caller k =
     let between = (forgiving_is_paced seat held pace caller k).0 in
-    record { numbers = between.numbers; told = between.told; counted = pay Nothing pace seat no_quantum k.counted; one = between.one; version = between.version }
+    record { numbers = between.numbers; told = between.told; counted = pay Nothing pace seat no_quantum k.counted; one = between.one; ends = between.ends; version = between.version }

@@ -11,7 +11,7 @@ use Rattle.pacing.proofs.Counts.{merged, passed}
 use Rattle.pacing.proofs.Numbers.{small}
 use Rattle.pacing.proofs.Promises.{all_fits}
 use Rattle.pacing.proofs.Spent.{quanta_are_few}
-use Rattle.pacing.specs.Pace.{Pace}
+use Rattle.pacing.specs.Pace.{Pace, passes_begun, rotations}
 use Rattle.seat_book.specs.State.{BookState}
 use Rattle.core_pace.specs.Pacing.{IsRunBook, HasPace, most_opened}
 use Rattle.core_moves.specs.declared.held.Held.{Held}
@@ -38,11 +38,11 @@ work_is_small book pace told =
     omega (arith, quanta, product, narrow)
 
 -- also between the moves of an admission
-pub counts_are_small : (held : Held) (pace : Pace) → HasPace held pace → IsOne held → IsRunBook held.book pace → held.runs.catalogue.version ≤ most_opened + (pace.passes + pace.deeps + pace.rotations) → AreSmall held
+pub counts_are_small : (held : Held) (pace : Pace) → HasPace held pace → IsOne held → IsRunBook held.book pace → held.runs.catalogue.version ≤ most_opened + (pace.passes + pace.deeps + rotations pace) → AreSmall held
 counts_are_small held pace p one told low = record {
-  version = omega (arith, low, rotations, deeps, passes, writes, told.few.begins);
+  version = omega (arith, low, turns, deeps, passes, writes, told.few.begins);
   passes = omega (arith, p.passes, passes, writes, told.few.begins);
-  deeps = omega (arith, p.deeps, rotations, deeps, passes, writes, told.few.begins);
+  deeps = omega (arith, p.deeps, turns, deeps, passes, writes, told.few.begins);
   quanta = omega (arith, told.booked.worked, worked);
   entries = omega (arith, told.booked.worked, told.booked.by_callers, sum_by-take-le (λ (n : ℕ). n) held.book.seats.quanta callers, worked);
   pass_taken = λ is. omega (arith, p.pass_left is, fits.inputs1, ap (λ (g : GearState). g.pass_taken) p.gears, quantum, told.paced.within.sizes.quantum);
@@ -58,14 +58,14 @@ counts_are_small held pace p one told low = record {
     writes : pace.writes ≤ most_entries
     writes = few_writes held.book pace told
 
-    passes : pace.passes ≤ pace.begun
-    passes = passed pace told.few
+    passes : pace.passes ≤ passes_begun pace
+    passes = passed pace
 
-    deeps : pace.deeps ≤ pace.rotations
-    deeps = merged pace told.few
+    deeps : pace.deeps ≤ rotations pace
+    deeps = merged pace
 
-    rotations : pace.rotations ≤ pace.passes + 1
-    rotations = told.few.turns
+    turns : rotations pace ≤ pace.passes + 1
+    turns = told.few.turns
 
     worked : pace.work ≤ 2 ^ 51
     worked = work_is_small held.book pace told

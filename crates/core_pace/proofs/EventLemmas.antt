@@ -16,8 +16,12 @@ use Rattle.catalog_swap.specs.declared.catalog.Catalog.{Catalog}
 use Rattle.record_delta.specs.declared.record.Rec.{Rec}
 use Rattle.record_delta.specs.Records.{weight}
 use Rattle.gear_sched.specs.Gears.{GearState}
-use Rattle.pacing.specs.Pace.{Pace, with_deep_swapped, with_pass_swapped, with_swap_and_rotation, with_rotation, with_pass, with_write, deep_done, pass_done, with_forgiven}
-use Rattle.pacing.specs.Kept.{IsPaced}
+use Rattle.pacing.specs.Ends.{AreEnds}
+use Rattle.pacing.proofs.Ends.{ends_as, ends_turned, ends_begun, ends_written}
+use Rattle.tree_log.specs.Log.{LogState, end_of_a, end_of_b}
+use Rattle.std.proofs.lemmas.Bool.{and_parts, not-true}
+use Rattle.pacing.specs.Pace.{Pace, rotations, with_deep_swapped, with_pass_swapped, with_swap_and_rotation, with_rotation, with_pass, with_write, deep_done, pass_done, with_forgiven}
+use Rattle.pacing.specs.Kept.{IsPaced, IsWithin}
 use Rattle.pacing.specs.Counts.{AreFew, IsCounted}
 use Rattle.pacing.specs.Spent.{IsSpent}
 use Rattle.pacing.specs.Steps.{Admit, MayAdmit, Lands, deep_settled, pass_settled, begun_for, ready_for}
@@ -37,7 +41,7 @@ use Rattle.core_moves.specs.Moves.{SwapsDeepIn, SwapsPassIn, with_pass_begun, Se
 use Rattle.core_pace.specs.Pacing.{HasPace, IsRunBook, IsPacedHeld, most_opened}
 use Rattle.core_pace.specs.Events.{MayWrite}
 use Rattle.core_pace.proofs.TestLemmas.{each_test_agrees, forgiving_has_pace}
-use Rattle.core_pace.proofs.SwapLemmas.{pass_swap_has_pace, begin_has_pace}
+use Rattle.core_pace.proofs.SwapLemmas.{deep_swap_has_pace, pass_swap_has_pace, begin_has_pace}
 use Rattle.core_pace.proofs.WriteLemmas.{write_has_pace}
 use Rattle.core_pace.proofs.OneLemmas.{each_move_keeps_one}
 use Rattle.core_pace.proofs.BookLemmas.{rebooked, one_rebooked}
@@ -48,28 +52,44 @@ use Rattle.core_pace.proofs.Terms.{weighs_after, Admits, IsBetween, done_entry, 
 not_so : (b : Bool) → (b ≡ true → ⊥) → b ≡ false
 not_so b h1 = grind (arith, common_steps, nat_tests)
 
--- the numbers, the geometry and the version
+-- where the log is as it was, and what its bounds hang on
+pub ends_stay : (old new : Held) (p q : Pace) → new.log ≡ old.log → q.gears.pass ≡ p.gears.pass → q.gears.pass_admitted ≡ p.gears.pass_admitted → q.gears.sizes ≡ p.gears.sizes → q.spring ≡ p.spring
+    → AreEnds p (end_of_a old.log) (end_of_b old.log) → AreEnds q (end_of_a new.log) (end_of_b new.log)
+ends_stay old new p q log pass admitted sizes spring ends = subst (λ (l : LogState). AreEnds q (end_of_a l) (end_of_b l)) (sym log) (ends_as p q (end_of_a old.log) (end_of_b old.log) pass admitted sizes spring ends)
+
+-- the numbers, the geometry, the lanes and the version
 pub record Stands (held : Held) (pace : Pace) : Type 0 where
   pub numbers : HasPace held pace
   pub one : IsOne held
-  pub version : held.runs.catalogue.version ≤ most_opened + (pace.passes + pace.deeps + pace.rotations)
+  pub ends : AreEnds pace (end_of_a held.log) (end_of_b held.log)
+  pub version : held.runs.catalogue.version ≤ most_opened + (pace.passes + pace.deeps + rotations pace)
 
 pub moved_on : (old new : Held) (pace : Pace) → new ≡ old → Stands old pace → Stands new pace
 moved_on old new pace same s = subst (λ (h : Held). Stands h pace) (sym same) s
 
 pub deep_swapped : (old new : Held) (pace : Pace) → Stands old pace → SwapsDeepIn old new → Stands new (with_deep_swapped pace)
-deep_swapped old new pace s m = grind (arith, common_steps, nat_tests)
+deep_swapped old new pace s m = record {
+  numbers = deep_swap_has_pace old new pace s.numbers m;
+  one = (each_move_keeps_one old new s.one).deep_swap m;
+  ends = ends_stay old new pace (with_deep_swapped pace) m.log refl refl refl refl s.ends;
+  version = omega (arith, s.version, ap (λ (c : Catalog). c.version) m.runs.catalogue, more pace.gears.deep);
+}
+  where
+    more : (b : Bool) → cond b (pace.deeps + 1) pace.deeps ≤ pace.deeps + 1
+    more b = grind (arith, common_steps, nat_tests)
 
-pub pass_swapped : (old new : Held) (pace : Pace) → Stands old pace → SwapsPassIn old new → Stands new (with_swap_and_rotation pace)
-pass_swapped old new pace s m = record {
+pub pass_swapped : (old new : Held) (pace : Pace) → IsWithin pace → pace.gears.pass ≡ true → Stands old pace → SwapsPassIn old new → Stands new (with_swap_and_rotation pace)
+pass_swapped old new pace within runs s m = record {
   numbers = pass_swap_has_pace old new pace s.numbers s.one m;
   one = (each_move_keeps_one old new s.one).pass_swap m;
+  ends = subst (λ (n : ℕ). AreEnds (with_swap_and_rotation pace) n (end_of_b new.log)) (sym m.turns.a) (subst (λ (n : ℕ). AreEnds (with_swap_and_rotation pace) (end_of_b old.log) n) (sym m.turns.b)
+      (ends_turned pace (end_of_a old.log) (end_of_b old.log) (nat_le (c1_mark pace.gears.sizes) pace.made1) within runs s.ends));
   version = omega (arith, s.version, ap (λ (c : Catalog). c.version) m.runs.catalogue, more (nat_le (c1_mark pace.gears.sizes) pace.made1));
 }
   where
-    more : (b : Bool) → pace.passes + pace.deeps + pace.rotations + 1
+    more : (b : Bool) → pace.passes + pace.deeps + rotations pace + 1
         ≤ (cond b (with_rotation (with_pass_swapped pace)) (with_pass_swapped pace)).passes + (cond b (with_rotation (with_pass_swapped pace)) (with_pass_swapped pace)).deeps
-        + (cond b (with_rotation (with_pass_swapped pace)) (with_pass_swapped pace)).rotations
+        + rotations (cond b (with_rotation (with_pass_swapped pace)) (with_pass_swapped pace))
     more b = grind (arith, common_steps, nat_tests)
 
 settles_deep : (old new : Held) (pace : Pace) → Stands old pace → SettlesDeep old new → Stands new (deep_settled pace)
@@ -80,17 +100,17 @@ settles_deep old new pace s settles = ⊎_elim
     subst (λ (b : Bool). Stands new (cond b (with_deep_swapped pace) pace)) (sym test) (moved_on old new pace still.1 s))
     settles
 
-settles_pass : (old new : Held) (pace : Pace) → Stands old pace → SettlesPass old new → Stands new (pass_settled pace)
-settles_pass old new pace s settles = ⊎_elim
+settles_pass : (old new : Held) (pace : Pace) → IsPaced pace → Stands old pace → SettlesPass old new → Stands new (pass_settled pace)
+settles_pass old new pace paced s settles = ⊎_elim
     (λ (done : IsPassDone old × SwapsPassIn old new). let test = (each_test_agrees old pace s.numbers).pass_done.0 done.0 in
-    subst (λ (b : Bool). Stands new (cond b (with_swap_and_rotation pace) pace)) (sym test) (pass_swapped old new pace s done.1))
+    subst (λ (b : Bool). Stands new (cond b (with_swap_and_rotation pace) pace)) (sym test) (pass_swapped old new pace paced.within (and_parts pace.gears.pass (pass_done pace) test).0 s done.1))
     (λ (still : (IsPassDone old → ⊥) × (new ≡ old)). let test = not_so (pace.gears.pass && pass_done pace) (λ is. still.0 ((each_test_agrees old pace s.numbers).pass_done.1 is)) in
     subst (λ (b : Bool). Stands new (cond b (with_swap_and_rotation pace) pace)) (sym test) (moved_on old new pace still.1 s))
     settles
 
-begins : (w : ℕ) (old : Held) (pace : Pace) → Stands old pace → Stands (begun_in w old) (begun_for pace w)
-begins w old pace s =
-    subst (λ (b : Bool). Stands (begun_in w old) (cond b (with_pass pace) pace)) (sym test) (by (not (is_some old.runs.pass) && nat_lt old.runs.sizes.low (old.spring + w)))
+begins : (w : ℕ) (old : Held) (pace : Pace) → IsPaced pace → Stands old pace → Stands (begun_in w old) (begun_for pace w)
+begins w old pace paced s =
+    subst (λ (b : Bool). Stands (begun_in w old) (cond b (with_pass pace) pace)) (sym test) (by (not (is_some old.runs.pass) && nat_lt old.runs.sizes.low (old.spring + w)) refl)
   where
     sizes : pace.gears.sizes ≡ old.runs.sizes
     sizes = ap (λ (g : GearState). g.sizes) s.numbers.gears ∙ s.one.gears
@@ -98,12 +118,14 @@ begins w old pace s =
     test : (not pace.gears.pass && nat_lt pace.gears.sizes.low (pace.spring + w)) ≡ (not (is_some old.runs.pass) && nat_lt old.runs.sizes.low (old.spring + w))
     test = cc (s.numbers.in_pass, s.numbers.spring, sizes)
 
-    by : (b : Bool) → Stands (cond b (with_pass_begun old) old) (cond b (with_pass pace) pace)
-    by true = record { numbers = begin_has_pace old pace s.numbers; one = (each_move_keeps_one old old s.one).begin; version = s.version }
-    by false = s
+    by : (b : Bool) → (not (is_some old.runs.pass) && nat_lt old.runs.sizes.low (old.spring + w)) ≡ b → Stands (cond b (with_pass_begun old) old) (cond b (with_pass pace) pace)
+    by true due =
+        let rests : pace.gears.pass ≡ false = s.numbers.in_pass ∙ not-true (is_some old.runs.pass) (and_parts (not (is_some old.runs.pass)) (nat_lt old.runs.sizes.low (old.spring + w)) due).0 in
+        record { numbers = begin_has_pace old pace s.numbers; one = (each_move_keeps_one old old s.one).begin; ends = ends_begun pace (end_of_a old.log) (end_of_b old.log) paced.within rests s.ends; version = s.version }
+    by false due = s
 
 stands : (held : Held) (pace : Pace) → IsPacedHeld held pace → Stands held pace
-stands held pace k = record { numbers = k.numbers; one = k.one; version = k.version }
+stands held pace k = record { numbers = k.numbers; one = k.one; ends = k.ends; version = k.version }
 
 -- ---- what is told
 
@@ -135,6 +157,7 @@ pub settled_between : (old settled : Held) (pace : Pace) → IsPacedHeld old pac
 settled_between old settled pace k deep = record {
   numbers = now.numbers;
   one = now.one;
+  ends = now.ends;
   version = now.version;
   told = told_at old.book settled.book pace (deep_settled pace) (deep_keeps old settled deep) k.told (moves_book old.book.book old.book.seats pace 0 0 k.told.booked).0 (moves_keep pace 0 k.told.paced).0
       (moves_few pace 0 k.told.paced k.counted).0 (moves_spend pace 0 k.told.paced k.told.spent).0;
@@ -151,6 +174,7 @@ moves_are_told old settled ready pace w k deep pass = (
   record {
     numbers = three.numbers;
     one = three.one;
+    ends = three.ends;
     version = three.version;
     told = told_at old.book (begun_in w ready).book pace (ready_for pace w) (ready_keeps old settled ready w deep pass) k.told (moves_book old.book.book old.book.seats pace w 0 k.told.booked).1 (moves_keep pace w k.told.paced).2
         (moves_few pace w k.told.paced k.counted).1 (moves_spend pace w k.told.paced k.told.spent).1;
@@ -158,10 +182,10 @@ moves_are_told old settled ready pace w k deep pass = (
 )
   where
     two : Stands ready (pass_settled (deep_settled pace))
-    two = settles_pass settled ready (deep_settled pace) (settles_deep old settled pace (stands old pace k) deep) pass
+    two = settles_pass settled ready (deep_settled pace) (moves_keep pace w k.told.paced).0 (settles_deep old settled pace (stands old pace k) deep) pass
 
     three : Stands (begun_in w ready) (ready_for pace w)
-    three = begins w ready (pass_settled (deep_settled pace)) two
+    three = begins w ready (pass_settled (deep_settled pace)) (moves_keep pace w k.told.paced).1 two
 
 -- ---- an admission
 
@@ -236,6 +260,8 @@ module _ (seat : ℕ) (op : Op) (key : Key) (rec : Rec) (old settled ready writt
     };
     counted = counted;
     one = one_rebooked written (noted_in seat op Done written.book) ((each_move_keeps_one begun written between.one).write seat key rec admits.write);
+    ends = subst (λ (n : ℕ). AreEnds next n (end_of_b written.log)) (sym admits.write.grows.a) (subst (λ (n : ℕ). AreEnds next (cond ahead (end_of_a begun.log + (weight key rec + 1)) (end_of_a begun.log)) n) (sym admits.write.grows.b)
+        (ends_written before seat (weight key rec) ahead after (end_of_a begun.log) (end_of_b begun.log) may.light wrote.0 between.ends));
     version = omega (arith, between.version, ap (λ (r : RunsState). r.catalogue.version) admits.write.runs);
   }
 
@@ -265,18 +291,12 @@ forgiving_is_paced seat held pace caller k = (
     told = record {
       booked = (moves_book held.book.book held.book.seats pace 0 seat k.told.booked).2;
       paced = forgiving_keeps pace seat k.told.paced caller;
-      few = record {
-        begins = k.told.few.begins;
-        running = k.told.few.running;
-        resting = k.told.few.resting;
-        turns = k.told.few.turns;
-        merging = k.told.few.merging;
-        unmerged = k.told.few.unmerged;
-      };
+      few = record { begins = k.told.few.begins; turns = k.told.few.turns };
       spent = forgave pace seat k.told.spent;
       entries = k.told.entries;
     };
     one = (each_move_keeps_one held held k.one).forgiving seat;
+    ends = ends_stay held held pace (with_forgiven pace seat) refl refl refl refl refl k.ends;
     version = k.version;
   },
   forgiving_keeps pace seat k.told.paced caller,

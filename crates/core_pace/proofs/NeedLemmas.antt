@@ -1,5 +1,5 @@
 -- What the calls below require, a paced core has.
-use Rattle.std.proofs.Common.{◌≡◌, ◌∙◌, ℕ, ◌+◌, ◌-◌, ◌*◌, ◌≤◌, Bool, true, false, ◌&&◌, Option, None, refl, ap, arith}
+use Rattle.std.proofs.Common.{◌≡◌, ◌∙◌, ℕ, ◌+◌, ◌-◌, ◌*◌, ◌≤◌, Bool, true, false, cond, ◌&&◌, Option, None, refl, ap, sym, arith}
 use Rattle.std.proofs.lemmas.Grind.{common_steps}
 use Rattle.std.proofs.lemmas.Bool.Decides.{nat_tests}
 use Rattle.std.specs.Prelude.{is_some, IsTrue}
@@ -13,7 +13,7 @@ use Rattle.pacing.proofs.Promises.{all_fits}
 use Rattle.pacing.proofs.Runs.{deep_in_time, bounded}
 use Rattle.snow_merge.specs.Pass.{SnowState}
 use Rattle.deep_merge.specs.Merge.{DeepState}
-use Rattle.tree_log.specs.Log.{table_for}
+use Rattle.tree_log.specs.Log.{table_for, end_of_a, end_of_b}
 use Rattle.core_moves.specs.declared.held.Held.{Held}
 use Rattle.core_moves.specs.Held.{IsOne, goes_ahead, IsPassDone, IsDeepDone, is_run_full}
 use Rattle.core_pace.specs.Pacing.{HasPace}
@@ -26,6 +26,9 @@ use Rattle.blsm_model.specs.declared.key.Key.{Key}
 use Rattle.record_delta.specs.declared.record.Rec.{Rec}
 use Rattle.core_moves.specs.Needs.{WriteFits}
 use Rattle.pacing.proofs.Terms.{HasRoom}
+use Rattle.pacing.specs.Ends.{AreEnds}
+use Rattle.pacing.proofs.Ends.{entry_fits}
+use Rattle.blsm_model.specs.Sizes.{Sizes}
 
 -- ---- pages
 
@@ -51,9 +54,9 @@ way_is_free held pace p one paced not_done done full = by held.runs.deep refl
 -- ---- a write
 
 -- a write that there is room for fits its lane, its table, and the numbers of the gears
-pub writes_fit : (key : Key) (rec : Rec) (held : Held) (pace : Pace) → HasPace held pace → IsOne held → IsPaced pace → HasRoom pace (weight key rec) → weight key rec ≤ most_weight → WriteFits key rec held
-writes_fit key rec held pace p one paced room heavy = record {
-  lane = by_lane (goes_ahead key held) lands;
+pub writes_fit : (key : Key) (rec : Rec) (held : Held) (pace : Pace) → HasPace held pace → IsOne held → IsPaced pace → AreEnds pace (end_of_a held.log) (end_of_b held.log) → HasRoom pace (weight key rec) → weight key rec ≤ most_weight → WriteFits key rec held
+writes_fit key rec held pace p one paced ends room heavy = record {
+  lane = by_lane (goes_ahead key held) (entry_fits pace (weight key rec) (goes_ahead key held) _ (end_of_a held.log) (end_of_b held.log) paced.within ends room lands);
   table = by_table (goes_ahead key held) lands;
   pass = let y = (all_fits pace paced.within).y in let g = ap (λ (g : GearState). g.pass_admitted) p.gears in omega (arith, y, g, heavy);
   deep = let since = (bounded pace paced).since in let g = ap (λ (g : GearState). g.deep_admitted) p.gears in omega (arith, since, g, heavy);
@@ -67,9 +70,13 @@ writes_fit key rec held pace p one paced room heavy = record {
     lands : Lands pace (weight key rec) (goes_ahead key held) (entries_weight (with_record key rec (table_for (goes_ahead key held) held.log).entries))
     lands = lands_by key rec held pace p one (goes_ahead key held) refl
 
-    by_lane : (b : Bool) → Lands pace (weight key rec) b (entries_weight (with_record key rec (table_for b held.log).entries))
+    half : pace.gears.sizes.half ≡ held.log.lanes.sizes.half
+    half = ap (λ (s : Sizes). s.half) (sizes_are held pace p one ∙ sym one.lanes)
+
+    by_lane : (b : Bool) → cond b (end_of_a held.log) (end_of_b held.log) + 1 + weight key rec + 1 ≤ 4 * pace.gears.sizes.half
         → Rattle.gated_log.specs.Lanes.end_of held.log.lanes (Rattle.tree_log.specs.Log.lane_for b held.log) + 1 + weight key rec + 1 ≤ 4 * held.log.lanes.sizes.half
-    by_lane b h1 = grind (arith, common_steps, nat_tests)
+    by_lane true fits = omega (arith, fits, half)
+    by_lane false fits = omega (arith, fits, half)
 
     by_table : (b : Bool) → Lands pace (weight key rec) b (entries_weight (with_record key rec (table_for b held.log).entries))
         → entries_weight (with_record key rec (table_for b held.log).entries) ≤ (table_for b held.log).reserved

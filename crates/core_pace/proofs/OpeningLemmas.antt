@@ -8,6 +8,8 @@ use Rattle.blsm_model.specs.Book.{Book}
 use Rattle.pacing.specs.Pace.{Pace, opened}
 use Rattle.pacing.specs.Laws.{IsOpening}
 use Rattle.pacing.proofs.Counts.{opened_counted}
+use Rattle.pacing.proofs.Ends.{opened_ends}
+use Rattle.tree_log.specs.Log.{end_of_a, end_of_b}
 use Rattle.paced_tree.specs.Booking.{IsBookOf}
 use Rattle.tree_machine.specs.Machine.{fresh_seats}
 use Rattle.core_moves.specs.declared.held.Held.{Held}
@@ -35,5 +37,6 @@ opening_is_paced annals faults held o fits one few version = record {
   told = told annals faults held o fits few;
   counted = opened_counted held.runs.sizes held.runs.catalogue.c1.weight held.runs.catalogue.c2.weight;
   one = one;
+  ends = opened_ends held.runs.sizes held.runs.catalogue.c1.weight held.runs.catalogue.c2.weight (end_of_a held.log) (end_of_b held.log) o.end_a o.end_b;
   version = omega (arith, version);
 }

@@ -12,7 +12,9 @@ use Rattle.blsm_model.specs.Sizes.{Sizes, IsGeometry}
 use Rattle.gear_sched.specs.Gears.{GearState, Owes, first_debt, second_debt, plan_for}
 use Rattle.gear_sched.specs.declared.Plan.{Plan}
 use Rattle.gear_sched.specs.declared.Plan.TheVariants.{Snow, Deep, Nothing}
-use Rattle.pacing.specs.Pace.{Pace, Quantum, with_forgiven, with_snow, with_deep, pass_over, deep_over}
+use Rattle.pacing.specs.Ends.{AreEnds}
+use Rattle.pacing.specs.Pace.{Pace, Quantum, rotations, counted, with_forgiven, with_snow, with_deep, pass_over, deep_over}
+use Rattle.tree_log.specs.Log.{end_of_a, end_of_b}
 use Rattle.pacing.specs.Kept.{IsPaced, quanta_owed}
 use Rattle.pacing.specs.Counts.{IsCounted}
 use Rattle.pacing.specs.Steps.{Pay, MayPay, FitsPlan, plan_of, paid_by}
@@ -39,7 +41,7 @@ use Rattle.core_pace.proofs.TestLemmas.{each_test_agrees}
 use Rattle.core_pace.proofs.QuantumLemmas.{snow_has_pace, deep_has_pace, count_has_pace}
 use Rattle.core_pace.proofs.OneLemmas.{each_move_keeps_one}
 use Rattle.core_pace.proofs.BookLemmas.{rebooked, one_rebooked}
-use Rattle.core_pace.proofs.EventLemmas.{forgiving_is_paced}
+use Rattle.core_pace.proofs.EventLemmas.{forgiving_is_paced, ends_stay}
 use Rattle.core_pace.proofs.Terms.{snow_quantum, deep_quantum, PlansRun, MayPayIn, Pays, IsBetween}
 
 -- a merge that isn't over runs, and something is left
@@ -99,7 +101,8 @@ record Took (taken : Held) (before : Pace) (seat : ℕ) (plan : Plan) (quantum :
   pub fits : FitsPlan plan before quantum
   pub numbers : HasPace taken (paid_by plan before seat quantum)
   pub one : IsOne taken
-  pub version : taken.runs.catalogue.version ≤ most_opened + ((paid_by plan before seat quantum).passes + (paid_by plan before seat quantum).deeps + (paid_by plan before seat quantum).rotations)
+  pub ends : AreEnds (paid_by plan before seat quantum) (end_of_a taken.log) (end_of_b taken.log)
+  pub version : taken.runs.catalogue.version ≤ most_opened + ((paid_by plan before seat quantum).passes + (paid_by plan before seat quantum).deeps + rotations (paid_by plan before seat quantum))
   pub some : plan ≡ Nothing → ⊥
 
 module _ (seat n : ℕ) (old taken new : Held) (pace : Pace) (k : IsPacedHeld old pace) (may : MayPayIn seat old) (pays : Pays seat n old taken new) where
@@ -128,6 +131,7 @@ module _ (seat n : ℕ) (old taken new : Held) (pace : Pace) (k : IsPacedHeld ol
           fits = snow.0;
           numbers = count_has_pace seat taken (with_snow forgave seat (snow_quantum n lighter taken)) snow.1;
           one = (each_move_keeps_one lighter taken between.one).snow seat n takes;
+          ends = ends_stay lighter taken forgave (counted (with_snow forgave seat (snow_quantum n lighter taken)) seat) takes.log refl refl refl refl between.ends;
           version = omega (arith, between.version, ap (λ (c : Catalog). c.version) takes.others.catalogue);
           some = snow_some;
         },
@@ -139,6 +143,7 @@ module _ (seat n : ℕ) (old taken new : Held) (pace : Pace) (k : IsPacedHeld ol
           fits = deep.0;
           numbers = count_has_pace seat taken (with_deep forgave seat (deep_quantum n taken)) deep.1;
           one = (each_move_keeps_one lighter taken between.one).deep seat n takes;
+          ends = ends_stay lighter taken forgave (counted (with_deep forgave seat (deep_quantum n taken)) seat) takes.log refl refl refl refl between.ends;
           version = omega (arith, between.version, ap (λ (c : Catalog). c.version) takes.others.catalogue);
           some = deep_some;
         },
@@ -185,7 +190,8 @@ module _ (seat n : ℕ) (old taken new : Held) (pace : Pace) (k : IsPacedHeld ol
     };
     counted = counts;
     one = one_rebooked taken (paid_in seat taken.book) took.1.one;
-    version = subst (λ (plan : Plan). taken.runs.catalogue.version ≤ most_opened + ((paid_by plan forgave seat took.0).passes + (paid_by plan forgave seat took.0).deeps + (paid_by plan forgave seat took.0).rotations)) (sym plan_is) took.1.version;
+    version = subst (λ (plan : Plan). taken.runs.catalogue.version ≤ most_opened + ((paid_by plan forgave seat took.0).passes + (paid_by plan forgave seat took.0).deeps + rotations (paid_by plan forgave seat took.0))) (sym plan_is) took.1.version;
+    ends = subst (λ (plan : Plan). AreEnds (paid_by plan forgave seat took.0) (end_of_a taken.log) (end_of_b taken.log)) (sym plan_is) took.1.ends;
   }
 
   paid : IsPacedHeld new next

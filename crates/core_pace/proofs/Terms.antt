@@ -4,8 +4,9 @@ use Rattle.blsm_model.specs.declared.key.Key.{Key}
 use Rattle.record_delta.specs.declared.record.Rec.{Rec}
 use Rattle.record_delta.specs.Records.{weight}
 use Rattle.record_delta.specs.Entries.{entries_weight}
-use Rattle.pacing.specs.Pace.{Pace, Quantum, pass_done, deep_done, pass_over, deep_over, with_forgiven}
-use Rattle.tree_log.specs.Log.{table_for}
+use Rattle.pacing.specs.Ends.{AreEnds}
+use Rattle.pacing.specs.Pace.{Pace, rotations, Quantum, pass_done, deep_done, pass_over, deep_over, with_forgiven}
+use Rattle.tree_log.specs.Log.{table_for, end_of_a, end_of_b}
 use Rattle.tree_runs.specs.Runs.{made_by_pass, made_by_deep, left_for_pass, left_for_deep, Fits}
 use Rattle.core_moves.specs.declared.held.Held.{Held}
 use Rattle.core_moves.specs.Held.{IsOne, IsPassDone, IsDeepDone, is_pass_over, is_deep_over, goes_ahead}
@@ -77,7 +78,8 @@ pub record IsBetween (held : Held) (pace : Pace) : Type 0 where
   pub numbers : HasPace held pace
   pub told : IsRunBook held.book pace
   pub one : IsOne held
-  pub version : held.runs.catalogue.version ≤ most_opened + (pace.passes + pace.deeps + pace.rotations)
+  pub ends : AreEnds pace (end_of_a held.log) (end_of_b held.log)
+  pub version : held.runs.catalogue.version ≤ most_opened + (pace.passes + pace.deeps + rotations pace)
 
 pub record MayPayIn (seat : ℕ) (held : Held) : Type 0 where
   pub caller : seat < callers

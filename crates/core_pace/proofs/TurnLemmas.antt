@@ -10,7 +10,9 @@ use Rattle.blsm_model.specs.Book.{Book, HasRoom}
 use Rattle.blsm_model.specs.declared.op.Op.TheVariants.{Work}
 use Rattle.catalog_swap.specs.declared.catalog.Catalog.{Catalog}
 use Rattle.gear_sched.specs.Gears.{GearState, first_debt, second_debt, deep_is_behind}
-use Rattle.pacing.specs.Pace.{Pace, Quantum, pass_done, deep_done}
+use Rattle.pacing.specs.Pace.{Pace, Quantum, pass_done, deep_done, with_rotation, with_snow, with_deep}
+use Rattle.pacing.proofs.Ends.{ends_begun}
+use Rattle.tree_log.specs.Log.{end_of_a, end_of_b}
 use Rattle.pacing.specs.Kept.{IsPaced}
 use Rattle.pacing.specs.Counts.{IsCounted}
 use Rattle.pacing.specs.Steps as pacing
@@ -18,7 +20,7 @@ use Rattle.pacing.specs.Steps.{Move, SwapDeep, SwapPass, TakeDeep, TakeSnow, Beg
 use Rattle.pacing.proofs.Runs.{step_keeps}
 use Rattle.pacing.proofs.Counts.{step_counts, counted_few}
 use Rattle.pacing.proofs.Spent.{step_spends}
-use Rattle.paced_tree.specs.After.{no_quantum}
+use Rattle.paced_tree.proofs.Terms.{no_quantum}
 use Rattle.paced_tree.specs.Numbers.{IsBooked}
 use Rattle.paced_tree.specs.Booking.{IsBookOf, quanta_of_move}
 use Rattle.paced_tree.specs.Made.{IsTurnedBy}
@@ -39,7 +41,7 @@ use Rattle.core_pace.proofs.QuantumLemmas.{snow_has_pace, deep_has_pace}
 use Rattle.core_pace.proofs.OneLemmas.{each_move_keeps_one}
 use Rattle.core_pace.proofs.BookLemmas.{rebooked, one_rebooked}
 use Rattle.core_pace.proofs.NeedLemmas.{way_is_free}
-use Rattle.core_pace.proofs.EventLemmas.{Stands, moved_on, deep_swapped, pass_swapped, room_taken}
+use Rattle.core_pace.proofs.EventLemmas.{Stands, moved_on, deep_swapped, pass_swapped, room_taken, ends_stay}
 use Rattle.core_moves.specs.Held.{IsOne}
 use Rattle.core_pace.proofs.Terms.{snow_quantum, deep_quantum, MayWorkIn, MayHelpIn, Works, Helps}
 
@@ -109,13 +111,16 @@ turn_may_move is_worker held pace k =
 
 -- ---- what a move leaves
 
+no_more : (b : Bool) (n : ℕ) → b ≡ false → cond b (n + 1) n ≡ n
+no_more b n is = ap (λ (c : Bool). cond c (n + 1) n) is
+
 record Moved (moved : Held) (pace : Pace) (seat : ℕ) (move : Move) (quantum : Quantum) : Type 0 where
   pub fits : FitsMove move pace quantum
   pub stands : Stands moved (turned_by move pace seat quantum)
 
 moved_by : (move : Move) (seat n : ℕ) (old moved : Held) (pace : Pace) → IsPaced pace → Stands old pace → MayMove move old → TurnsBy move seat n old moved → (quantum : Quantum) × Moved moved pace seat move quantum
 moved_by SwapDeep seat n old moved pace paced s need m = (no_quantum, record { fits = tt; stands = deep_swapped old moved pace s m })
-moved_by SwapPass seat n old moved pace paced s need m = (no_quantum, record { fits = tt; stands = pass_swapped old moved pace s m })
+moved_by SwapPass seat n old moved pace paced s need m = (no_quantum, record { fits = tt; stands = pass_swapped old moved pace paced.within (s.numbers.in_pass ∙ need.0.0) s m })
 moved_by TakeDeep seat n old moved pace paced s need m =
     let deep = deep_has_pace seat n old moved pace s.numbers s.one paced.within m in (
       deep_quantum n moved,
@@ -124,6 +129,7 @@ moved_by TakeDeep seat n old moved pace paced s need m =
         stands = record {
           numbers = deep.1;
           one = (each_move_keeps_one old moved s.one).deep seat n m;
+          ends = ends_stay old moved pace (with_deep pace seat (deep_quantum n moved)) m.log refl refl refl refl s.ends;
           version = omega (arith, s.version, ap (λ (c : Catalog). c.version) m.others.catalogue);
         };
       },
@@ -136,12 +142,13 @@ moved_by TakeSnow seat n old moved pace paced s need m =
         stands = record {
           numbers = snow.1;
           one = (each_move_keeps_one old moved s.one).snow seat n m;
+          ends = ends_stay old moved pace (with_snow pace seat (snow_quantum n old moved)) m.log refl refl refl refl s.ends;
           version = omega (arith, s.version, ap (λ (c : Catalog). c.version) m.others.catalogue);
         };
       },
     )
 moved_by Begin seat n old moved pace paced s need m =
-    (no_quantum, record { fits = tt; stands = moved_on (with_pass_begun old) moved (turned_by Begin pace seat no_quantum) m (record { numbers = begin_has_pace old pace s.numbers; one = (each_move_keeps_one old old s.one).begin; version = s.version }) })
+    (no_quantum, record { fits = tt; stands = moved_on (with_pass_begun old) moved (turned_by Begin pace seat no_quantum) m (record { numbers = begin_has_pace old pace s.numbers; one = (each_move_keeps_one old old s.one).begin; ends = ends_begun pace (end_of_a old.log) (end_of_b old.log) paced.within (s.numbers.in_pass ∙ ap (λ (r : Option SnowState). is_some r) need) s.ends; version = s.version }) })
 moved_by Rotate seat n old moved pace paced s need m = (
   no_quantum,
   record {
@@ -149,7 +156,8 @@ moved_by Rotate seat n old moved pace paced s need m = (
     stands = record {
       numbers = rotation_has_pace old moved pace s.numbers need.0 m;
       one = (each_move_keeps_one old moved s.one).rotation m;
-      version = omega (arith, s.version, ap (λ (c : Catalog). c.version) m.runs.catalogue);
+      ends = ends_stay old moved pace (with_rotation pace) m.log refl refl refl refl s.ends;
+      version = omega (arith, s.version, ap (λ (c : Catalog). c.version) m.runs.catalogue, no_more pace.gears.deep pace.deeps (s.numbers.in_deep ∙ ap (λ (d : Option DeepState). is_some d) need.1));
     };
   },
 )
@@ -184,7 +192,7 @@ module _ (is_worker : Bool) (seat n : ℕ) (old moved : Held) (pace : Pace) (k :
   turn_is = ap (λ (b : Bool). turn_of b pace) seat_is ∙ sym (move_is_turn is_worker old pace k.numbers k.one)
 
   step : (quantum : Quantum) × Moved moved pace seat move quantum
-  step = moved_by move seat n old moved pace k.told.paced (record { numbers = k.numbers; one = k.one; version = k.version }) (turn_may_move is_worker old pace k) moves
+  step = moved_by move seat n old moved pace k.told.paced (record { numbers = k.numbers; one = k.one; ends = k.ends; version = k.version }) (turn_may_move is_worker old pace k) moves
 
   abbrev next : Pace
   next = after pace (pacing.Turn seat step.0)
@@ -233,6 +241,7 @@ module _ (is_worker : Bool) (seat n : ℕ) (old moved : Held) (pace : Pace) (k :
     };
     counted = counts;
     one = one_rebooked moved b stands.one;
+    ends = stands.ends;
     version = stands.version;
   }
 
@@ -340,5 +349,6 @@ book_is_paced held b pace k same told = record {
   told = told;
   counted = k.counted;
   one = one_rebooked held b k.one;
+  ends = k.ends;
   version = k.version;
 }

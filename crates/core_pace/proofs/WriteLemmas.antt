@@ -78,8 +78,6 @@ module _ (seat : ℕ) (key : Key) (rec : Rec) (old new : Held) (pace : Pace) (p 
       made1 = cc (p.made1, runs);
       made2 = cc (p.made2, runs);
       spring = spring_is;
-      lane_a = omega (arith, p.lane_a, grows.a);
-      lane_b = omega (arith, p.lane_b, grows.b);
       opening = cc (p.opening, charge);
       peak = omega (arith, p.peak, peak, p.b, other);
       passes = cc (p.passes, passes);
@@ -129,8 +127,6 @@ module _ (seat : ℕ) (key : Key) (rec : Rec) (old new : Held) (pace : Pace) (p 
       made1 = cc (p.made1, runs);
       made2 = cc (p.made2, runs);
       spring = spring_is;
-      lane_a = omega (arith, p.lane_a, grows.a);
-      lane_b = omega (arith, p.lane_b, grows.b);
       opening = cc (p.opening, charge);
       peak = omega (arith, p.peak, peak, p.a, other);
       passes = cc (p.passes, passes);

@@ -3,7 +3,8 @@ use Rattle.std.specs.Prelude.{◌≡◌, ⊤, ℕ, ◌+◌, ◌<◌, ◌≤◌, 
 use Rattle.blsm_model.specs.Format.{most_entries}
 use Rattle.record_delta.specs.Entries.{Entries, entries_weight, above}
 use Rattle.snow_merge.specs.Pass.{SnowState}
-use Rattle.pacing.specs.Pace.{Pace}
+use Rattle.pacing.specs.Pace.{Pace, rotations}
+use Rattle.pacing.specs.Ends.{AreEnds}
 use Rattle.pacing.specs.Kept.{IsPaced}
 use Rattle.pacing.specs.Counts.{AreFew, IsCounted}
 use Rattle.pacing.specs.Spent.{IsSpent}
@@ -36,8 +37,6 @@ pub record HasPace (held : Held) (pace : Pace) : Type 0 where
   pub made1 : pace.made1 ≡ (made_by_pass held.runs.pass).weight
   pub made2 : pace.made2 ≡ (made_by_deep held.runs.deep).weight
   pub spring : pace.spring ≡ held.spring
-  pub lane_a : pace.lane_a + pace.entries_a ≡ end_of_a held.log
-  pub lane_b : pace.lane_b + pace.entries_b ≡ end_of_b held.log
   pub opening : pace.opening ≡ held.book.counts.charge
   pub peak : pace.peak ≡ held.book.counts.peak
   pub passes : pace.passes ≡ held.book.counts.passes
@@ -61,10 +60,12 @@ pub record IsRunBook (book : BookState) (pace : Pace) : Type 0 where
 abbrev pub most_opened : ℕ
 most_opened = 2 ^ 62 + 5
 
--- What it has in memory, until the tree stops: its numbers are a pace's, which is told, and each commit raised the version by one.
+-- What it has in memory, until the tree stops: its numbers are a pace's, which is told, its lanes are within bounds, and each commit raised the
+-- version by one.
 pub record IsPacedHeld (held : Held) (pace : Pace) : Type 0 where
   pub numbers : HasPace held pace
   pub told : IsRunBook held.book pace
   pub counted : IsCounted pace
   pub one : IsOne held
-  pub version : held.runs.catalogue.version ≤ most_opened + (pace.passes + pace.deeps + pace.rotations)
+  pub ends : AreEnds pace (end_of_a held.log) (end_of_b held.log)
+  pub version : held.runs.catalogue.version ≤ most_opened + (pace.passes + pace.deeps + rotations pace)

@@ -1,10 +1,10 @@
 -- A hundred puts of one key and 512 bytes, each followed by two payments, run over the lists and told by the numbers: the 33rd, the
--- 66th and the 99th begin a pass and pay one quantum, and the next put swaps it in. So the log's lane has the last put alone.
+-- 66th and the 99th begin a pass and pay one quantum, and the next put swaps it in.
 use Rattle.std.proofs.Common.{◌≡◌, ℕ, List, [], ◌∷◌, refl, replicate, take, true, false, arith}
 use Rattle.std.specs.Prelude.{flat_map}
 use Rattle.blsm_model.specs.Sizes.{default_sizes}
 use Rattle.blsm_model.specs.declared.op.Op.TheVariants.{Put}
-use Rattle.pacing.specs.Pace.{Pace, opened as pace_opened}
+use Rattle.pacing.specs.Pace.{Pace, passes_begun, rotations, opened as pace_opened}
 use Rattle.pacing.specs.Laws.{IsOpening}
 use Rattle.pacing.specs.Steps.{Admit, after}
 use Rattle.blsm_model.specs.declared.key.Key.{Key}
@@ -14,7 +14,8 @@ use Rattle.tree_machine.specs.declared.step.Kind.TheVariants as kind
 use Rattle.tree_machine.specs.declared.step.Step.{Step}
 use Rattle.tree_machine.specs.Machine.{Machine, opened}
 use Rattle.tree_machine.specs.Steps.{Outcome, Well}
-use Rattle.paced_tree.specs.Kept.{paced_all}
+use Rattle.tree_machine.specs.Plays.{played}
+use Rattle.paced_tree.specs.Numbers.{pace_of}
 use Rattle.pacing.proofs.Terms.{no_fronts, fronts_after}
 
 abbrev fresh : Machine
@@ -26,12 +27,12 @@ put_and_pay =
     ∷ (record { seat = 0; kind = kind.Pay }, Well) ∷ (record { seat = 0; kind = kind.Pay }, Well) ∷ []
 
 abbrev hundred : Pace
-hundred = paced_all fresh (pace_opened default_sizes 0 0) (flat_map (λ (n : ℕ). put_and_pay) (replicate 100 0))
+hundred = pace_of (played fresh (flat_map (λ (n : ℕ). put_and_pay) (replicate 100 0)))
 
 hundred_weighs : hundred.a ∷ hundred.b ∷ hundred.c1 ∷ hundred.c1x ∷ hundred.c2 ∷ hundred.work ∷ hundred.peak ∷ hundred.passes ∷ hundred.deeps ∷ [] ≡ 512 ∷ 0 ∷ 512 ∷ 0 ∷ 0 ∷ 3 ∷ 512 ∷ 3 ∷ 0 ∷ []
 hundred_weighs = refl
 
-hundred_counts : hundred.writes ∷ hundred.admitted ∷ hundred.moved ∷ hundred.begun ∷ hundred.rotations ∷ hundred.entries_a ∷ hundred.lane_a ∷ hundred.entries_b ∷ [] ≡ 100 ∷ 51200 ∷ 2560 ∷ 3 ∷ 0 ∷ 1 ∷ 512 ∷ 0 ∷ []
+hundred_counts : hundred.writes ∷ hundred.admitted ∷ passes_begun hundred ∷ rotations hundred ∷ [] ≡ 100 ∷ 51200 ∷ 3 ∷ 0 ∷ []
 hundred_counts = refl
 
 -- the empty store of the default sizes may be opened

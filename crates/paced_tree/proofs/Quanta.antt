@@ -3,7 +3,6 @@ use Rattle.std.proofs.Common.{◌≡◌, ◌∙◌, refl, ap, subst, ℕ, ◌+�
 use Rattle.std.proofs.lemmas.Grind.{common_steps}
 use Rattle.std.proofs.lemmas.Bool.Decides.{nat_tests}
 use Rattle.blsm_model.specs.Format.{most_weight}
-use Rattle.pacing.specs.Pace.{Pace}
 use Rattle.pacing.specs.Steps.{IsSnow, IsDeep}
 use Rattle.record_delta.specs.Entries.{AreSorted, Entries, entries_weight, settled_entries, up_to}
 use Rattle.tree_machine.specs.Merges.{Merge, is_empty, cursor_after, quantum_of, moved_on}
@@ -13,8 +12,8 @@ use Rattle.tree_machine.proofs.MergeLemmas.{groups_sorted, groups_ahead, quantum
 use Rattle.tree_machine.proofs.QuantumLemmas.{quantum_weighs, quantum_enough, quantum_few, done_weighs, weight_parts, took_newer, took_older, light_none}
 use Rattle.tree_machine.proofs.NumberLemmas.{pass_light, deep_light}
 use Rattle.tree_machine.proofs.LightLemmas.{light_weighs}
-use Rattle.paced_tree.specs.Numbers.{taken_of, with_numbers_of, HasTaken}
-use Rattle.paced_tree.specs.After.{snow_of, deep_of}
+use Rattle.paced_tree.specs.Numbers.{taken_of, HasTaken, pace_of}
+use Rattle.paced_tree.proofs.Terms.{snow_of, deep_of}
 
 -- ---- of two lists
 
@@ -91,8 +90,8 @@ pub deep_counted : (m : Machine) (deep : Merge) → m.merges.deep ≡ Some deep 
     → (m.gears.deep ≡ true) × (m.gears.deep_input ≡ entries_weight m.lists.c1x + entries_weight m.lists.c2) × (m.gears.deep_taken ≡ entries_weight (up_to deep.cursor m.lists.c1x) + entries_weight (up_to deep.cursor m.lists.c2))
 deep_counted m deep is sound = subst (λ p. IsDeepCounted m.lists.c1x m.lists.c2 m.gears.deep m.gears.deep_input m.gears.deep_admitted m.gears.deep_taken p) is sound.deep
 
-pub snow_is : (m : Machine) (pass : Merge) (l : Pace) → m.merges.pass ≡ Some pass → IsSound m → 1 ≤ m.gears.sizes.quantum → IsSnow (with_numbers_of m l) (snow_of (Some pass) m)
-snow_is m pass l is sound some =
+pub snow_is : (m : Machine) (pass : Merge) → m.merges.pass ≡ Some pass → IsSound m → 1 ≤ m.gears.sizes.quantum → IsSnow (pace_of m) (snow_of (Some pass) m)
+snow_is m pass is sound some =
     let counted = pass_counted m pass is sound in
     let over = subst (λ p. IsPassOver m.lists p) is sound.layered.pass in
     let taken : taken_of m.merges.pass m.lists.a ≡ entries_weight (up_to pass.cursor m.lists.a) = ap (λ p. taken_of p m.lists.a) is in
@@ -120,8 +119,8 @@ snow_is m pass l is sound some =
         ⊎ (m.gears.pass_taken + (quantum_of m.gears.sizes.quantum pass m.lists.a m.lists.c1).weight ≡ entries_weight m.lists.a + entries_weight m.lists.c1)
     enough h1 h2 = grind (arith, common_steps, nat_tests)
 
-pub deep_is : (m : Machine) (deep : Merge) (l : Pace) → m.merges.deep ≡ Some deep → IsSound m → 1 ≤ m.gears.sizes.quantum → IsDeep (with_numbers_of m l) (deep_of (Some deep) m)
-deep_is m deep l is sound some =
+pub deep_is : (m : Machine) (deep : Merge) → m.merges.deep ≡ Some deep → IsSound m → 1 ≤ m.gears.sizes.quantum → IsDeep (pace_of m) (deep_of (Some deep) m)
+deep_is m deep is sound some =
     let counted = deep_counted m deep is sound in
     let over = subst (λ p. IsDeepOver m.lists p) is sound.layered.deep in
     let most = all_at_most m.gears.sizes.quantum deep m.lists.c1x m.lists.c2 sound.layered.sorted_c1x sound.layered.sorted_c2 in

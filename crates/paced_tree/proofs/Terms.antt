@@ -1,33 +1,87 @@
 -- What only lemmas say: no clause names these.
-use Rattle.std.specs.Prelude.{◌≡◌, ℕ, List, IsTrue, ◌+◌, slice_index, slice_set}
-use Rattle.blsm_model.specs.declared.key.Key.{Key}
-use Rattle.blsm_model.specs.declared.row.Value.{Value}
-use Rattle.pacing.specs.Pace.{Pace}
+use Rattle.std.specs.Prelude.{◌≡◌, ℕ, ◌+◌, ◌-◌, Bool, length, ◌++◌, Option, Some, None, if◌then◌else◌, slice_index, slice_set}
+use Rattle.blsm_model.specs.Format.{callers}
+use Rattle.pacing.specs.Pace.{Pace, Quantum}
+use Rattle.pacing.specs.Steps.{Move, TakeDeep, TakeSnow, turn_of, is_worker_seat}
+use Rattle.record_delta.specs.Entries.{entries_weight, settled_entries, up_to}
 use Rattle.tree_machine.specs.declared.step.Kind.{Kind}
+use Rattle.tree_machine.specs.Lists.{Lists}
+use Rattle.tree_machine.specs.Merges.{Merge, cursor_after, quantum_of}
 use Rattle.tree_machine.specs.Machine.{Machine, Seats, WorkSoFar}
-use Rattle.tree_machine.specs.Steps.{Outcome, Answer}
-use Rattle.tree_machine.specs.Plays.{may, stepped_as}
-use Rattle.paced_tree.specs.After.{pace_after}
-use Rattle.paced_tree.specs.Kept.{IsPacedTree}
-use Rattle.pacing.specs.Steps.{turn_of, is_worker_seat}
-use Rattle.paced_tree.specs.Booking.{quanta_of_move}
-use Rattle.tree_machine.proofs.Terms.{IsReachedBy}
+use Rattle.tree_machine.specs.Moves.{output_of}
+use Rattle.tree_machine.specs.Steps.{Answer}
+use Rattle.paced_tree.specs.Numbers.{taken_of, HasTaken, pace_of}
+use Rattle.paced_tree.specs.Booking.{IsBookOf, quanta_of_move}
+use Rattle.paced_tree.specs.Made.{IsMadeBy}
 
--- Wherever the program stood before the call, it stands afterwards where this step leads by an outcome of which this is told, and it
--- answers what the machine answers.
-abbrev pub IsCall : (StoodAt StandsAt : Machine → Pace → Type 0) (seat : ℕ) (kind : Kind) (IsTold : Outcome → Type 0) (answer : Answer) → Type 0
-IsCall StoodAt StandsAt seat kind IsTold answer =
-    (m : Machine) (pace : Pace) → StoodAt m pace → IsTrue (may m seat kind)
-    → (outcome : Outcome) × IsTold outcome × StandsAt (stepped_as m seat kind outcome).state (pace_after m pace seat kind outcome) × (answer ≡ (stepped_as m seat kind outcome).answer)
+-- ---- the one pace of a machine
 
--- The program stands at a state that is reached from the opening's, by outcomes that the disk's count of faults tells, from what it was to
--- what it is now; it stands for its history, and is paced.
-pub record IsRight (StandsAt : Machine → Pace → Type 0) (opening : List (Key × Value)) (start : Machine) (was now : ℕ) : Type 0 where
-  pub machine : Machine
-  pub pace : Pace
-  pub stands_at : StandsAt machine pace
-  pub reached : IsReachedBy start was machine now
-  pub tree : IsPacedTree opening machine pace
+-- a pace with the numbers of the machine's lists
+abbrev pub with_numbers_of : Machine → Pace → Pace
+with_numbers_of m pace = record pace {
+  gears = m.gears;
+  a = entries_weight m.lists.a;
+  taken = taken_of m.merges.pass m.lists.a;
+  b = entries_weight m.lists.b;
+  c1 = entries_weight m.lists.c1;
+  c1x = entries_weight m.lists.c1x;
+  c2 = entries_weight m.lists.c2;
+  made1 = entries_weight (output_of m.merges.pass);
+  made2 = entries_weight (output_of m.merges.deep);
+  spring = m.spring;
+  opening = m.counts.charge;
+  peak = m.counts.peak;
+  passes = m.counts.passes;
+  deeps = m.counts.deeps;
+}
+
+-- It has them, and the book tells its others, so it is the machine's.
+pub record IsPace (m : Machine) (pace : Pace) : Type 0 where
+  pub numbers : with_numbers_of m pace ≡ pace
+  pub booked : IsBookOf m.book m.seats pace
+  pub weights : length pace.weights ≡ callers
+  pub quanta : length pace.quanta ≡ callers
+
+-- what is told of its numbers beside their laws
+pub record IsToldOf (m : Machine) : Type 0 where
+  pub booked : IsBookOf m.book m.seats (pace_of m)
+  pub started : HasTaken m.merges.pass m.gears.pass_taken
+
+-- A step of this kind with this answer led from one machine to another.
+pub record Makes (seat : ℕ) (kind : Kind) (answer : Answer) (m n : Machine) : Type 0 where
+  pub made : IsMadeBy seat kind answer (pace_of m) (pace_of n)
+  pub told : IsToldOf n
+
+-- ---- quanta
+
+abbrev pub no_quantum : Quantum
+no_quantum = record { took = 0; of_table = 0; made = 0 }
+
+-- the quantum that the pass, or the deep merge, takes next
+abbrev pub snow_of : Option Merge → Machine → Quantum
+snow_of None m = no_quantum
+snow_of (Some pass) m =
+    let taken = quantum_of m.gears.sizes.quantum pass m.lists.a m.lists.c1 in
+    record {
+      took = taken.weight;
+      of_table = entries_weight (up_to (cursor_after pass.cursor taken.groups) m.lists.a) - entries_weight (up_to pass.cursor m.lists.a);
+      made = entries_weight (pass.output ++ taken.groups);
+    }
+
+abbrev pub deep_of : Option Merge → Machine → Quantum
+deep_of None m = no_quantum
+deep_of (Some deep) m =
+    let taken = quantum_of m.gears.sizes.quantum deep m.lists.c1x m.lists.c2 in
+    record { took = taken.weight; of_table = 0; made = entries_weight (deep.output ++ settled_entries taken.groups) }
+
+abbrev pub quantum_for_move : Move → Machine → Quantum
+quantum_for_move TakeSnow m = snow_of m.merges.pass m
+quantum_for_move TakeDeep m = deep_of m.merges.deep m
+quantum_for_move _ m = no_quantum
+
+-- what the table that a write goes to weighs then
+abbrev pub weight_after : Bool → Lists → ℕ
+weight_after ahead new = if ahead then entries_weight new.a else entries_weight new.b
 
 abbrev pub quanta_of_turn : ℕ → Pace → ℕ
 quanta_of_turn seat pace = quanta_of_move (turn_of (is_worker_seat seat) pace)

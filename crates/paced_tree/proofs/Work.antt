@@ -13,8 +13,7 @@ use Rattle.blsm_model.specs.declared.row.Value.{Value}
 use Rattle.blsm_model.specs.declared.room.Room.{Room}
 use Rattle.blsm_model.proofs.OpLemmas.{few_counted}
 use Rattle.record_delta.specs.Entries.{Entries, entries_weight}
-use Rattle.pacing.specs.Pace.{Pace, opened as pace_opened}
-use Rattle.pacing.specs.Kept.{IsPaced, most_taken}
+use Rattle.pacing.specs.Kept.{most_taken}
 use Rattle.pacing.proofs.Numbers.{sum_set, small}
 use Rattle.tree_machine.specs.Lists.{map_in}
 use Rattle.tree_machine.specs.Merges.{Merge, begun}
@@ -33,9 +32,8 @@ use Rattle.tree_machine.proofs.GrowLemmas.{step_room}
 use Rattle.tree_machine.proofs.FrameLemmas.{step_fixed}
 use Rattle.tree_machine.proofs.QuantumLemmas.{quantum_weighs, quantum_few}
 use Rattle.tree_machine.proofs.LightLemmas.{light_weighs}
-use Rattle.paced_tree.specs.Kept.{AreComponents, IsPacedTree, paced_one, paced_all, AllFit}
+use Rattle.paced_tree.specs.Kept.{AreComponents, IsPacedTree, AllFit}
 use Rattle.paced_tree.specs.Laws.{work_in, AreSmall}
-use Rattle.paced_tree.proofs.Moves.{of_pace}
 use Rattle.paced_tree.proofs.Promises.{has_way, opened_is_paced, one_is_paced, steps_are_paced, is_bounded}
 use Rattle.tree_machine.proofs.Terms.{MergeStands, Rests, TakesQuantum, IsVersion}
 
@@ -91,12 +89,12 @@ taken_work seat m n h1 h2 h3 = grind (arith, common_steps, nat_tests, pass_leave
 pub seat_below : (m : Machine) (seat : ℕ) (k : Kind) → may m seat k ≡ true → seat < seats
 seat_below m seat k h1 = grind (arith, common_steps, nat_tests)
 
-pub step_work : (opening : List (Key × Value)) (m : Machine) (p : Pace) (seat : ℕ) (k : Kind) (outcome : Outcome) → IsPacedTree opening m p → may m seat k ≡ true
+pub step_work : (opening : List (Key × Value)) (m : Machine) (seat : ℕ) (k : Kind) (outcome : Outcome) → IsPacedTree opening m → may m seat k ≡ true
     → work_between m (stepped_as m seat k outcome).state + most_taken m.gears.sizes * sum m.seats.quanta ≤ most_taken m.gears.sizes * sum (stepped_as m seat k outcome).state.seats.quanta
-step_work opening m p seat k outcome t ok = by (step_works m seat k outcome t.stands.sound (has_way opening m p t))
+step_work opening m seat k outcome t ok = by (step_works m seat k outcome t.stands.sound (has_way opening m t))
   where
     some : 1 ≤ m.gears.sizes.quantum
-    some = of_pace (λ q. 1 ≤ m.gears.sizes.quantum) (λ q. IsPaced q) m p t.of_tree.numbers t.paced (λ l paced. let fits = paced.within.sizes.quantum in omega (arith, fits))
+    some = let fits = t.paced.within.sizes.quantum in omega (arith, fits)
 
     by : Rests m (stepped_as m seat k outcome).state ⊎ TakesQuantum seat m (stepped_as m seat k outcome).state
         → work_between m (stepped_as m seat k outcome).state + most_taken m.gears.sizes * sum m.seats.quanta ≤ most_taken m.gears.sizes * sum (stepped_as m seat k outcome).state.seats.quanta
@@ -109,20 +107,20 @@ step_work opening m p seat k outcome t ok = by (step_works m seat k outcome t.st
           passed_stands _ m.merges.deep (stepped_as m seat k outcome).state.merges.deep m.lists.c1x m.lists.c2 rests.deep,
         )
     by (inr takes) =
-        let there : seat < length m.seats.quanta = omega (arith, t.of_tree.booked.seats, seat_below m seat k ok) in
+        let there : seat < length m.seats.quanta = omega (arith, t.booked.seats, seat_below m seat k ok) in
         let more : sum (set m.seats.quanta seat (slice_index m.seats.quanta seat + 1)) ≡ sum m.seats.quanta + 1 = omega (arith, sum_set m.seats.quanta seat (slice_index m.seats.quanta seat + 1) there) in
         let after = ap (λ (xs : List ℕ). most_taken m.gears.sizes * sum xs) takes.quanta ∙ ap (λ n. most_taken m.gears.sizes * n) more in
         omega (arith, after, mul-add (most_taken m.gears.sizes) (sum m.seats.quanta) 1, taken_work seat m (stepped_as m seat k outcome).state t.stands.sound some takes.merge)
 
 -- ---- a run
 
-one_work : (opening : List (Key × Value)) (m : Machine) (p : Pace) (made : Step × Outcome) → IsPacedTree opening m p
+one_work : (opening : List (Key × Value)) (m : Machine) (made : Step × Outcome) → IsPacedTree opening m
     → work_between m (played_one m made) + most_taken m.gears.sizes * sum m.seats.quanta ≤ most_taken m.gears.sizes * sum (played_one m made).seats.quanta
-one_work opening m p made t = by (may_step m made.0) refl
+one_work opening m made t = by (may_step m made.0) refl
   where
     by : (b : Bool) → may_step m made.0 ≡ b
         → work_between m (cond b (stepped m made.0 made.1).state m) + most_taken m.gears.sizes * sum m.seats.quanta ≤ most_taken m.gears.sizes * sum (cond b (stepped m made.0 made.1).state m).seats.quanta
-    by true is = step_work opening m p made.0.seat made.0.kind made.1 t is
+    by true is = step_work opening m made.0.seat made.0.kind made.1 t is
     by false is = omega (arith, passed_same m.merges.pass m.lists.a m.lists.c1, passed_same m.merges.deep m.lists.c1x m.lists.c2)
 
 one_sizes : (m : Machine) (made : Step × Outcome) → (played_one m made).gears.sizes ≡ m.gears.sizes
@@ -132,23 +130,23 @@ one_sizes m made = by (may_step m made.0) refl
     by true is = (step_fixed m made.0.seat made.0.kind made.1 is).0
     by false is = refl
 
-all_work : (opening : List (Key × Value)) (m : Machine) (p : Pace) (steps : List (Step × Outcome)) → IsPacedTree opening m p → AllFit steps
+all_work : (opening : List (Key × Value)) (m : Machine) (steps : List (Step × Outcome)) → IsPacedTree opening m → AllFit steps
     → work_in m steps + most_taken m.gears.sizes * sum m.seats.quanta ≤ most_taken m.gears.sizes * sum (played m steps).seats.quanta
-all_work opening m p [] t fits = omega arith
-all_work opening m p (made ∷ steps) t fits = grind (arith, common_steps, nat_tests, all_work opening (played_one m made) (paced_one m p made) steps (one_is_paced opening m p made t fits.0) fits.1, one_work, one_is_paced, sum, one_sizes)
+all_work opening m [] t fits = omega arith
+all_work opening m (made ∷ steps) t fits = grind (arith, common_steps, nat_tests, all_work opening (played_one m made) steps (one_is_paced opening m made t fits.0) fits.1, one_work, one_is_paced, sum, one_sizes)
 
 pub run_work : (sizes : Sizes) (c1 c2 : Entries) (catalogue : Catalogue) (faults : ℕ) (room : Room) (steps : List (Step × Outcome)) → AreComponents sizes c1 c2 → AllFit steps
     → work_in (opened sizes c1 c2 catalogue faults room) steps ≤ most_taken sizes * sum (played (opened sizes c1 c2 catalogue faults room) steps).seats.quanta
 run_work sizes c1 c2 catalogue faults room steps are fits =
     let m = opened sizes c1 c2 catalogue faults room in
-    let all = all_work (map_in (record { b = []; a = []; c1 = c1; c1x = []; c2 = c2 })) m (pace_opened sizes (entries_weight c1) (entries_weight c2)) steps (opened_is_paced sizes c1 c2 catalogue faults room are) fits in
+    let all = all_work (map_in (record { b = []; a = []; c1 = c1; c1x = []; c2 = c2 })) m steps (opened_is_paced sizes c1 c2 catalogue faults room are) fits in
     omega (arith, all)
 
 -- ---- commits
 
-all_commit : (first : ℕ) (opening : List (Key × Value)) (m : Machine) (p : Pace) (steps : List (Step × Outcome)) → IsPacedTree opening m p → AllFit steps → IsVersion first m → IsVersion first (played m steps)
-all_commit first opening m p [] t fits v = v
-all_commit first opening m p (made ∷ steps) t fits v = all_commit first opening (played_one m made) (paced_one m p made) steps (one_is_paced opening m p made t fits.0) fits.1 (by (may_step m made.0))
+all_commit : (first : ℕ) (opening : List (Key × Value)) (m : Machine) (steps : List (Step × Outcome)) → IsPacedTree opening m → AllFit steps → IsVersion first m → IsVersion first (played m steps)
+all_commit first opening m [] t fits v = v
+all_commit first opening m (made ∷ steps) t fits v = all_commit first opening (played_one m made) steps (one_is_paced opening m made t fits.0) fits.1 (by (may_step m made.0))
   where
     by : (b : Bool) → IsVersion first (cond b (stepped m made.0 made.1).state m)
     by true = step_commits first m made.0.seat made.0.kind made.1 t.stands.sound v
@@ -158,11 +156,10 @@ pub run_commits : (sizes : Sizes) (c1 c2 : Entries) (catalogue : Catalogue) (fau
     → (played (opened sizes c1 c2 catalogue faults room) steps).catalogue.version ≤ catalogue.version + 3 * length (counted_writes (played (opened sizes c1 c2 catalogue faults room) steps).book.entries) + 5
 run_commits sizes c1 c2 catalogue faults room steps are fits =
     let m = opened sizes c1 c2 catalogue faults room in
-    let p = pace_opened sizes (entries_weight c1) (entries_weight c2) in
     let map = map_in (record { b = []; a = []; c1 = c1; c1x = []; c2 = c2 }) in
     let tree = opened_is_paced sizes c1 c2 catalogue faults room are in
-    let v = all_commit catalogue.version map m p steps tree fits (omega arith) in
-    let b = is_bounded map (played m steps) (paced_all m p steps) (steps_are_paced map m p steps tree fits) in
+    let v = all_commit catalogue.version map m steps tree fits (omega arith) in
+    let b = is_bounded map (played m steps) (steps_are_paced map m steps tree fits) in
     omega (arith, v, b.begins, b.rotations)
 
 -- ---- small numbers
@@ -187,11 +184,10 @@ pub run_small : (sizes : Sizes) (c1 c2 : Entries) (catalogue : Catalogue) (fault
     → sum room.entries ≤ most_entries → catalogue.version ≤ 2 ^ 62 + 5 → AreSmall (played (opened sizes c1 c2 catalogue faults room) steps)
 run_small sizes c1 c2 catalogue faults room steps are fits few low =
     let m = opened sizes c1 c2 catalogue faults room in
-    let p = pace_opened sizes (entries_weight c1) (entries_weight c2) in
     let map = map_in (record { b = []; a = []; c1 = c1; c1x = []; c2 = c2 }) in
     let n = played m steps in
     let tree = opened_is_paced sizes c1 c2 catalogue faults room are in
-    let b = is_bounded map n (paced_all m p steps) (steps_are_paced map m p steps tree fits) in
+    let b = is_bounded map n (steps_are_paced map m steps tree fits) in
     let entries : length n.book.entries ≤ most_entries = omega (arith, all_room m steps, few) in
     let writes : length (counted_writes n.book.entries) ≤ most_entries = omega (arith, entries, few_counted n.book.entries) in
     let commits = run_commits sizes c1 c2 catalogue faults room steps are fits in

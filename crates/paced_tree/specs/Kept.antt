@@ -1,10 +1,9 @@
 -- What a paced tree keeps, over every list of steps by any seats and with any outcomes.
-use Rattle.std.specs.Prelude.{◌≡◌, ⊤, List, [], ◌∷◌, None, if◌then◌else◌}
+use Rattle.std.specs.Prelude.{◌≡◌, ⊤, List, [], ◌∷◌, None}
 use Rattle.blsm_model.specs.declared.key.Key.{Key}
 use Rattle.blsm_model.specs.declared.row.Value.{Value}
 use Rattle.blsm_model.specs.Sizes.{Sizes}
 use Rattle.pacing.specs.Laws.{IsOpening}
-use Rattle.pacing.specs.Pace.{Pace}
 use Rattle.pacing.specs.Counts.{IsCounted, AreFew}
 use Rattle.pacing.specs.Kept.{IsPaced}
 use Rattle.pacing.specs.Spent.{IsSpent}
@@ -13,10 +12,9 @@ use Rattle.record_delta.specs.Entries.{Entries, AreSorted, entries_weight}
 use Rattle.tree_machine.specs.Machine.{Machine}
 use Rattle.tree_machine.specs.Stands.{Stands, WritesFit}
 use Rattle.tree_machine.specs.Steps.{Outcome}
-use Rattle.tree_machine.specs.Plays.{may_step, played_one}
 use Rattle.tree_machine.specs.declared.step.Step.{Step}
-use Rattle.paced_tree.specs.Numbers.{IsPaceOf}
-use Rattle.paced_tree.specs.After.{pace_after}
+use Rattle.paced_tree.specs.Numbers.{HasTaken, pace_of}
+use Rattle.paced_tree.specs.Booking.{IsBookOf}
 
 -- The components of a store that was opened: sorted, of records that fit the format, C2 of bases only, and within the bounds of their sizes.
 pub record AreComponents (sizes : Sizes) (c1 c2 : Entries) : Type 0 where
@@ -28,23 +26,16 @@ pub record AreComponents (sizes : Sizes) (c1 c2 : Entries) : Type 0 where
   pub numbers : IsOpening sizes (entries_weight c1) (entries_weight c2)
 
 -- It stands for its history, and its merges keep pace.
-pub record IsPacedTree (opening : List (Key × Value)) (m : Machine) (pace : Pace) : Type 0 where
+pub record IsPacedTree (opening : List (Key × Value)) (m : Machine) : Type 0 where
   pub stands : Stands opening m
   pub settled : AreSettled m
-  pub of_tree : IsPaceOf m pace
-  pub paced : IsPaced pace
+  pub started : HasTaken m.merges.pass m.gears.pass_taken
+  pub booked : IsBookOf m.book m.seats (pace_of m)
+  pub paced : IsPaced (pace_of m)
   -- its merges are few, and each pass was begun for a write of its own, but where an admission failed
-  pub few : AreFew pace
-  pub counted : m.stopped ≡ None → IsCounted pace
-  pub spent : IsSpent pace
-
--- the pace after a list of steps
-abbrev pub paced_one : Machine → Pace → Step × Outcome → Pace
-paced_one m pace made = if may_step m made.0 then pace_after m pace made.0.seat made.0.kind made.1 else pace
-
-abbrev pub paced_all : Machine → Pace → List (Step × Outcome) → Pace
-paced_all m pace [] = pace
-paced_all m pace (made ∷ steps) = paced_all (played_one m made) (paced_one m pace made) steps
+  pub few : AreFew (pace_of m)
+  pub counted : m.stopped ≡ None → IsCounted (pace_of m)
+  pub spent : IsSpent (pace_of m)
 
 -- all that the steps write fits the format
 abbrev pub AllFit : List (Step × Outcome) → Type 0

@@ -1,5 +1,4 @@
 pub mod Numbers
-pub mod After
 pub mod Made
 pub mod Kept
 pub mod Bounds

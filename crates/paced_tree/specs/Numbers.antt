@@ -1,5 +1,6 @@
--- The numbers of the tree's lists, as the pacing has them, and those of a run that the lists don't tell.
-use Rattle.std.specs.Prelude.{◌≡◌, ℕ, Bool, ◌+◌, ◌<◌, ◌≤◌, ⊤, IsTrue, List, length, take, sum, sum_by, Option, if◌then◌else◌, Some, None, is_some, slice_index}
+-- The numbers of the tree, as the pacing has them: those of its lists, and those that its book tells of the run.
+use Rattle.std.specs.Prelude.{◌≡◌, ℕ, Bool, ◌+◌, ◌<◌, ◌≤◌, ⊤, IsTrue, List, length, take, sum, sum_by, map, Option, if◌then◌else◌, Some, None, is_some, slice_index}
+use Rattle.std.specs.List.{range_with_len}
 use Rattle.blsm_model.specs.Format.{callers}
 use Rattle.blsm_model.specs.Sizes.{Sizes}
 use Rattle.blsm_model.specs.Geometry.{work_bound}
@@ -18,26 +19,6 @@ abbrev pub taken_of : Option Merge → Entries → ℕ
 taken_of None entries = 0
 taken_of (Some merge) entries = entries_weight (up_to merge.cursor entries)
 
--- A pace with the numbers of this machine. The machine doesn't keep the others: those of the log's lanes, of what was admitted, worked,
--- begun and rotated, and of each seat's last write.
-abbrev pub with_numbers_of : Machine → Pace → Pace
-with_numbers_of m pace = record pace {
-  gears = m.gears;
-  a = entries_weight m.lists.a;
-  taken = taken_of m.merges.pass m.lists.a;
-  b = entries_weight m.lists.b;
-  c1 = entries_weight m.lists.c1;
-  c1x = entries_weight m.lists.c1x;
-  c2 = entries_weight m.lists.c2;
-  made1 = entries_weight (output_of m.merges.pass);
-  made2 = entries_weight (output_of m.merges.deep);
-  spring = m.spring;
-  opening = m.counts.charge;
-  peak = m.counts.peak;
-  passes = m.counts.passes;
-  deeps = m.counts.deeps;
-}
-
 -- a pass whose cursor stands at a key has taken something
 abbrev pub HasTaken : Option Merge → ℕ → Type 0
 HasTaken None taken = ⊤
@@ -52,6 +33,34 @@ last_weight book seat = if is_last book seat then total_weight (writes_of (entry
 
 abbrev pub last_quanta : Book → ℕ → ℕ
 last_quanta book seat = if is_last book seat then slice_index book.quanta (last_write seat book.entries) else 0
+
+-- of each caller
+abbrev pub by_caller : (ℕ → ℕ) → List ℕ
+by_caller f = map f (range_with_len 0 callers)
+
+-- the pace of this machine
+abbrev pub pace_of : Machine → Pace
+pace_of m = record {
+  gears = m.gears;
+  a = entries_weight m.lists.a;
+  taken = taken_of m.merges.pass m.lists.a;
+  b = entries_weight m.lists.b;
+  c1 = entries_weight m.lists.c1;
+  c1x = entries_weight m.lists.c1x;
+  c2 = entries_weight m.lists.c2;
+  made1 = entries_weight (output_of m.merges.pass);
+  made2 = entries_weight (output_of m.merges.deep);
+  spring = m.spring;
+  weights = by_caller (last_weight m.book);
+  quanta = by_caller (last_quanta m.book);
+  opening = m.counts.charge;
+  admitted = total_weight (counted_writes m.book.entries);
+  work = sum m.seats.quanta;
+  peak = m.counts.peak;
+  writes = length (counted_writes m.book.entries);
+  passes = m.counts.passes;
+  deeps = m.counts.deeps;
+}
 
 -- so much the pace has of it
 abbrev pub HasLast : Book → ℕ → (weight quanta : ℕ) → Type 0
@@ -74,9 +83,3 @@ pub record IsBooked (sizes : Sizes) (book : Book) (counted : List ℕ) (works : 
   pub last : (seat : ℕ) → HasLast book seat (slice_index weights seat) (slice_index quanta seat)
   -- the quanta of each write that was done are at most its work bound
   pub bound : (place : ℕ) → IsWritten book place → slice_index book.quanta place ≤ work_bound sizes (total_weight (writes_of (entry_at book place).op))
-
--- the pace tells the numbers of the machine, and its book
-pub record IsPaceOf (m : Machine) (pace : Pace) : Type 0 where
-  pub numbers : with_numbers_of m pace ≡ pace
-  pub started : HasTaken m.merges.pass m.gears.pass_taken
-  pub booked : IsBooked m.gears.sizes m.book m.seats.quanta m.seats.work pace.work pace.admitted pace.writes pace.weights pace.quanta

@@ -16,7 +16,7 @@ ghost use Rattle.tree_machine.specs.Machine.{Machine, Catalogue, opened};
 ghost use Rattle.tree_machine.specs.Steps.{Outcome};
 ghost use Rattle.tree_machine.specs.Plays.{played, may_step, stepped};
 ghost use Rattle.tree_machine.specs.declared.step.Step.{Step};
-ghost use Rattle.paced_tree.specs.Kept.{IsPacedTree, paced_all, AllFit, AreComponents};
+ghost use Rattle.paced_tree.specs.Kept.{IsPacedTree, AllFit, AreComponents};
 ghost use Rattle.paced_tree.specs.Bounds.{IsBounded};
 ghost use Rattle.blsm_model.specs.Sizes.{Sizes};
 ghost use Rattle.blsm_model.specs.declared.room.Room.{Room};
@@ -32,13 +32,12 @@ ghost use Rattle.pacing.specs.Fronts.{Fronts, AreFronts};
 
 /// Each list of steps keeps a tree paced, by whatever seats and with whatever outcomes.
 pub fn steps_are_paced()
-    ensures { (opening : List (Key × Value)) (m : Machine) (pace : Pace) (steps : List (Step × Outcome)) → IsPacedTree opening m pace → AllFit steps
-        → IsPacedTree opening (played m steps) (paced_all m pace steps) }
+    ensures { (opening : List (Key × Value)) (m : Machine) (steps : List (Step × Outcome)) → IsPacedTree opening m → AllFit steps → IsPacedTree opening (played m steps) }
 {}
 
 /// A paced tree keeps its bounds, and so does every run from an opening, which stands for its history.
 pub fn a_paced_tree_is_bounded()
-    ensures bounded { (opening : List (Key × Value)) (m : Machine) (pace : Pace) → IsPacedTree opening m pace → IsBounded m }
+    ensures bounded { (opening : List (Key × Value)) (m : Machine) → IsPacedTree opening m → IsBounded m }
     ensures run { (sizes : Sizes) (c1 c2 : Entries) (catalogue : Catalogue) (faults : ℕ) (room : Room) (steps : List (Step × Outcome)) → AreComponents sizes c1 c2 → AllFit steps
         → Stands (map_in (record { b = []; a = []; c1 = c1; c1x = []; c2 = c2 })) (played (opened sizes c1 c2 catalogue faults room) steps)
         × IsBounded (played (opened sizes c1 c2 catalogue faults room) steps) }
@@ -46,7 +45,7 @@ pub fn a_paced_tree_is_bounded()
 
 /// The quanta are real: all that the merges' cursors pass is at most what so many quanta can take. Commits are few.
 pub fn work_is_counted()
-    ensures step { (opening : List (Key × Value)) (m : Machine) (pace : Pace) (step : Step) (outcome : Outcome) → IsPacedTree opening m pace → IsTrue (may_step m step)
+    ensures step { (opening : List (Key × Value)) (m : Machine) (step : Step) (outcome : Outcome) → IsPacedTree opening m → IsTrue (may_step m step)
         → work_between m (stepped m step outcome).state + most_taken m.gears.sizes * sum m.seats.quanta ≤ most_taken m.gears.sizes * sum (stepped m step outcome).state.seats.quanta }
     ensures run { (sizes : Sizes) (c1 c2 : Entries) (catalogue : Catalogue) (faults : ℕ) (room : Room) (steps : List (Step × Outcome)) → AreComponents sizes c1 c2 → AllFit steps
         → work_in (opened sizes c1 c2 catalogue faults room) steps ≤ most_taken sizes * sum (played (opened sizes c1 c2 catalogue faults room) steps).seats.quanta }

@@ -2,11 +2,11 @@
 use Rattle.std.proofs.Common.{◌≡◌, ◌⊎◌, refl, ℕ, ◌+◌, ◌<◌, ◌≤◌, ◌&&◌, ◌||◌, not, Bool, true, false, cond, eqb, ltb, List, [], ◌∷◌, inl, inr, arith}
 use Rattle.std.proofs.lemmas.Grind.{common_steps}
 use Rattle.std.proofs.lemmas.Bool.Decides.{nat_tests}
-use Rattle.std.proofs.lemmas.Bool.{cases_Bool, false≢true, true≢false, cases_lt, cond_both, and_parts, not-true, eqb-true, eqb-false, ltb-true}
+use Rattle.std.proofs.lemmas.Bool.{cases_Bool, cases_lt, cond_both, and_parts, not-true, eqb-true, eqb-false, ltb-true}
 use Rattle.blsm_model.specs.Sizes.{Sizes}
 use Rattle.blsm_model.specs.Geometry.{c1_mark}
 use Rattle.gear_sched.specs.declared.Plan.{Plan}
-use Rattle.pacing.specs.Pace.{Pace, Quantum, opened, pass_done, deep_done, with_deep_swapped, with_pass_swapped, with_rotation, with_swap_and_rotation, with_pass, with_write, with_snow, with_deep, with_forgiven}
+use Rattle.pacing.specs.Pace.{Pace, Quantum, passes_begun, rotations, opened, pass_done, deep_done, with_deep_swapped, with_pass_swapped, with_rotation, with_swap_and_rotation, with_pass, with_write, with_snow, with_deep, with_forgiven}
 use Rattle.pacing.specs.Kept.{IsPaced}
 use Rattle.gear_sched.specs.Gears.{deep_is_behind}
 use Rattle.pacing.specs.Steps.{Event, Admit, Pay, Turn, MayAll, after, after_all, Lands, Move, SwapDeep, SwapPass, TakeDeep, TakeSnow, Begin, Rotate, Idle, turn_of, turn_at_rest, turned_by, may_begin, paid_by, plan_of, is_worker_seat, deep_settled, pass_settled, ready_for, May}
@@ -24,7 +24,7 @@ deep_swap p h1 h2 = grind (arith, common_steps, nat_tests)
 pass_swap : (p : Pace) → IsPaced p → IsCounted p → p.gears.pass ≡ true → IsCounted (with_pass_swapped p)
 pass_swap p h1 h2 h3 = grind (arith, common_steps, nat_tests)
 
-rotation : (p : Pace) → IsCounted p → p.gears.pass ≡ false → p.gears.deep ≡ false → p.rotations ≤ p.passes → IsCounted (with_rotation p)
+rotation : (p : Pace) → IsCounted p → p.gears.pass ≡ false → p.gears.deep ≡ false → rotations p ≤ p.passes → IsCounted (with_rotation p)
 rotation p h1 h2 h3 h4 = grind (arith, common_steps, nat_tests)
 
 swap_and_rotation : (p : Pace) → IsPaced p → IsCounted p → p.gears.pass ≡ true → (c1_mark p.gears.sizes ≤ p.made1 → p.gears.deep ≡ false) → IsCounted (with_swap_and_rotation p)
@@ -35,18 +35,14 @@ begin p h1 h2 h3 h4 = grind (arith, common_steps, nat_tests)
 
 -- what an admission's moves leave before its write, which is still to be counted
 record IsReadyCount (p : Pace) : Type 0 where
-  pub begins : (p.begun ≤ p.writes) ⊎ ((p.gears.pass ≡ true) × (p.gears.pass_taken ≡ 0) × (p.lane_b ≡ 0) × (p.begun ≤ p.writes + 1))
-  pub running : p.gears.pass ≡ true → p.passes + 1 ≡ p.begun
-  pub resting : p.gears.pass ≡ false → p.passes ≡ p.begun
-  pub turns : p.rotations ≤ p.passes + 1
-  pub turn_to_come : 0 < p.c1 → p.rotations ≤ p.passes
-  pub merging : p.gears.deep ≡ true → p.deeps + 1 ≡ p.rotations
-  pub unmerged : p.gears.deep ≡ false → p.deeps ≡ p.rotations
+  pub begins : (passes_begun p ≤ p.writes) ⊎ ((p.gears.pass ≡ true) × (p.gears.pass_taken ≡ 0) × (p.b ≡ 0) × (passes_begun p ≤ p.writes + 1))
+  pub turns : rotations p ≤ p.passes + 1
+  pub turn_to_come : 0 < p.c1 → rotations p ≤ p.passes
 
 begin_or_not : (p : Pace) → IsPaced p → IsCounted p → (test : Bool) → (test ≡ true → p.gears.pass ≡ false) → IsReadyCount (cond test (with_pass p) p)
 begin_or_not p h1 h2 test h3 = grind (arith, common_steps, nat_tests)
 
-begins_after : (p : Pace) → IsReadyCount p → p.begun ≤ p.writes + 1
+begins_after : (p : Pace) → IsReadyCount p → passes_begun p ≤ p.writes + 1
 begins_after p c = elim c.begins [ inl few ↦ omega arith | inr fresh ↦ fresh.3 ]
 
 write : (p : Pace) (seat w : ℕ) (ahead : Bool) (weight : ℕ) → IsReadyCount p → Lands p w ahead weight → IsCounted (with_write p seat w ahead weight)
@@ -56,8 +52,8 @@ write p seat w ahead weight h1 h2 = grind (arith, common_steps, nat_tests)
 pub way : (p : Pace) → IsPaced p → p.gears.pass ≡ true → p.gears.pass_taken ≡ p.a + p.c1 → (p.gears.deep ≡ true → p.gears.deep_taken < p.c1x + p.c2) → c1_mark p.gears.sizes ≤ p.made1 → p.gears.deep ≡ false
 way p k runs done going full = grind (arith, common_steps, nat_tests, cases_Bool, makes_way)
 
-settle_deep : (p : Pace) → IsCounted p → IsCounted (deep_settled p)
-settle_deep p h1 = grind (arith, common_steps, nat_tests)
+pub deep_counts : (p : Pace) → IsCounted p → IsCounted (deep_settled p)
+deep_counts p h1 = grind (arith, common_steps, nat_tests)
 
 settle_pass : (p : Pace) → IsPaced p → IsCounted p → (p.gears.deep ≡ true → p.gears.deep_taken < p.c1x + p.c2) → IsCounted (pass_settled p)
 settle_pass p h1 h2 h3 = grind (arith, common_steps, nat_tests, cond_both, and_parts, swap_and_rotation, way, eqb-true)
@@ -66,13 +62,13 @@ pub admit : (p : Pace) (seat w : ℕ) (ahead : Bool) (weight : ℕ) → IsPaced 
 admit p seat w ahead weight k c lands =
     let one = deep_settled_kept p k in
     let two = pass_settled_kept p k in
-    let c_two = settle_pass (deep_settled p) one.kept (settle_deep p c) one.going in
+    let c_two = settle_pass (deep_settled p) one.kept (deep_counts p c) one.going in
     write (ready_for p w) seat w ahead weight
     (begin_or_not (pass_settled (deep_settled p)) two.kept c_two (not (pass_settled (deep_settled p)).gears.pass && ltb (pass_settled (deep_settled p)).gears.sizes.low ((pass_settled (deep_settled p)).spring + w))
     (λ e. let parts = and_parts (not (pass_settled (deep_settled p)).gears.pass) (ltb (pass_settled (deep_settled p)).gears.sizes.low ((pass_settled (deep_settled p)).spring + w)) e in not-true _ parts.0)) lands
 
-same_count : (p q : Pace) → IsCounted p → q.gears.pass ≡ p.gears.pass → q.gears.deep ≡ p.gears.deep → q.begun ≡ p.begun → q.writes ≡ p.writes → q.passes ≡ p.passes → q.rotations ≡ p.rotations → q.deeps ≡ p.deeps → q.lane_b ≡ p.lane_b → q.spring ≡ p.spring → q.c1 ≡ p.c1 → IsCounted q
-same_count p q h1 h2 h3 h4 h5 h6 h7 h8 h9 h10 h11 = grind (arith, common_steps, nat_tests)
+same_count : (p q : Pace) → IsCounted p → q.gears.pass ≡ p.gears.pass → q.gears.deep ≡ p.gears.deep → q.writes ≡ p.writes → q.passes ≡ p.passes → q.deeps ≡ p.deeps → q.b ≡ p.b → q.spring ≡ p.spring → q.c1 ≡ p.c1 → IsCounted q
+same_count p q h1 h2 h3 h4 h5 h6 h7 h8 h9 = grind (arith, common_steps, nat_tests)
 
 pub pay : (plan : Plan) (p : Pace) (seat : ℕ) (quantum : Quantum) → IsCounted p → IsCounted (paid_by plan (with_forgiven p seat) seat quantum)
 pay plan p seat quantum h1 = grind (arith, common_steps, nat_tests)
@@ -99,9 +95,9 @@ turn p is_worker seat quantum k c =
     (λ no_swap. cond_both (p.gears.pass && pass_done p) SwapPass after_two (Counts p seat quantum)
     (λ e. let parts = and_parts p.gears.pass (pass_done p) e in swap_and_rotation p k c parts.0 (way p k parts.0 (eqb-true _ _ parts.1) (deep_left p k no_swap)))
     (λ still. cond_both (p.gears.deep && (not p.gears.pass || deep_is_behind p.gears)) TakeDeep (cond p.gears.pass TakeSnow (turn_at_rest is_worker p)) (Counts p seat quantum)
-    (λ e. same_count p (with_deep p seat quantum) c refl refl refl refl refl refl refl refl refl refl)
+    (λ e. same_count p (with_deep p seat quantum) c refl refl refl refl refl refl refl refl)
     (λ none. cond_both p.gears.pass TakeSnow (turn_at_rest is_worker p) (Counts p seat quantum)
-    (λ e. same_count p (with_snow p seat quantum) c refl refl refl refl refl refl refl refl refl refl)
+    (λ e. same_count p (with_snow p seat quantum) c refl refl refl refl refl refl refl refl)
     (λ e. turn_rests p is_worker seat quantum k c e (no_deep_left p.gears.deep p.gears.pass (deep_is_behind p.gears) none e)))))
 
 pub step_counts : (pace : Pace) (event : Event) → IsPaced pace → IsCounted pace → May pace event → IsCounted (after pace event)
@@ -119,27 +115,27 @@ opened_counted sizes c1 c2 = grind (arith, common_steps, nat_tests)
 pub run_counts : (sizes : Sizes) (c1 c2 : ℕ) (events : List Event) → IsOpening sizes c1 c2 → MayAll (opened sizes c1 c2) events → IsCounted (after_all (opened sizes c1 c2) events)
 run_counts sizes c1 c2 events opening may = all_count (opened sizes c1 c2) events (opened_paced sizes c1 c2 opening) (opened_counted sizes c1 c2) may
 
-pub few_commits : (pace : Pace) → IsCounted pace → pace.passes + pace.deeps + pace.rotations ≤ 3 * pace.writes + 2
+pub few_commits : (pace : Pace) → IsCounted pace → pace.passes + pace.deeps + rotations pace ≤ 3 * pace.writes + 2
 few_commits = grind (arith, common_steps, nat_tests)
 
-pub merged : (p : Pace) → AreFew p → p.deeps ≤ p.rotations
-merged p few = elim (cases_Bool p.gears.deep) [ inl e ↦ let h = few.merging e in omega arith | inr e ↦ let h = few.unmerged e in omega arith ]
+pub merged : (p : Pace) → p.deeps ≤ rotations p
+merged p = grind (arith, common_steps, nat_tests)
 
-pub passed : (p : Pace) → AreFew p → p.passes ≤ p.begun
-passed p few = elim (cases_Bool p.gears.pass) [ inl e ↦ let h = few.running e in omega arith | inr e ↦ let h = few.resting e in omega arith ]
+pub passed : (p : Pace) → p.passes ≤ passes_begun p
+passed p = grind (arith, common_steps, nat_tests)
 
 pub counted_few : (pace : Pace) → IsCounted pace → AreFew pace
 counted_few = grind (arith, common_steps, nat_tests)
 
 ready_few : (p : Pace) → IsReadyCount p → AreFew p
-ready_few p c = record { begins = begins_after p c; running = c.running; resting = c.resting; turns = c.turns; merging = c.merging; unmerged = c.unmerged }
+ready_few p c = record { begins = begins_after p c; turns = c.turns }
 
 pub moves_few : (pace : Pace) (w : ℕ) → IsPaced pace → IsCounted pace → AreFew (deep_settled pace) × AreFew (ready_for pace w)
 moves_few p w k c =
     let one = deep_settled_kept p k in
     let two = pass_settled_kept p k in
-    let c_two = settle_pass (deep_settled p) one.kept (settle_deep p c) one.going in (
-      counted_few (deep_settled p) (settle_deep p c),
+    let c_two = settle_pass (deep_settled p) one.kept (deep_counts p c) one.going in (
+      counted_few (deep_settled p) (deep_counts p c),
       ready_few (ready_for p w)
           (begin_or_not (pass_settled (deep_settled p)) two.kept c_two (not (pass_settled (deep_settled p)).gears.pass && ltb (pass_settled (deep_settled p)).gears.sizes.low ((pass_settled (deep_settled p)).spring + w))
           (λ e. let parts = and_parts (not (pass_settled (deep_settled p)).gears.pass) (ltb (pass_settled (deep_settled p)).gears.sizes.low ((pass_settled (deep_settled p)).spring + w)) e in not-true _ parts.0)),

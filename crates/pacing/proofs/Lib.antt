@@ -11,8 +11,9 @@ pub mod Payments
 pub mod Turns
 pub mod Runs
 pub mod Promises
-pub mod Weights
 pub mod Counts
 pub mod Examples
 pub mod Spent
 pub mod Fronts
+pub mod Ends
+pub mod Taken

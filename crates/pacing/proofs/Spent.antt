@@ -2,7 +2,7 @@
 use Rattle.std.proofs.Common.{◌≡◌, refl, ap, ℕ, ◌+◌, ◌*◌, ◌<◌, ◌≤◌, ◌&&◌, ◌||◌, not, Bool, true, false, cond, eqb, leb, ltb, inl, inr, arith}
 use Rattle.std.proofs.lemmas.Grind.{common_steps}
 use Rattle.std.proofs.lemmas.Bool.Decides.{nat_tests}
-use Rattle.std.proofs.lemmas.Bool.{cases_Bool, true≢false, cases_lt, cond_both, and_parts, or_parts, not-true, not-false, eqb-true, eqb-false, leb-true}
+use Rattle.std.proofs.lemmas.Bool.{cases_Bool, cases_lt, cond_both, and_parts, or_parts, not-true, not-false, eqb-true, eqb-false, leb-true}
 use Rattle.std.proofs.Math.Nat.{mul-add, mul-le-mul_left}
 use Rattle.blsm_model.specs.Sizes.{Sizes}
 use Rattle.blsm_model.specs.Geometry.{c1_mark, capacity}
@@ -13,7 +13,7 @@ use Rattle.pacing.specs.Pace.{Pace, Quantum, pass_done, deep_done, pass_over, de
 use Rattle.pacing.specs.Kept.{IsPaced}
 use Rattle.pacing.specs.Steps.{Admit, Pay, Turn, FitsPlan, FitsMove, IsQuantum, Move, SwapDeep, SwapPass, TakeDeep, TakeSnow, turn_of, turn_at_rest, turned_by, paid_by, plan_of, is_worker_seat, deep_settled, pass_settled, ready_for, Event, May, after}
 use Rattle.pacing.specs.Spent.{IsSpent}
-use Rattle.pacing.proofs.Counts.{way, passed}
+use Rattle.pacing.proofs.Counts.{way}
 use Rattle.pacing.proofs.Admissions.{deep_settled_kept}
 use Rattle.pacing.proofs.Payments.{snow_owed, deep_owed, nothing_left}
 use Rattle.pacing.proofs.Turns.{deep_left, no_deep_left}
@@ -75,10 +75,10 @@ deep : (p : Pace) (seat : ℕ) (quantum : Quantum) → IsSpent p → p.gears.dee
 deep p seat quantum h1 h2 h3 = grind (arith, common_steps, nat_tests)
 
 pub forgave : (p : Pace) (seat : ℕ) → IsSpent p → IsSpent (with_forgiven p seat)
-forgave p seat s = record { some = s.some; inputs = s.inputs; resting = s.resting; unmerged = s.unmerged }
+forgave p seat s = record { inputs = s.inputs; resting = s.resting; unmerged = s.unmerged }
 
 count : (p : Pace) (seat : ℕ) → IsSpent p → IsSpent (counted p seat)
-count p seat s = record { some = s.some; inputs = s.inputs; resting = s.resting; unmerged = s.unmerged }
+count p seat s = record { inputs = s.inputs; resting = s.resting; unmerged = s.unmerged }
 
 less : (n all : ℕ) → eqb n all ≡ false → n ≤ all → n < all
 less n all differs le = let apart = eqb-false n all differs in elim (cases_lt n all) [ inl below ↦ below | inr past ↦ absurd (apart (omega (arith, past, le))) ]
@@ -134,15 +134,19 @@ abbrev one_of : Bool → ℕ
 one_of true = 1
 one_of false = 0
 
+one_more : (b : Bool) (n : ℕ) → cond b (n + 1) n ≡ n + one_of b
+one_more true n = refl
+one_more false n = omega arith
+
 pub opening_spends : (sizes : Sizes) (c1 c2 : ℕ) → IsSpent (opened sizes c1 c2)
-opening_spends sizes c1 c2 = record { some = omega arith; inputs = omega arith; resting = λ e. refl; unmerged = λ e. refl }
+opening_spends sizes c1 c2 = record { inputs = omega arith; resting = λ e. refl; unmerged = λ e. refl }
 
 -- also where an admission stops between its moves
 pub moves_spend : (pace : Pace) (w : ℕ) → IsPaced pace → IsSpent pace → IsSpent (deep_settled pace) × IsSpent (ready_for pace w)
 moves_spend pace w k s = (settle_deep pace k s, ready pace w k s)
 
 pub step_spends : (pace : Pace) (event : Event) → IsPaced pace → IsSpent pace → May pace event → IsSpent (after pace event)
-step_spends pace (Admit seat w is_del ahead weight_after) k s may = let r = ready pace w k s in record { some = r.some; inputs = r.inputs; resting = r.resting; unmerged = r.unmerged }
+step_spends pace (Admit seat w is_del ahead weight_after) k s may = let r = ready pace w k s in record { inputs = r.inputs; resting = r.resting; unmerged = r.unmerged }
 step_spends pace (Pay seat quantum) k s may = pay_as pace seat quantum (plan_of (with_forgiven pace seat) seat) refl k s may.caller may.fits
 step_spends pace (Turn seat quantum) k s may = turn pace (is_worker_seat seat) seat quantum k s may.fits
 
@@ -157,13 +161,12 @@ quanta_are_few pace k s few =
       | inl e ↦ let merge = k.within.merging e in omega (arith, merge.taken, deep_input pace k, ap (λ b. capacity pace.gears.sizes * one_of b) e)
       | inr e ↦ omega (arith, s.unmerged e)
     ] in
-    let begun : pace.passes + one_of pace.gears.pass ≡ pace.begun = elim (cases_Bool pace.gears.pass) [ inl e ↦ omega (arith, few.running e, ap one_of e) | inr e ↦ omega (arith, few.resting e, ap one_of e) ] in
-    let rotated : pace.deeps + one_of pace.gears.deep ≡ pace.rotations = elim (cases_Bool pace.gears.deep) [ inl e ↦ omega (arith, few.merging e, ap one_of e) | inr e ↦ omega (arith, few.unmerged e, ap one_of e) ] in
-    let all : pace.passes + one_of pace.gears.pass + (pace.deeps + one_of pace.gears.deep) ≤ 2 * pace.writes + 3 = omega (arith, begun, rotated, few.begins, few.turns, passed pace few) in
+    let begun = one_more pace.gears.pass pace.passes in
+    let rotated = one_more pace.gears.deep pace.deeps in
+    let all : pace.passes + one_of pace.gears.pass + (pace.deeps + one_of pace.gears.deep) ≤ 2 * pace.writes + 3 = omega (arith, begun, rotated, few.begins, few.turns) in
     let most = mul-le-mul_left (capacity pace.gears.sizes) all in
     omega (
       arith,
-      s.some,
       s.inputs,
       pass_taken,
       deep_taken,

@@ -22,12 +22,7 @@ pub record AreBounded (pace : Pace) : Type 0 where
   pub first : sum pace.gears.first_debts ≤ callers * (first_gear pace.gears.sizes * most_weight)
   pub second : sum pace.gears.second_debts ≤ callers * (second_gear pace.gears.sizes * most_weight)
   pub since : pace.gears.deep_admitted + most_weight < 2 ^ 63
-  pub moved : pace.moved ≤ most_taken pace.gears.sizes * pace.work
   pub work : pace.c1 + pace.c1x + pace.c2 + pace.taken ≤ pace.opening + most_taken pace.gears.sizes * pace.work
-
--- A lane has its entries, a gate before each, and a closed gate at its end. Its region has four half springs.
-abbrev pub lane_length : ℕ → ℕ → ℕ
-lane_length weight entries = weight + entries + 1
 
 -- what the run of a merge weighs, with what is left to take
 abbrev pub run_of_pass : Pace → ℕ
@@ -38,8 +33,6 @@ run_of_deep pace = if pace.gears.deep then pace.made2 + (pace.c1x + pace.c2 - pa
 
 -- what has to fit on the disk and in the numbers' type
 pub record Fits (pace : Pace) : Type 0 where
-  pub lane_a : lane_length pace.lane_a pace.entries_a ≤ 4 * pace.gears.sizes.half
-  pub lane_b : lane_length pace.lane_b pace.entries_b ≤ 4 * pace.gears.sizes.half
   pub live : pace.c1 + pace.c1x + pace.c2 ≤ capacity pace.gears.sizes
   pub runs : run_of_pass pace + run_of_deep pace ≤ capacity pace.gears.sizes
   pub y : pace.gears.pass_admitted + most_weight < 2 ^ 63

@@ -5,3 +5,4 @@ pub mod Laws
 pub mod Counts
 pub mod Spent
 pub mod Fronts
+pub mod Ends

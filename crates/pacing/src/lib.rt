@@ -8,11 +8,11 @@
 
 ghost use Rattle.pacing.specs.Counts.{IsCounted};
 ghost use Rattle.pacing.specs.Fronts.{AreFronts, Fronts, FitAtEach};
-ghost use Rattle.pacing.specs.Laws.{IsOpening, quanta_paid, NoneAdmitted, RaisesDebts, IsShort};
+ghost use Rattle.pacing.specs.Laws.{IsOpening, quanta_paid, taken_in, NoneAdmitted, RaisesDebts, IsShort};
 ghost use Rattle.std.specs.Prelude.{ℕ, List, ◌≡◌, ◌+◌, ◌<◌, ◌≤◌, Bool, true, slice_index, ◌∷◌, ◌*◌};
 ghost use Rattle.blsm_model.specs.Sizes.{Sizes};
-ghost use Rattle.pacing.specs.Pace.{opened, Pace, charge, pass_done, deep_done};
-ghost use Rattle.pacing.specs.Kept.{IsPaced};
+ghost use Rattle.pacing.specs.Pace.{opened, Pace, charge, pass_done, deep_done, rotations};
+ghost use Rattle.pacing.specs.Kept.{IsPaced, most_taken};
 ghost use Rattle.pacing.specs.Steps.{Event, MayAll, after_all, MayAdmit, ready_for, Admit, after, May};
 ghost use Rattle.blsm_model.specs.Format.{callers, least_weight, most_weight};
 ghost use Rattle.blsm_model.specs.Geometry.{c1_mark, charge_limit, work_bound};
@@ -40,6 +40,7 @@ pub fn work_is_bounded()
         → quanta_paid seat (after pace (Admit seat w is_del ahead weight_after)) events ≤ work_bound pace.gears.sizes w }
     ensures debts { (pace : Pace) (event : Event) (seat : ℕ) → IsPaced pace → May pace event → (RaisesDebts seat event → ⊥)
         → (first_debt (after pace event).gears seat ≤ first_debt pace.gears seat) × (second_debt (after pace event).gears seat ≤ second_debt pace.gears seat) }
+    ensures taken { (pace : Pace) (events : List Event) → MayAll pace events → taken_in pace events + most_taken pace.gears.sizes * pace.work ≤ most_taken pace.gears.sizes * (after_all pace events).work }
     ensures short { (pace : Pace) (seat w weight_after : ℕ) (is_del ahead : Bool) → IsShort pace (after pace (Admit seat w is_del ahead weight_after)) }
 {}
 
@@ -47,7 +48,7 @@ pub fn work_is_bounded()
 /// are few.
 pub fn merges_are_few()
     ensures run { (sizes : Sizes) (c1 c2 : ℕ) (events : List Event) → IsOpening sizes c1 c2 → MayAll (opened sizes c1 c2) events → IsCounted (after_all (opened sizes c1 c2) events) }
-    ensures commits { (pace : Pace) → IsCounted pace → pace.passes + pace.deeps + pace.rotations ≤ 3 * pace.writes + 2 }
+    ensures commits { (pace : Pace) → IsCounted pace → pace.passes + pace.deeps + rotations pace ≤ 3 * pace.writes + 2 }
 {}
 
 /// The log's lanes are within the opening's bounds at each of their records, also where a front of a lane weighs more than the

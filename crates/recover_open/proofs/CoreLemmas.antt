@@ -18,7 +18,6 @@ use Rattle.disk_trait.specs.Disk.{DiskState}
 use Rattle.disk_trait.specs.Moments.{IsTimed}
 use Rattle.disk_trait.proofs.MomentLemmas.{leaves_only_start, once_synced_start}
 use Rattle.page_file.specs.Component.{entries_of}
-use Rattle.pacing.specs.Pace.{opened as pace_opened}
 use Rattle.tree_core.specs.Core.{CoreState}
 use Rattle.tree_core.specs.Holds.{StandsWhole}
 use Rattle.tree_core.specs.Parts.{AreSettled}
@@ -67,7 +66,6 @@ abbrev pub AssemblesOver : {D : Type 0} → (D → DiskState) → RunsState → 
 AssemblesOver state runs log annals core d = (tree : Tree) → IsTrue d.is_honest → StandOver runs tree log.a.entries d → tree.lane_a ≡ [] → tree.lane_b ≡ []
     → StandsWhole state (map_of_tree tree) core
     (opened runs.sizes (entries_of tree.c1) (entries_of tree.c2) (catalogue_of runs.catalogue) d.faults annals.room)
-    (pace_opened runs.sizes runs.catalogue.c1.weight runs.catalogue.c2.weight)
 
 pub opens_as : {D : Type 0} (state : D → DiskState) (room : Room) (runs : RunsState) (log : LogState) (annals : Book) (core : CoreState D) (file : List ℕ) (disk : D) → core.disk ≡ disk → IsTrue (state disk).is_honest
     → HasOpenedOn runs log file (state disk) → annals ≡ no_entries room → core.held.runs ≡ runs
@@ -77,10 +75,8 @@ opens_as {D} state room runs log annals core file disk of_disk honest on is same
     let pairs = map_of_tree on.image in
     let t = s.tree in
     let stands = assembles t honest s.over s.lane_a s.lane_b in
-    let stands' = subst (λ (b : Book). StandsWhole state (map_of_tree t) core (opened runs.sizes (entries_of t.c1) (entries_of t.c2) (catalogue_of runs.catalogue) (state disk).faults b.room)
-    (pace_opened runs.sizes runs.catalogue.c1.weight runs.catalogue.c2.weight)) is stands in
-    let stands'' = subst (λ (l : List (Key × Value)). StandsWhole state l core (opened runs.sizes (entries_of t.c1) (entries_of t.c2) (catalogue_of runs.catalogue) (state disk).faults room)
-    (pace_opened runs.sizes runs.catalogue.c1.weight runs.catalogue.c2.weight)) s.map_is stands' in
+    let stands' = subst (λ (b : Book). StandsWhole state (map_of_tree t) core (opened runs.sizes (entries_of t.c1) (entries_of t.c2) (catalogue_of runs.catalogue) (state disk).faults b.room)) is stands in
+    let stands'' = subst (λ (l : List (Key × Value)). StandsWhole state l core (opened runs.sizes (entries_of t.c1) (entries_of t.c2) (catalogue_of runs.catalogue) (state disk).faults room)) s.map_is stands' in
     record {
       pairs = pairs;
       reads = subst (λ (r : RunsState). ReadsAsMap r.sizes pairs file) (sym same) (record { tree = on.image; holds = on.holds; fits = on.fits; map_is = refl });
@@ -89,10 +85,8 @@ opens_as {D} state room runs log annals core file disk of_disk honest on is same
       taken = on.taken;
       light = omega (arith, charge, s.light, ap (λ (r : RunsState). components_of r.catalogue) same);
       tree = t;
-      stands = subst (λ (r : RunsState). StandsWhole state pairs core (opened r.sizes (entries_of t.c1) (entries_of t.c2) (catalogue_of r.catalogue) (state core.disk).faults room)
-          (pace_opened r.sizes r.catalogue.c1.weight r.catalogue.c2.weight)) (sym same)
-          (subst (λ (d : D). StandsWhole state pairs core (opened runs.sizes (entries_of t.c1) (entries_of t.c2) (catalogue_of runs.catalogue) (state d).faults room)
-          (pace_opened runs.sizes runs.catalogue.c1.weight runs.catalogue.c2.weight)) (sym of_disk) stands'');
+      stands = subst (λ (r : RunsState). StandsWhole state pairs core (opened r.sizes (entries_of t.c1) (entries_of t.c2) (catalogue_of r.catalogue) (state core.disk).faults room)) (sym same)
+          (subst (λ (d : D). StandsWhole state pairs core (opened runs.sizes (entries_of t.c1) (entries_of t.c2) (catalogue_of runs.catalogue) (state d).faults room)) (sym of_disk) stands'');
     }
 
 pub keeps_start : (d : DiskState) (sizes : Sizes) (pairs : List (Key × Value)) → IsTimed d → ReadsAsMap sizes pairs d.bytes → KeepsMapOf sizes pairs d d

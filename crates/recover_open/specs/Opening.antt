@@ -15,7 +15,6 @@ use Rattle.tree_log.specs.Log.{LogState, IsLogOf}
 use Rattle.tree_runs.specs.Runs.{RunsState}
 use Rattle.tree_runs.specs.Holding.{AreOf, StandOver}
 use Rattle.page_file.specs.Component.{entries_of}
-use Rattle.pacing.specs.Pace.{opened as pace_opened}
 use Rattle.tree_machine.specs.Machine.{opened}
 use Rattle.core_moves.specs.Held.{charge_in}
 use Rattle.core_lists.specs.Shown.{lanes_weight}
@@ -135,4 +134,3 @@ pub record OpensAs {D : Type 0} (state : D → DiskState) (room : Room) (core : 
   pub tree : Tree
   pub stands : StandsWhole state pairs core
       (opened core.held.runs.sizes (entries_of tree.c1) (entries_of tree.c2) (catalogue_of core.held.runs.catalogue) (state core.disk).faults room)
-      (pace_opened core.held.runs.sizes core.held.runs.catalogue.c1.weight core.held.runs.catalogue.c2.weight)

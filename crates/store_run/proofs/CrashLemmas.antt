@@ -10,8 +10,6 @@ use Rattle.blsm_model.specs.declared.row.Value.{Value}
 use Rattle.disk_trait.specs.Disk.{DiskState}
 use Rattle.disk_trait.specs.Moments.{IsOldOr, IsTimed, LeavesOnly, LeavesOnlyOnceSynced, SyncsLater}
 use Rattle.disk_trait.proofs.MomentLemmas.{leaves_only_run, leaves_only_weaken, once_synced_more, once_synced_weaken}
-use Rattle.pacing.specs.Pace.{Pace}
-use Rattle.paced_tree.specs.Kept.{paced_all}
 use Rattle.seat_book.specs.State.{BookState}
 use Rattle.tree_machine.specs.Machine.{Machine}
 use Rattle.tree_machine.specs.Plays.{played}
@@ -38,10 +36,10 @@ record ShowsAll (sizes : Sizes) (opening : List (Key × Value)) (history : List 
   each : (c : List ℕ) → d.images c → ShowsHistory sizes opening history (length history) c
 
 -- a core that stands for a state of the machine shows the whole of what it noted
-shows_all : {Rows : List (Option (List Row)) → Type 0} (sizes : Sizes) (opening : List (Key × Value)) (held : Held) (m : Machine) (pace : Pace) (d : DiskState) → held.runs.sizes ≡ sizes → StandsFor Rows opening held m pace d
+shows_all : {Rows : List (Option (List Row)) → Type 0} (sizes : Sizes) (opening : List (Key × Value)) (held : Held) (m : Machine) (d : DiskState) → held.runs.sizes ≡ sizes → StandsFor Rows opening held m d
     → ShowsAll sizes opening held.book.book.entries d
-shows_all sizes opening held m pace d same s =
-    let shown = shows_now opening held m pace d s in
+shows_all sizes opening held m d same s =
+    let shown = shows_now opening held m d s in
     record { reads = noted d.bytes shown.reads; each = λ c left. noted c (shown.each c left) }
   where
     noted : (file : List ℕ) → ShowsWhole opening m file → ShowsHistory sizes opening held.book.book.entries (length held.book.book.entries) file
@@ -59,8 +57,8 @@ shows_opening sizes opening history n file c shows reads here =
 
 -- Some calls led on from a store that was opened on a disk: what a crash leaves of them at each moment since the first.
 module _ {D : Type 0} (state : D → DiskState) (timed : (d : D) → IsTimed (state d)) (opening : List (Key × Value)) (calls : List (Step × CoreState D)) (first : DiskState) (old new : CoreState D)
-    (m : Machine) (pace : Pace) (none : old.held.book.book.entries ≡ []) (whole : StandsWhole state opening old m pace) (keeps : KeepsMapOf old.held.runs.sizes opening first (state old.disk))
-    (syncs : SyncsLater (state old.disk) (state new.disk)) (sizes_stand : new.held.runs.sizes ≡ old.held.runs.sizes) (steps : ChainIsSteps state opening calls old new m pace) where
+    (m : Machine) (none : old.held.book.book.entries ≡ []) (whole : StandsWhole state opening old m) (keeps : KeepsMapOf old.held.runs.sizes opening first (state old.disk))
+    (syncs : SyncsLater (state old.disk) (state new.disk)) (sizes_stand : new.held.runs.sizes ≡ old.held.runs.sizes) (steps : ChainIsSteps state opening calls old new m) where
   abbrev sizes : Sizes
   sizes = old.held.runs.sizes
 
@@ -68,7 +66,7 @@ module _ {D : Type 0} (state : D → DiskState) (timed : (d : D) → IsTimed (st
   entries = new.held.book.book.entries
 
   end : ShowsAll sizes opening entries (state new.disk)
-  end = shows_all sizes opening new.held (played m (outcomes_in steps.made)) (paced_all m pace (outcomes_in steps.made)) (state new.disk) sizes_stand steps.stands
+  end = shows_all sizes opening new.held (played m (outcomes_in steps.made)) (state new.disk) sizes_stand steps.stands
 
   noted : (played m (outcomes_in steps.made)).book.entries ≡ entries
   noted = ap (λ (b : BookState). b.book.entries) steps.stands.book
@@ -85,7 +83,7 @@ module _ {D : Type 0} (state : D → DiskState) (timed : (d : D) → IsTimed (st
   -- a file that reads as the map of the opening
   from_opening : (c : List ℕ) → ReadsAsMap sizes opening c → ShowsHistory sizes opening entries 0 c
   from_opening c reads =
-      let shows = shows_all sizes opening old.held m pace (state old.disk) refl whole in
+      let shows = shows_all sizes opening old.held m (state old.disk) refl whole in
       let grows : IsPrefix old.held.book.book.entries entries = (entries, ap (λ (es : List Entry). es ++ entries) none) in
       shows_opening sizes opening entries 0 (state old.disk).bytes c
       (showing_is_kept sizes opening old.held.book.book.entries entries (length old.held.book.book.entries) 0 (state old.disk).bytes grows (omega arith) shows.reads) keeps.reads reads

@@ -25,9 +25,7 @@ use Rattle.core_lists.specs.Shown.{HasCommitted, WeighsWithin, doubted, lanes_we
 use Rattle.core_lists.proofs.FileWeights.{running_is_sure}
 use Rattle.disk_trait.specs.Disk.{DiskState, GoesOn}
 use Rattle.disk_trait.specs.Moments.{IsTimed}
-use Rattle.paced_tree.specs.Kept.{paced_all}
 use Rattle.pacing.specs.Kept.{most_taken}
-use Rattle.pacing.specs.Pace.{Pace}
 use Rattle.recover_open.specs.Opening.{KeepsMapOf, OpensAs, most_opening_calls}
 use Rattle.tree_settling.specs.Settling.{CallsFew}
 use Rattle.record_delta.specs.Entries.{Entries, entries_weight}
@@ -91,17 +89,17 @@ opened_finds_none sizes c1 c2 catalogue faults room = record {
 -- ---- an end that was reached
 
 -- The core stands for this state of the machine in the end, which was reached from the opening; and no page was found damaged on the way.
-pub record Ends (opening : List (Key × Value)) (held : Held) (first : Machine) (m : Machine) (pace : Pace) (d : DiskState) : Type 0 where
-  pub stands : StandsFor AnyRows opening held m pace d
+pub record Ends (opening : List (Key × Value)) (held : Held) (first : Machine) (m : Machine) (d : DiskState) : Type 0 where
+  pub stands : StandsFor AnyRows opening held m d
   pub kept : KeepsOpening first m
   pub none : FindsNone m
 
-no_page_of : (opening : List (Key × Value)) (held : Held) (first m : Machine) (pace : Pace) (d : DiskState) (charge : ℕ) → Ends opening held first m pace d → finds_damage (run_at charge held) ≡ false
-no_page_of opening held first m pace d charge ends = grind (arith, common_steps, nat_tests, no_reply)
+no_page_of : (opening : List (Key × Value)) (held : Held) (first m : Machine) (d : DiskState) (charge : ℕ) → Ends opening held first m d → finds_damage (run_at charge held) ≡ false
+no_page_of opening held first m d charge ends = grind (arith, common_steps, nat_tests, no_reply)
 
-replies_of : (opening : List (Key × Value)) (held : Held) (first m : Machine) (pace : Pace) (d : DiskState) (sizes : Sizes) (charge : ℕ) → held.runs.sizes ≡ sizes → first.counts.charge ≡ charge
-    → Ends opening held first m pace d → IsLegal (limits_of sizes charge) opening held.book.book.entries
-replies_of opening held first m pace d sizes charge same is ends =
+replies_of : (opening : List (Key × Value)) (held : Held) (first m : Machine) (d : DiskState) (sizes : Sizes) (charge : ℕ) → held.runs.sizes ≡ sizes → first.counts.charge ≡ charge
+    → Ends opening held first m d → IsLegal (limits_of sizes charge) opening held.book.book.entries
+replies_of opening held first m d sizes charge same is ends =
     let legal = ends.stands.paced.stands.told.legal in
     let of_sizes = subst (λ (s : Sizes). IsLegal (limits_of s m.counts.charge) opening m.book.entries) (ends.stands.sizes ∙ same) legal in
     let of_charge = subst (λ (n : ℕ). IsLegal (limits_of sizes n) opening m.book.entries) (ends.kept.1 ∙ is) of_sizes in
@@ -111,10 +109,10 @@ totals_of : (held : Held) (m : Machine) → m.gears.sizes ≡ held.runs.sizes �
 totals_of held m sizes is book = grind (arith, common_steps, nat_tests)
 
 -- whether it runs or was stopped
-ended_of : (opening : List (Key × Value)) (held : Held) (first m : Machine) (pace : Pace) (d : DiskState) (sizes : Sizes) (charge : ℕ) → held.runs.sizes ≡ sizes → first.counts.charge ≡ charge
-    → Ends opening held first m pace d → EndsWithin sizes (run_at charge held) d.bytes
-ended_of opening held first m pace d sizes charge same is ends =
-    let weighs : WeighsWithin m m.book.entries d.bytes = (shows_now opening held m pace d ends.stands).reads.1 in
+ended_of : (opening : List (Key × Value)) (held : Held) (first m : Machine) (d : DiskState) (sizes : Sizes) (charge : ℕ) → held.runs.sizes ≡ sizes → first.counts.charge ≡ charge
+    → Ends opening held first m d → EndsWithin sizes (run_at charge held) d.bytes
+ended_of opening held first m d sizes charge same is ends =
+    let weighs : WeighsWithin m m.book.entries d.bytes = (shows_now opening held m d ends.stands).reads.1 in
     let one : m.gears.sizes ≡ sizes = ends.stands.sizes ∙ same in
     let all : sum m.seats.quanta ≡ sum (take callers m.seats.quanta) + sum (drop callers m.seats.quanta) = sym (sum_by-take-drop (λ n. n) m.seats.quanta callers) in
     let work : most_worked m ≡ charge + most_taken sizes * (sum (take callers m.seats.quanta) + sum (drop callers m.seats.quanta)) =
@@ -132,9 +130,9 @@ ended_of opening held first m pace d sizes charge same is ends =
     }
 
 -- how many commits it tells
-committed_of : (opening : List (Key × Value)) (held : Held) (first m : Machine) (pace : Pace) (d : DiskState) (sizes : Sizes) → held.runs.sizes ≡ sizes → Ends opening held first m pace d → HasCommitted sizes m.catalogue.version d
-committed_of opening held first m pace d sizes same ends =
-    subst (λ (z : Sizes). HasCommitted z m.catalogue.version d) (ends.stands.sizes ∙ same) (shows_now opening held m pace d ends.stands).commits
+committed_of : (opening : List (Key × Value)) (held : Held) (first m : Machine) (d : DiskState) (sizes : Sizes) → held.runs.sizes ≡ sizes → Ends opening held first m d → HasCommitted sizes m.catalogue.version d
+committed_of opening held first m d sizes same ends =
+    subst (λ (z : Sizes). HasCommitted z m.catalogue.version d) (ends.stands.sizes ∙ same) (shows_now opening held m d ends.stands).commits
 
 -- ---- from an opening on
 
@@ -142,11 +140,11 @@ committed_of opening held first m pace d sizes same ends =
 opened_charge : (sizes : Sizes) (c1 c2 : Entries) (catalogue : Catalogue) (faults : ℕ) (room : Room) (held : Held) → charge (opened sizes c1 c2 catalogue faults room) ≡ charge_in held → entries_weight c1 + entries_weight c2 ≡ charge_in held
 opened_charge sizes c1 c2 catalogue faults room held is = grind (arith, common_steps, nat_tests)
 
-ends_of : {D : Type 0} (state : D → DiskState) (opening : List (Key × Value)) (sizes : Sizes) (c1 c2 : Entries) (catalogue : Catalogue) (faults : ℕ) (room : Room) (pace : Pace) (steps : List Step) (old new : CoreState D)
-    → (play : IsPlayed state opening steps old new (opened sizes c1 c2 catalogue faults room) pace)
-    → Ends opening new.held (opened sizes c1 c2 catalogue faults room) (played (opened sizes c1 c2 catalogue faults room) play.made) (paced_all (opened sizes c1 c2 catalogue faults room) pace play.made) (state new.disk)
-ends_of state opening sizes c1 c2 catalogue faults room pace steps old new play = record {
-  stands = with_rows opening new.held _ _ _ (λ runs. tt) play.stands;
+ends_of : {D : Type 0} (state : D → DiskState) (opening : List (Key × Value)) (sizes : Sizes) (c1 c2 : Entries) (catalogue : Catalogue) (faults : ℕ) (room : Room) (steps : List Step) (old new : CoreState D)
+    → (play : IsPlayed state opening steps old new (opened sizes c1 c2 catalogue faults room))
+    → Ends opening new.held (opened sizes c1 c2 catalogue faults room) (played (opened sizes c1 c2 catalogue faults room) play.made) (state new.disk)
+ends_of state opening sizes c1 c2 catalogue faults room steps old new play = record {
+  stands = with_rows opening new.held _ _ (λ runs. tt) play.stands;
   kept = played_keeps (opened sizes c1 c2 catalogue faults room) play.made;
   none = none_damaged (opened sizes c1 c2 catalogue faults room) play.made (opened_finds_none sizes c1 c2 catalogue faults room) play.whole;
 }
@@ -161,26 +159,26 @@ pub record Session {D : Type 0} (state : D → DiskState) (room : Room) (lines :
   pub run : HasRun state lines old new
 
 -- what a core that runs stands for is in its file
-state_in : (held : Held) (m : Machine) (pace : Pace) (d : DiskState) (sizes : Sizes) → held.runs.sizes ≡ sizes → RunsOver held m pace d → HoldsState sizes m d.bytes
-state_in held m pace d sizes same over = record {
+state_in : (held : Held) (m : Machine) (d : DiskState) (sizes : Sizes) → held.runs.sizes ≡ sizes → RunsOver held m d → HoldsState sizes m d.bytes
+state_in held m d sizes same over = record {
   tree = over.tree;
   holds = subst (λ (s : Sizes). HoldsTree s over.tree d.bytes) same over.over.stands.reads;
   lists = over.holds.lists;
   catalogue = over.holds.catalogue ∙ ap catalogue_of (sym over.over.are_of.catalogue);
 }
 
-reached_of : {D : Type 0} (state : D → DiskState) (sizes : Sizes) (opening : List (Key × Value)) (c1 c2 : Entries) (catalogue : Catalogue) (faults : ℕ) (room : Room) (pace : Pace) (steps : List Step) (old new : CoreState D)
-    → old.held.runs.sizes ≡ sizes → old.held.book.stopped ≡ None → StandsWhole state opening old (opened sizes c1 c2 catalogue faults room) pace → faults ≡ (state old.disk).faults
-    → (play : IsPlayed state opening steps old new (opened sizes c1 c2 catalogue faults room) pace)
+reached_of : {D : Type 0} (state : D → DiskState) (sizes : Sizes) (opening : List (Key × Value)) (c1 c2 : Entries) (catalogue : Catalogue) (faults : ℕ) (room : Room) (steps : List Step) (old new : CoreState D)
+    → old.held.runs.sizes ≡ sizes → old.held.book.stopped ≡ None → StandsWhole state opening old (opened sizes c1 c2 catalogue faults room) → faults ≡ (state old.disk).faults
+    → (play : IsPlayed state opening steps old new (opened sizes c1 c2 catalogue faults room))
     → IsReached sizes opening (run_at (charge_in old.held) new.held) room (state old.disk).bytes faults (state new.disk).faults
-reached_of state sizes opening c1 c2 catalogue faults room pace steps old new of_sizes ran stands same play =
+reached_of state sizes opening c1 c2 catalogue faults room steps old new of_sizes ran stands same play =
     let first = opened sizes c1 c2 catalogue faults room in
     let over = stands.runs ran in
     record {
       c1 = c1;
       c2 = c2;
       catalogue = catalogue;
-      begins = state_in old.held first pace (state old.disk) sizes of_sizes over;
+      begins = state_in old.held first (state old.disk) sizes of_sizes over;
       values = λ key. stands.paced.stands.values key ∙ ap (λ (ws : List Write). value_at ws key) (append-nil (puts_of opening));
       weigh = opened_charge sizes c1 c2 catalogue faults room old.held stands.charge_is;
       made = play.made;
@@ -193,43 +191,43 @@ reached_of state sizes opening c1 c2 catalogue faults room pace steps old new of
     }
 
 -- what stands in the end, if the store runs
-stands_of : (opening : List (Key × Value)) (held : Held) (first m : Machine) (pace : Pace) (d : DiskState) (sizes : Sizes) → held.runs.sizes ≡ sizes → Ends opening held first m pace d → held.book.stopped ≡ None
+stands_of : (opening : List (Key × Value)) (held : Held) (first m : Machine) (d : DiskState) (sizes : Sizes) → held.runs.sizes ≡ sizes → Ends opening held first m d → held.book.stopped ≡ None
     → HoldsState sizes m d.bytes
-stands_of opening held first m pace d sizes same ends runs = state_in held m pace d sizes same (ends.stands.runs runs)
+stands_of opening held first m d sizes same ends runs = state_in held m d sizes same (ends.stands.runs runs)
 
 abbrev machine_of : {D : Type 0} → (D → DiskState) → Room → CoreState D → Entries → Entries → Catalogue → Machine
 machine_of state room core c1 c2 catalogue = opened core.held.runs.sizes c1 c2 catalogue (state core.disk).faults room
 
 served_from : {D : Type 0} (state : D → DiskState) (room : Room) (lines : List Line) (first : DiskState) (old new : CoreState D)
-    (c1 c2 : Entries) (catalogue : Catalogue) (pace : Pace) → (session : Session state room lines first old new)
-    → StandsWhole state session.opens.pairs old (machine_of state room old c1 c2 catalogue) pace
-    → (steps : List Step) → IsPlayed state session.opens.pairs steps old new (machine_of state room old c1 c2 catalogue) pace
+    (c1 c2 : Entries) (catalogue : Catalogue) → (session : Session state room lines first old new)
+    → StandsWhole state session.opens.pairs old (machine_of state room old c1 c2 catalogue)
+    → (steps : List Step) → IsPlayed state session.opens.pairs steps old new (machine_of state room old c1 c2 catalogue)
     → IsServed state old.held.runs.sizes (run_at (charge_in old.held) new.held) room first (state new.disk)
 unfolding reached_of
-served_from {D} state room lines first old new c1 c2 catalogue pace session whole steps play =
+served_from {D} state room lines first old new c1 c2 catalogue session whole steps play =
     let opens = session.opens in
     let sizes = old.held.runs.sizes in
     let before = state old.disk in
     let after = state new.disk in
     let machine = machine_of state room old c1 c2 catalogue in
     let since = session.run.since in
-    let ends = ends_of state opens.pairs sizes c1 c2 catalogue before.faults room pace steps old new play in
+    let ends = ends_of state opens.pairs sizes c1 c2 catalogue before.faults room steps old new play in
     let weigh = opened_charge sizes c1 c2 catalogue before.faults room old.held whole.charge_is in
     record {
       opening = opens.pairs;
       found = record { reads = opens.reads; image = opens.image; holds = opens.holds; taken = opens.taken };
       light = opens.light;
-      replies = replies_of opens.pairs new.held machine _ _ after sizes (charge_in old.held) since.sizes weigh ends;
-      no_page = no_page_of opens.pairs new.held machine _ _ after (charge_in old.held) ends;
+      replies = replies_of opens.pairs new.held machine _ after sizes (charge_in old.held) since.sizes weigh ends;
+      no_page = no_page_of opens.pairs new.held machine _ after (charge_in old.held) ends;
       opened = old.disk;
       starts = session.goes_on;
       calls = session.calls;
       goes_on = since.goes_on;
       calm = session.calm;
-      reached = reached_of state sizes opens.pairs c1 c2 catalogue before.faults room pace steps old new refl session.ran whole refl play;
-      within = ended_of opens.pairs new.held machine _ _ after sizes (charge_in old.held) since.sizes weigh ends;
-      commits = committed_of opens.pairs new.held machine _ _ after sizes since.sizes ends;
-      stands = λ runs. stands_of opens.pairs new.held machine _ _ after sizes since.sizes ends runs;
+      reached = reached_of state sizes opens.pairs c1 c2 catalogue before.faults room steps old new refl session.ran whole refl play;
+      within = ended_of opens.pairs new.held machine _ after sizes (charge_in old.held) since.sizes weigh ends;
+      commits = committed_of opens.pairs new.held machine _ after sizes since.sizes ends;
+      stands = λ runs. stands_of opens.pairs new.held machine _ after sizes since.sizes ends runs;
     }
 
 -- ---- on one thread
@@ -245,8 +243,8 @@ pub served_in_order : {D : Type 0} (state : D → DiskState) (room : Room) (line
 served_in_order {D} state room lines first old new honest session in_order alone disk same run is =
     let opens = session.opens in
     let honest_then = subst IsTrue (sym session.goes_on.is_honest) honest in
-    let come = session.run.since.come opens.pairs _ _ honest_then opens.stands in
-    let served = served_from state room lines first old new _ _ _ _ session opens.stands come.0 come.1 in
+    let come = session.run.since.come opens.pairs _ honest_then opens.stands in
+    let served = served_from state room lines first old new _ _ _ session opens.stands come.0 come.1 in
     let printed : IsRunInOrder old.held.runs.sizes lines (run_at (charge_in old.held) new.held) = record {
       printed = is_run_of state lines 0 0 old new session.run (omega (arith, alone));
       in_order = in_order;
@@ -257,9 +255,9 @@ served_in_order {D} state room lines first old new honest session in_order alone
 -- ---- on threads
 
 -- the calls of a chain are steps that were played
-abbrev as_played : {D : Type 0} (state : D → DiskState) (opening : List (Key × Value)) (calls : List (Step × CoreState D)) (old new : CoreState D) (m : Machine) (pace : Pace)
-    → (steps : ChainIsSteps state opening calls old new m pace) → IsPlayed state opening (map (λ one. one.0) (outcomes_in steps.made)) old new m pace
-as_played state opening calls old new m pace steps = record {
+abbrev as_played : {D : Type 0} (state : D → DiskState) (opening : List (Key × Value)) (calls : List (Step × CoreState D)) (old new : CoreState D) (m : Machine)
+    → (steps : ChainIsSteps state opening calls old new m) → IsPlayed state opening (map (λ one. one.0) (outcomes_in steps.made)) old new m
+as_played state opening calls old new m steps = record {
   made = outcomes_in steps.made;
   steps_are = refl;
   told = steps.told;
@@ -274,34 +272,34 @@ its_steps [] = refl
 its_steps (one ∷ made) = ap (λ (ss : List Step). one.0 ∷ ss) (its_steps made)
 
 -- how they ended is told of the machine as of the core
-ended_as : {D : Type 0} (state : D → DiskState) (opening : List (Key × Value)) (lines : List Line) (workers turns : ℕ) (old new : CoreState D) (m : Machine) (pace : Pace)
-    → RunsAll state lines workers turns old new → StandsWhole state opening new m pace → HaveEnded workers turns m.gears (book_of m)
-ended_as state opening lines workers turns old new m pace runs stands =
+ended_as : {D : Type 0} (state : D → DiskState) (opening : List (Key × Value)) (lines : List Line) (workers turns : ℕ) (old new : CoreState D) (m : Machine)
+    → RunsAll state lines workers turns old new → StandsWhole state opening new m → HaveEnded workers turns m.gears (book_of m)
+ended_as state opening lines workers turns old new m runs stands =
     subst (λ (g : GearState). HaveEnded workers turns g (book_of m)) (sym stands.gears)
     (subst (λ (b : BookState). HaveEnded workers turns new.held.gears b) (sym stands.book) (came_to_end state lines workers turns old new runs))
 
 headline_from : {D : Type 0} (state : D → DiskState) (timed : (d : D) → IsTimed (state d)) (room : Room) (lines : List Line) (workers turns : ℕ) (first : DiskState) (old new : CoreState D)
-    (c1 c2 : Entries) (catalogue : Catalogue) (pace : Pace) → (session : Session state room lines first old new) → old.held.book.book.entries ≡ []
+    (c1 c2 : Entries) (catalogue : Catalogue) → (session : Session state room lines first old new) → old.held.book.book.entries ≡ []
     → KeepsMapOf old.held.runs.sizes session.opens.pairs first (state old.disk)
-    → StandsWhole state session.opens.pairs old (machine_of state room old c1 c2 catalogue) pace
-    → (runs : RunsAll state lines workers turns old new) → ChainIsSteps state session.opens.pairs runs.came.calls old new (machine_of state room old c1 c2 catalogue) pace
+    → StandsWhole state session.opens.pairs old (machine_of state room old c1 c2 catalogue)
+    → (runs : RunsAll state lines workers turns old new) → ChainIsSteps state session.opens.pairs runs.came.calls old new (machine_of state room old c1 c2 catalogue)
     → sum (drop callers new.held.book.seats.quanta) ≤ helps_in (steps_of runs.came.calls)
     → (((seat : ℕ) → callers ≤ seat → seat < seats → turns_in seat new.held.book ≡ 0) → helps_in (steps_of runs.came.calls) ≡ 0)
     → Headline state old.held.runs.sizes lines workers turns (run_at (charge_in old.held) new.held) room first (state new.disk)
 unfolding reached_of served_from
-headline_from {D} state timed room lines workers turns first old new c1 c2 catalogue pace session none map_kept whole runs steps few rests =
+headline_from {D} state timed room lines workers turns first old new c1 c2 catalogue session none map_kept whole runs steps few rests =
     let opens = session.opens in
     let machine = machine_of state room old c1 c2 catalogue in
-    let play = as_played state opens.pairs runs.came.calls old new machine pace steps in
-    let served = served_from state room lines first old new c1 c2 catalogue pace session whole (map (λ one. one.0) (outcomes_in steps.made)) play in
-    let ended = ended_as state opens.pairs lines workers turns old new _ _ runs steps.stands in
+    let play = as_played state opens.pairs runs.came.calls old new machine steps in
+    let served = served_from state room lines first old new c1 c2 catalogue session whole (map (λ one. one.0) (outcomes_in steps.made)) play in
+    let ended = ended_as state opens.pairs lines workers turns old new _ runs steps.stands in
     record {
       served = served;
       ended = ended;
       solo = solo_of served.reached lines workers turns runs.of_script ended
           (λ (alone : workers ≡ 0). ap helps_in (its_steps steps.made ∙ steps.steps_are) ∙ rests (λ seat above below. (runs.rested seat (omega (arith, alone, above)) below).0));
       helped = subst (λ (ss : List Step). sum (drop callers new.held.book.seats.quanta) ≤ helps_in ss) (sym (its_steps steps.made ∙ steps.steps_are)) few;
-      crashes = leaves_history state timed opens.pairs runs.came.calls first old new machine pace none whole map_kept session.run.effect.syncs session.run.since.sizes steps (run_at (charge_in old.held) new.held) refl;
+      crashes = leaves_history state timed opens.pairs runs.came.calls first old new machine none whole map_kept session.run.effect.syncs session.run.since.sizes steps (run_at (charge_in old.held) new.held) refl;
     }
 
 -- what is printed, with the headline
@@ -311,13 +309,13 @@ RunAndHeadline state lines workers turns room run first last = (sizes : Sizes) �
 pub whole_headline : {D : Type 0} (state : D → DiskState) (timed : (d : D) → IsTimed (state d)) (room : Room) (lines : List Line) (workers turns : ℕ) (first : DiskState)
     (old new : CoreState D) → (session : Session state room lines first old new) → old.held.book.book.entries ≡ []
     → KeepsMapOf old.held.runs.sizes session.opens.pairs first (state old.disk) → (runs : RunsAll state lines workers turns old new)
-    → ((opening : List (Key × Value)) (m : Machine) (pace : Pace) → StandsWhole state opening old m pace → ChainIsSteps state opening runs.came.calls old new m pace)
+    → ((opening : List (Key × Value)) (m : Machine) → StandsWhole state opening old m → ChainIsSteps state opening runs.came.calls old new m)
     → sum (drop callers new.held.book.seats.quanta) ≤ helps_in (steps_of runs.came.calls)
     → (((seat : ℕ) → callers ≤ seat → seat < seats → turns_in seat new.held.book ≡ 0) → helps_in (steps_of runs.came.calls) ≡ 0)
     → (disk : D) → disk ≡ new.disk → (run : Run) → run ≡ run_at (charge_in old.held) new.held → RunAndHeadline state lines workers turns room run first (state disk)
 whole_headline {D} state timed room lines workers turns first old new session none map_kept runs steps few rests disk same run is =
     let opens = session.opens in
-    let headline = headline_from state timed room lines workers turns first old new _ _ _ _ session none map_kept opens.stands runs (steps opens.pairs _ _ opens.stands) few rests in
+    let headline = headline_from state timed room lines workers turns first old new _ _ _ session none map_kept opens.stands runs (steps opens.pairs _ opens.stands) few rests in
     let printed = is_run_of state lines workers turns old new session.run (workers_took state lines workers turns old new runs) in
     subst (λ (r : Run). RunAndHeadline state lines workers turns room r first (state disk)) (sym is)
     (subst (λ (d : D). RunAndHeadline state lines workers turns room (run_at (charge_in old.held) new.held) first (state d)) (sym same) (old.held.runs.sizes, printed, headline))

@@ -63,22 +63,22 @@ room_for b seat op h1 begun = grind (arith, common_steps, nat_tests)
 
 module _ {D : Type 0} (state : D → DiskState) (seat : ℕ) (op : Op) (old : CoreState D) (core : IsCore old.held (state old.disk)) (timed : IsTimed (state old.disk)) (can : may_in old.held seat (kind.Admit op) ≡ true)
     (room : may_note_in seat 0 old.held.book ≡ true) (fits : WritesFit (kind.Admit op)) where
-  asked_by : (opening : List (Key × Value)) (m : Machine) (pace : Pace) → IsTrue (state old.disk).is_honest → StandsFor AnyRows opening old.held m pace (state old.disk) → may m seat (kind.Admit op) ≡ true → IsAsked opening seat op old.held m pace (state old.disk)
-  asked_by opening m pace honest s ok = record { honest = honest; timed = timed; stands = s; may = ok; fits = fits }
+  asked_by : (opening : List (Key × Value)) (m : Machine) → IsTrue (state old.disk).is_honest → StandsFor AnyRows opening old.held m (state old.disk) → may m seat (kind.Admit op) ≡ true → IsAsked opening seat op old.held m (state old.disk)
+  asked_by opening m honest s ok = record { honest = honest; timed = timed; stands = s; may = ok; fits = fits }
 
   -- ---- only an entry is noted
 
   refuses : (answer : Admission) → ((pace : Pace) → IsReplied (reply_to_write answer) seat op pace pace) → is_done (reply_to_write answer) ≡ false → HasRoom old.held.book.book.room (record { seat = seat; op = op; reply = reply_to_write answer })
       → AdmitsBecause answer seat op old.held (with_book (noted_in seat op (reply_to_write answer) old.held.book) old.held) (state old.disk) (state old.disk)
       → HasBegun answer old.held (with_book (noted_in seat op (reply_to_write answer) old.held.book) old.held)
-      → ((opening : List (Key × Value)) (m : Machine) (pace : Pace) → IsAsked opening seat op old.held m pace (state old.disk)
-      → IsStep AnyRows opening seat (kind.Admit op) (Replied (reply_to_write answer)) (with_book (noted_in seat op (reply_to_write answer) old.held.book) old.held) (state old.disk) (state old.disk) m pace)
+      → ((opening : List (Key × Value)) (m : Machine) → IsAsked opening seat op old.held m (state old.disk)
+      → IsStep AnyRows opening seat (kind.Admit op) (Replied (reply_to_write answer)) (with_book (noted_in seat op (reply_to_write answer) old.held.book) old.held) (state old.disk) (state old.disk) m)
       → Admits state seat op answer old (record old { held = with_book (noted_in seat op (reply_to_write answer) old.held.book) old.held })
   refuses answer made undone has because begun steps =
       let reply = reply_to_write answer in
       let b = noted_in seat op reply old.held.book in
       let goes = goes_on_by {end = 0} {most = 0} state seat (kind.Admit op) (Replied reply) old (record old { held = with_book b old.held }) core timed refl can (record { holds = refl; pins = refl; sizes = refl }) (no_commits old.held (with_book b old.held) refl refl) (affects_start (state old.disk) timed) (quiet_follows seat op reply old.held)
-      (λ pace holds. refused_moves seat op reply old.held pace (state old.disk) b (made pace) undone has refl holds) (λ opening m pace honest s ok. steps opening m pace (asked_by opening m pace honest s ok)) in
+      (λ pace holds. refused_moves seat op reply old.held pace (state old.disk) b (made pace) undone has refl holds) (λ opening m honest s ok. steps opening m (asked_by opening m honest s ok)) in
       record {
         goes = goes.0;
         beside = goes.1;
@@ -91,14 +91,14 @@ module _ {D : Type 0} (state : D → DiskState) (seat : ℕ) (op : Op) (old : Co
 
   pub admit_stopped : (why : Why) (b : BookState) → old.held.book.stopped ≡ Some why → b ≡ noted_in seat op (Stopped why) old.held.book → Admits state seat op (admission.Stopped why) old (record old { held = with_book b old.held })
   admit_stopped why b stopped is = subst (λ (x : BookState). Admits state seat op (admission.Stopped why) old (record old { held = with_book x old.held })) (sym is)
-      (refuses (admission.Stopped why) (λ pace. refl) refl (note_has_room old.held.book seat 0 op (Stopped why) room (omega arith)) (stopped, refl) tt (λ opening m pace asked. stopped_steps opening seat op old.held m pace (state old.disk) asked why stopped))
+      (refuses (admission.Stopped why) (λ pace. refl) refl (note_has_room old.held.book seat 0 op (Stopped why) room (omega arith)) (stopped, refl) tt (λ opening m asked. stopped_steps opening seat op old.held m (state old.disk) asked why stopped))
 
   pub admit_full : (charge : ℕ) (b : BookState) → old.held.book.stopped ≡ None → charge ≡ charge_in old.held → charge_limit old.held.runs.sizes (is_del op) < charge_in old.held + total_weight (writes_of op) → b ≡ noted_in seat op (Full charge) old.held.book
       → Admits state seat op (admission.Full charge) old (record old { held = with_book b old.held })
   admit_full charge b ran charge_is past is = subst (λ (x : BookState). Admits state seat op (admission.Full charge) old (record old { held = with_book x old.held })) (sym is)
       (subst (λ (n : ℕ). Admits state seat op (admission.Full n) old (record old { held = with_book (noted_in seat op (Full n) old.held.book) old.held })) (sym charge_is)
       (refuses (admission.Full (charge_in old.held)) (λ pace. refl) refl (note_has_room old.held.book seat 0 op (Full (charge_in old.held)) room (omega arith)) (ran, refl, past, refl) tt
-      (λ opening m pace asked. full_steps opening seat op old.held m pace (state old.disk) asked ran past)))
+      (λ opening m asked. full_steps opening seat op old.held m (state old.disk) asked ran past)))
 
   -- ---- the write is taken, or a call of the disk fails
 
@@ -107,8 +107,8 @@ module _ {D : Type 0} (state : D → DiskState) (seat : ℕ) (op : Op) (old : Co
     -- how it was taken says what it left
     abbrev LeavesOver : Taking → Type 0
     LeavesOver taking =
-        (opening : List (Key × Value)) (m : Machine) (pace : Pace) → IsTrue (state old.disk).is_honest → StandsFor AnyRows opening old.held m pace (state old.disk) → old.held.book.stopped ≡ None → may m seat (kind.Admit op) ≡ true → WritesFit (kind.Admit op)
-        → TakesOver taking opening seat op m pace new (state old.disk) (state disk)
+        (opening : List (Key × Value)) (m : Machine) → IsTrue (state old.disk).is_honest → StandsFor AnyRows opening old.held m (state old.disk) → old.held.book.stopped ≡ None → may m seat (kind.Admit op) ≡ true → WritesFit (kind.Admit op)
+        → TakesOver taking opening seat op m new (state old.disk) (state disk)
 
     pub admit_taken : is_write op ≡ true → Takes Taken seat (key_of write) (record_of write) old.held new (state disk) → (state disk).faults ≡ (state old.disk).faults → LeavesOver Taken → b ≡ noted_in seat op Done new.book
         → Admits state seat op admission.Admitted old (record { disk = disk; held = with_book b new; holds = old.holds })
@@ -119,9 +119,9 @@ module _ {D : Type 0} (state : D → DiskState) (seat : ℕ) (op : Op) (old : Co
         let moved = moves core.pace core.holds in
         let live = (moved.holds.live (keeps.stopped ∙ ran)).paced in
         let goes = goes_on_by state seat (kind.Admit op) (Replied Done) old (record { disk = disk; held = with_book (noted_in seat op Done new.book) new; holds = old.holds }) core later refl can (record { holds = refl; pins = pins.pins; sizes = pins.sizes }) pins.commits effect (taken_follows seat op (key_of write) (record_of write) old.held new (state disk) takes) moves
-        (λ opening m pace honest s ok.
-        let left = lists opening m pace honest s ran ok fits in
-        taken_steps opening seat op old.held m pace (state old.disk) (asked_by opening m pace honest s ok) ran may_write.room new (state disk) moved.next left.0 (keeps.stopped ∙ ran) live.numbers live.one.gears left.1) in
+        (λ opening m honest s ok.
+        let left = lists opening m honest s ran ok fits in
+        taken_steps opening seat op old.held m (state old.disk) (asked_by opening m honest s ok) ran may_write.room new (state disk) moved.next left.0 (keeps.stopped ∙ ran) live.numbers live.one.gears left.1) in
         subst (λ (x : BookState). Admits state seat op admission.Admitted old (record { disk = disk; held = with_book x new; holds = old.holds })) (sym is)
         (record {
           goes = goes.0;
@@ -142,7 +142,7 @@ module _ {D : Type 0} (state : D → DiskState) (seat : ℕ) (op : Op) (old : Co
         let pins = taking_keeps_pins (Failed begun) seat (key_of write) (record_of write) old.held new (state disk) takes in
         let goes = goes_on_by state seat (kind.Admit op) (Replied reply) old (record { disk = disk; held = with_book (noted_in seat op reply (stopped_in why new.book)) new; holds = old.holds }) core later refl can (record { holds = refl; pins = pins.pins; sizes = pins.sizes }) pins.commits effect (failed_follows begun seat op reply why (key_of write) (record_of write) old.held new (state disk) takes)
         (λ pace holds. failed_moves begun seat op write why old.held new pace (state disk) writes (holds.live ran).paced (room_for old.held.book seat op room) takes)
-        (λ opening m pace honest s ok. failed_steps opening seat op old.held m pace (state old.disk) (asked_by opening m pace honest s ok) ran may_write.room (state disk) effect.goes_on.faults few risen new begun later (lists opening m pace honest s ran ok fits)) in
+        (λ opening m honest s ok. failed_steps opening seat op old.held m (state old.disk) (asked_by opening m honest s ok) ran may_write.room (state disk) effect.goes_on.faults few risen new begun later (lists opening m honest s ran ok fits)) in
         subst (λ (x : BookState). Admits state seat op (admission.Fault begun) old (record { disk = disk; held = with_book x new; holds = old.holds })) (sym is)
         (record {
           goes = goes.0;

@@ -28,7 +28,8 @@ use Rattle.disk_trait.specs.Disk.{DiskState}
 use Rattle.disk_trait.specs.Moments.{IsTimed, LeavesOnly}
 use Rattle.disk_trait.proofs.MomentLemmas.{leaves_only_weaken, leaves_only_now}
 use Rattle.pacing.specs.Pace.{Pace}
-use Rattle.paced_tree.specs.After.{pace_after}
+use Rattle.paced_tree.specs.Numbers.{pace_of}
+use Rattle.pacing.specs.Fronts.{AreFronts}
 use Rattle.paced_tree.specs.Kept.{IsPacedTree}
 use Rattle.paced_tree.proofs.Promises.{has_way, step_is_paced}
 use Rattle.seat_book.specs.State.{BookState, noted_in, stopped_in}
@@ -111,8 +112,8 @@ stopped_tells : (seat : ℕ) (op : Op) (reply : Reply) (why : Why) (held : Held)
     → TellsOf (with_book (noted_in seat op reply (stopped_in why held.book)) held) (note seat op reply (stop why m))
 stopped_tells seat op reply why held m tells = grind (arith, common_steps, nat_tests)
 
-standing_tells : (opening : List (Key × Value)) (held : Held) (m : Machine) (pace : Pace) (d : DiskState) → StandsFor AnyRows opening held m pace d → TellsOf held m
-standing_tells opening held m pace d stands = record { sizes = stands.sizes; gears = stands.gears; book = stands.book; charge_is = stands.charge_is }
+standing_tells : (opening : List (Key × Value)) (held : Held) (m : Machine) (d : DiskState) → StandsFor AnyRows opening held m d → TellsOf held m
+standing_tells opening held m d stands = record { sizes = stands.sizes; gears = stands.gears; book = stands.book; charge_is = stands.charge_is }
 
 -- ---- failures, as the machine has them
 
@@ -128,21 +129,15 @@ append_lost seat op w faults m = grind (arith, common_steps, nat_tests)
 
 -- ---- the step
 
-stopped_pace : (seat : ℕ) (op : Op) (why : Why) (m : Machine) (pace : Pace) → m.stopped ≡ Some why → pace_after m pace seat (kind.Admit op) Well ≡ pace
-stopped_pace seat op why m pace stops = grind (arith, common_steps, nat_tests)
-
-full_pace : (seat : ℕ) (op : Op) (m : Machine) (pace : Pace) → m.stopped ≡ None → charge_limit m.gears.sizes (is_del op) < charge m + total_weight (writes_of op) → pace_after m pace seat (kind.Admit op) Well ≡ pace
-full_pace seat op m pace runs past = grind (arith, common_steps, nat_tests)
-
 -- an admission that may be made
-pub record IsAsked (opening : List (Key × Value)) (seat : ℕ) (op : Op) (held : Held) (m : Machine) (pace : Pace) (d : DiskState) : Type 0 where
+pub record IsAsked (opening : List (Key × Value)) (seat : ℕ) (op : Op) (held : Held) (m : Machine) (d : DiskState) : Type 0 where
   pub honest : IsTrue d.is_honest
   pub timed : IsTimed d
-  pub stands : StandsFor AnyRows opening held m pace d
+  pub stands : StandsFor AnyRows opening held m d
   pub may : IsTrue (may m seat (kind.Admit op))
   pub fits : WritesFit (kind.Admit op)
 
-module _ (opening : List (Key × Value)) (seat : ℕ) (op : Op) (held : Held) (m : Machine) (pace : Pace) (d : DiskState) (is : IsAsked opening seat op held m pace d) where
+module _ (opening : List (Key × Value)) (seat : ℕ) (op : Op) (held : Held) (m : Machine) (d : DiskState) (is : IsAsked opening seat op held m d) where
   abbrev w : ℕ
   w = total_weight (writes_of op)
 
@@ -154,16 +149,16 @@ module _ (opening : List (Key × Value)) (seat : ℕ) (op : Op) (held : Held) (m
 
   step_by : (outcome : Outcome) (reply : Reply) (s : Machine) (new : Held) (after : DiskState) → admit m seat op outcome ≡ record { state = s; answer = Replied reply }
       → IsPossible m seat asked outcome d.faults after.faults → is_broken outcome ≡ false → TellsOf new s
-      → (new.book.stopped ≡ None → RunsOver new s (pace_after m pace seat asked outcome) after) → (IsSome new.book.stopped → HasStopped opening s after)
-      → LeavesOnly d after (ShowsHistory m.gears.sizes opening s.book.entries (length m.book.entries)) → IsStep AnyRows opening seat asked (Replied reply) new d after m pace
+      → (new.book.stopped ≡ None → RunsOver new s after) → (IsSome new.book.stopped → HasStopped opening s after)
+      → LeavesOnly d after (ShowsHistory m.gears.sizes opening s.book.entries (length m.book.entries)) → IsStep AnyRows opening seat asked (Replied reply) new d after m
   step_by outcome reply s new after same possible whole tells runs stopped images = record {
     outcome = outcome;
     possible = possible;
     whole = whole;
-    stands = subst (λ (st : Stepped). StandsFor AnyRows opening new st.state (pace_after m pace seat asked outcome) after) (sym same)
+    stands = subst (λ (st : Stepped). StandsFor AnyRows opening new st.state after) (sym same)
         (record {
-          paced = subst (λ (st : Stepped). IsPacedTree opening st.state (pace_after m pace seat asked outcome)) same
-              (step_is_paced opening m pace (record { seat = seat; kind = asked }) outcome is.stands.paced is.may is.fits);
+          paced = subst (λ (st : Stepped). IsPacedTree opening st.state) same
+              (step_is_paced opening m (record { seat = seat; kind = asked }) outcome is.stands.paced is.may is.fits);
           sizes = tells.sizes;
           gears = tells.gears;
           book = tells.book;
@@ -180,19 +175,19 @@ module _ (opening : List (Key × Value)) (seat : ℕ) (op : Op) (held : Held) (m
   stop_is = ap (λ (b : BookState). b.stopped) is.stands.book
 
   tells : TellsOf held m
-  tells = standing_tells opening held m pace d is.stands
+  tells = standing_tells opening held m d is.stands
 
-  -- It only notes an entry that counts no write, and the pace stays.
-  notes_alone : (reply : Reply) → pace_after m pace seat asked Well ≡ pace → admit m seat op Well ≡ replied seat op reply m → is_done reply ≡ false → is_unsure reply ≡ false
-      → IsStep AnyRows opening seat asked (Replied reply) (with_book (noted_in seat op reply held.book) held) d d m pace
-  notes_alone reply same_pace same undone sure =
-      quiet_step {end = 0} {most = 0} opening seat asked Well (Replied reply) held held.runs.space (noted_in seat op reply held.book) m (note seat op reply m) pace (only_reads_start d is.timed) is.honest is.stands is.may is.fits tt refl same_pace same
+  -- It only notes an entry that counts no write.
+  notes_alone : (reply : Reply) → admit m seat op Well ≡ replied seat op reply m → is_done reply ≡ false → is_unsure reply ≡ false
+      → IsStep AnyRows opening seat asked (Replied reply) (with_book (noted_in seat op reply held.book) held) d d m
+  notes_alone reply same undone sure =
+      quiet_step {end = 0} {most = 0} opening seat asked Well (Replied reply) held held.runs.space (noted_in seat op reply held.book) m (note seat op reply m) (only_reads_start d is.timed) is.honest is.stands is.may is.fits tt refl same
       (record { same = record { lists = refl; merges = refl; gears = refl; spring = refl; catalogue = refl }; counts = record { charge = refl; peak = refl; quanta = refl }; book = ap (noted_in seat op reply) is.stands.book; stopped = refl; noted = inr (entry opening seat op m reply, refl, quiet_entry_counts_none (entry opening seat op m reply) (inr (undone, sure))) })
       (λ tree table file of. of) (λ none. tt)
 
   -- a store that is stopped only notes that it is
-  pub stopped_steps : (why : Why) → held.book.stopped ≡ Some why → IsStep AnyRows opening seat asked (Replied (Stopped why)) (with_book (noted_in seat op (Stopped why) held.book) held) d d m pace
-  stopped_steps why stop = notes_alone (Stopped why) (stopped_pace seat op why m pace (stop_is ∙ stop))
+  pub stopped_steps : (why : Why) → held.book.stopped ≡ Some why → IsStep AnyRows opening seat asked (Replied (Stopped why)) (with_book (noted_in seat op (Stopped why) held.book) held) d d m
+  stopped_steps why stop = notes_alone (Stopped why)
       (ap (λ (o : Option Why). unless_stopped o seat op m (cond (nat_lt limit (charge m + w)) (replied seat op (Full (charge m)) m) (admit_fitting m seat op w Well))) (stop_is ∙ stop)) refl refl
 
   -- ---- while it runs
@@ -204,24 +199,24 @@ module _ (opening : List (Key × Value)) (seat : ℕ) (op : Op) (held : Held) (m
     runs : m.stopped ≡ None
     runs = stop_is ∙ ran
 
-    over : RunsOver held m pace d
+    over : RunsOver held m d
     over = is.stands.runs ran
 
     at : IsAt held over.tree m d.bytes
     at = record { are_of = over.over.are_of; holds = over.holds }
 
     shows_now : (file : List ℕ) → HoldsTree held.runs.sizes over.tree file → ShowsWhole opening m file
-    shows_now file holds = standing_shows opening m pace over.fronts over.tree file is.stands.paced over.within over.holds.lists over.lanes (subst (λ (z : Sizes). HoldsTree z over.tree file) (sym is.stands.sizes) holds)
+    shows_now file holds = standing_shows opening m over.fronts over.tree file is.stands.paced over.within over.holds.lists over.lanes (subst (λ (z : Sizes). HoldsTree z over.tree file) (sym is.stands.sizes) holds)
 
-    full_here : limit < charge m + w → IsStep AnyRows opening seat asked (Replied (Full (charge m))) (noted (Full (charge m))) d d m pace
-    full_here past = notes_alone (Full (charge m)) (full_pace seat op m pace runs past)
+    full_here : limit < charge m + w → IsStep AnyRows opening seat asked (Replied (Full (charge m))) (noted (Full (charge m))) d d m
+    full_here past = notes_alone (Full (charge m))
         (ap (λ (o : Option Why). unless_stopped o seat op m (cond (nat_lt limit (charge m + w)) (replied seat op (Full (charge m)) m) (admit_fitting m seat op w Well))) runs
         ∙ ap (λ (b : Bool). cond b (replied seat op (Full (charge m)) m) (admit_fitting m seat op w Well)) (lt-ltb limit (charge m + w) past)) refl refl
 
     -- a write that is refused for its size
-    pub full_steps : charge_limit held.runs.sizes (is_del op) < charge_in held + w → IsStep AnyRows opening seat asked (Replied (Full (charge_in held))) (noted (Full (charge_in held))) d d m pace
+    pub full_steps : charge_limit held.runs.sizes (is_del op) < charge_in held + w → IsStep AnyRows opening seat asked (Replied (Full (charge_in held))) (noted (Full (charge_in held))) d d m
     full_steps past =
-        subst (λ (n : ℕ). IsStep AnyRows opening seat asked (Replied (Full n)) (noted (Full n)) d d m pace) is.stands.charge_is
+        subst (λ (n : ℕ). IsStep AnyRows opening seat asked (Replied (Full n)) (noted (Full n)) d d m) is.stands.charge_is
         (full_here (subst (λ (n : ℕ). limit < n + w) (sym is.stands.charge_is) (subst (λ (z : Sizes). charge_limit z (is_del op) < charge_in held + w) (sym is.stands.sizes) past)))
 
     -- ---- and there is room
@@ -246,7 +241,7 @@ module _ (opening : List (Key × Value)) (seat : ℕ) (op : Op) (held : Held) (m
             → ((c : List ℕ) → after.images c → ShowsNoted opening seat op reply m c)
             → ShowsNoted opening seat op reply m after.bytes → CommitsAs later after
             → LeavesOnly d after (ShowsHistory m.gears.sizes opening (history_with seat op reply m) (length m.book.entries))
-            → IsStep AnyRows opening seat asked (Replied reply) (stopped reply) d after m pace
+            → IsStep AnyRows opening seat asked (Replied reply) (stopped reply) d after m
         fails_by reply commits later same few left_tells sizes book counts each reads committed images =
             step_by (FailedAfter commits after.faults) reply (note seat op reply (stop why later)) (stopped reply) after
             (admission_fits m seat op (FailedAfter commits after.faults) runs room_here ∙ same)
@@ -260,7 +255,7 @@ module _ (opening : List (Key × Value)) (seat : ℕ) (op : Op) (held : Held) (m
             (images_after opening seat op m reply later d after book images)
 
         -- a swap failed
-        lost_steps : IsTimed after → HasLost m left after → LeavesOnly d after (ShowsWhole opening m) → ShowsWhole opening m after.bytes → IsStep AnyRows opening seat asked (Replied FaultLost) (stopped FaultLost) d after m pace
+        lost_steps : IsTimed after → HasLost m left after → LeavesOnly d after (ShowsWhole opening m) → ShowsWhole opening m after.bytes → IsStep AnyRows opening seat asked (Replied FaultLost) (stopped FaultLost) d after m
         lost_steps timed lost images reads = ⊎_elim
             (λ deep. by 0 m (deep_lost seat op w after.faults m deep.1) (omega arith) deep.0 refl refl (counts_itself m) deep.2)
             (λ pass.
@@ -269,7 +264,7 @@ module _ (opening : List (Key × Value)) (seat : ℕ) (op : Op) (held : Held) (m
             lost
           where
             by : (commits : ℕ) (later : Machine) → admit_fitting m seat op w (FailedAfter commits after.faults) ≡ replied seat op FaultLost (stop why later) → commits ≤ swaps_due m
-                → TellsOf left later → later.gears.sizes ≡ m.gears.sizes → later.book ≡ m.book → CountsAs m later → CommitsAs later after → IsStep AnyRows opening seat asked (Replied FaultLost) (stopped FaultLost) d after m pace
+                → TellsOf left later → later.gears.sizes ≡ m.gears.sizes → later.book ≡ m.book → CountsAs m later → CommitsAs later after → IsStep AnyRows opening seat asked (Replied FaultLost) (stopped FaultLost) d after m
             by commits later same few left_tells sizes book counts committed =
                 fails_by FaultLost commits later same few left_tells sizes book counts
                 (λ c here. noted_whole opening seat op m FaultLost c refl refl (leaves_only_now timed images c here))
@@ -280,22 +275,22 @@ module _ (opening : List (Key × Value)) (seat : ℕ) (op : Op) (held : Held) (m
         unsure_steps : TellsOf left (ready_for w m) → LeavesOnly d after (ShowsHistory m.gears.sizes opening (history_with seat op FaultUnsure m) (length m.book.entries))
             → ((c : List ℕ) → after.images c → ShowsNoted opening seat op FaultUnsure m c)
             → ShowsNoted opening seat op FaultUnsure m after.bytes → CommitsAs (ready_for w m) after
-            → IsStep AnyRows opening seat asked (Replied FaultUnsure) (stopped FaultUnsure) d after m pace
+            → IsStep AnyRows opening seat asked (Replied FaultUnsure) (stopped FaultUnsure) d after m
         unsure_steps left_tells images each reads committed =
-            let carries = ready_carries w m is.stands.paced.stands.sound (has_way opening m pace is.stands.paced) in
+            let carries = ready_carries w m is.stands.paced.stands.sound (has_way opening m is.stands.paced) in
             fails_by FaultUnsure (swaps_due m) (ready_for w m) (append_lost seat op w after.faults m) (omega arith) left_tells carries.sizes carries.book (ready_counts w m) each reads committed images
 
         -- a call failed
-        pub failed_steps : (begun : Bool) → IsTimed after → TakesOver (Failed begun) opening seat op m pace left d after
-            → IsStep AnyRows opening seat asked (Replied (cond begun FaultUnsure FaultLost)) (stopped (cond begun FaultUnsure FaultLost)) d after m pace
+        pub failed_steps : (begun : Bool) → IsTimed after → TakesOver (Failed begun) opening seat op m left d after
+            → IsStep AnyRows opening seat asked (Replied (cond begun FaultUnsure FaultLost)) (stopped (cond begun FaultUnsure FaultLost)) d after m
         failed_steps true timed taken = unsure_steps taken.0 taken.1 taken.2 taken.3 taken.4
         failed_steps false timed taken = lost_steps timed taken.0 taken.1 taken.2
 
       -- the write was taken
-      pub taken_steps : (new : Held) (after : DiskState) (numbers : Pace) → TakenOver opening seat op m pace new after → new.book.stopped ≡ None
+      pub taken_steps : (new : Held) (after : DiskState) (numbers : Pace) → TakenOver opening seat op m new after → new.book.stopped ≡ None
           → HasPace (with_book (noted_in seat op Done new.book) new) numbers → new.gears.sizes ≡ new.runs.sizes
           → LeavesOnly d after (ShowsHistory m.gears.sizes opening (history_with seat op Done m) (length m.book.entries))
-          → IsStep AnyRows opening seat asked (Replied Done) (with_book (noted_in seat op Done new.book) new) d after m pace
+          → IsStep AnyRows opening seat asked (Replied Done) (with_book (noted_in seat op Done new.book) new) d after m
       taken_steps new after numbers taken on has one images =
           step_by Well Done next then after same tt refl (tells_of then taken.tree next after.bytes numbers at_next sound has one)
           (λ still. record {
@@ -303,11 +298,11 @@ module _ (opening : List (Key × Value)) (seat : ℕ) (op : Op) (held : Held) (m
             tree = taken.tree;
             over = record { stands = taken.over.stands; are_of = taken.over.are_of };
             holds = at_next.holds;
-            within = taken.goes.within;
+            within = subst (λ (st : Stepped). AreFronts (pace_of st.state) taken.fronts) same taken.goes.within;
             lanes = subst (λ (st : Stepped). HasFronts taken.tree st.state.lists taken.fronts) same taken.goes.lanes;
           })
           (λ some. absurd (none_is_some new.book.stopped on some))
-          (images_after opening seat op m Done wrote d after (taken_book seat (writes_of op) (ready_for w m) ∙ (ready_carries w m is.stands.paced.stands.sound (has_way opening m pace is.stands.paced)).book) images)
+          (images_after opening seat op m Done wrote d after (taken_book seat (writes_of op) (ready_for w m) ∙ (ready_carries w m is.stands.paced.stands.sound (has_way opening m is.stands.paced)).book) images)
         where
           wrote : Machine
           wrote = with_peak (taken_once seat (writes_of op) (ready_for w m))

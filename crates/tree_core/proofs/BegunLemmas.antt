@@ -10,7 +10,6 @@ use Rattle.blsm_model.specs.declared.row.Value.{Value}
 use Rattle.disk_trait.specs.Disk.{DiskState}
 use Rattle.record_delta.specs.declared.record.Rec.{Rec}
 use Rattle.record_delta.specs.Records.{weight}
-use Rattle.pacing.specs.Pace.{Pace}
 use Rattle.seat_book.specs.State.{BookState}
 use Rattle.tree_machine.specs.Machine.{Machine, deep_done, pass_done}
 use Rattle.tree_machine.specs.Steps.{one_if, swaps_due}
@@ -69,8 +68,8 @@ begun_by false seat key rec old new b after lost = lost_before old new lost
 same_count : (done due : Bool) → (done ≡ true → due ≡ true) → (due ≡ true → done ≡ true) → one_if done ≡ one_where due
 same_count done due h1 h2 = grind (arith, common_steps, nat_tests)
 
-pub due_agree : {Rows : List (Option (List Row)) → Type 0} (opening : List (Key × Value)) (old : Held) (m : Machine) (pace : Pace) (d : DiskState) → StandsFor Rows opening old m pace d → IsCore old d → old.book.stopped ≡ None → swaps_due m ≡ swaps_due_in old
-due_agree opening old m pace d stands keeps runs =
+pub due_agree : {Rows : List (Option (List Row)) → Type 0} (opening : List (Key × Value)) (old : Held) (m : Machine) (d : DiskState) → StandsFor Rows opening old m d → IsCore old d → old.book.stopped ≡ None → swaps_due m ≡ swaps_due_in old
+due_agree opening old m d stands keeps runs =
     let over = stands.runs runs in
     let agrees : Agrees old m = tests_agree_with_lists old over.tree m d.bytes keeps.pace (record { are_of = over.over.are_of; holds = over.holds }) stands.paced.stands.sound (keeps.holds.live runs).paced.numbers in
     let deep = same_count (deep_done m) (is_deep_due old) (λ done. deep_is old (agrees.deep_is_done.1 done))

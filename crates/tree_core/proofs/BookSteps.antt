@@ -53,8 +53,8 @@ book_follows seat entries held b few keeps =
 pub book_goes : {D : Type 0} {end most : ℕ} (state : D → DiskState) (seat : ℕ) (k : Kind) (answer : Answer) (old : CoreState D) (disk : D) (b : BookState) (entries : ℕ) → IsCore old.held (state old.disk) → IsTimed (state disk)
     → OnlyReads end most (state old.disk) (state disk) → (IsOn old.held (state old.disk) → IsOn old.held (state disk)) → is_held k ≡ false → rotations answer k old.held ≡ 0 → may_in old.held seat k ≡ true → entries ≤ 1 → KeepsSeats seat entries 0 old.held.book b
     → b.counts ≡ old.held.book.counts → b.stopped ≡ old.held.book.stopped → ((pace : Pace) → IsRunBook old.held.book pace → IsRunBook b pace) → ((pace : Pace) → IsMadeBy seat k answer pace pace)
-    → ((opening : List (Key × Value)) (m : Machine) (pace : Pace) → IsTrue (state old.disk).is_honest → StandsFor AnyRows opening old.held m pace (state old.disk) → may m seat k ≡ true
-    → IsStep AnyRows opening seat k answer (with_book b old.held) (state old.disk) (state disk) m pace)
+    → ((opening : List (Key × Value)) (m : Machine) → IsTrue (state old.disk).is_honest → StandsFor AnyRows opening old.held m (state old.disk) → may m seat k ≡ true
+    → IsStep AnyRows opening seat k answer (with_book b old.held) (state old.disk) (state disk) m)
     → GoesOnAs state seat k answer old (record { disk = disk; held = with_book b old.held; holds = old.holds }) × BesideHolds state seat k answer old (record { disk = disk; held = with_book b old.held; holds = old.holds })
 book_goes state seat k answer old disk b entries core timed reads on none still can few keeps counts stopped told made steps =
     goes_on_by state seat k answer old _ core timed none can (record { holds = refl; pins = refl; sizes = refl }) (subst (λ (n : ℕ). CountsCommits n old.held (with_book b old.held)) (sym still) (no_commits old.held (with_book b old.held) refl counts)) (reads_affect reads) (book_follows seat entries old.held b few keeps)
@@ -72,7 +72,7 @@ leave_does {D} state seat old b core timed caller places is = subst (λ (x : Boo
     goes : GoesOnAs state seat kind.Leave Left old (record old { held = with_book (left_in seat old.held.book) old.held }) × BesideHolds state seat kind.Leave Left old (record old { held = with_book (left_in seat old.held.book) old.held })
     goes = book_goes state seat kind.Leave Left old old.disk (left_in seat old.held.book) 0 core timed reads (λ on. on) refl refl (may_leave seat caller) (omega arith) (leave_keeps seat old.held.book) refl refl
         (λ pace told. leave_is_told old.held.book pace seat told) (λ pace. refl)
-        (λ opening m pace honest s can. quiet_step opening seat kind.Leave Well Left old.held old.held.runs.space (left_in seat old.held.book) m (leave m seat).state pace reads honest s can tt tt refl refl refl
+        (λ opening m honest s can. quiet_step opening seat kind.Leave Well Left old.held old.held.runs.space (left_in seat old.held.book) m (leave m seat).state reads honest s can tt tt refl refl
         (record { same = record { lists = refl; merges = refl; gears = refl; spring = refl; catalogue = refl }; counts = record { charge = refl; peak = refl; quanta = refl }; book = (steps_book m).leave seat ∙ ap (left_in seat) s.book; stopped = refl; noted = inl refl }) (λ tree table file of. of) (λ none. tt))
 
     left : HasLeft seat (left_in seat old.held.book)
@@ -97,8 +97,8 @@ end_does {D} state seat n reply old b core timed works can reply_is is = subst (
     goes : GoesOnAs state seat (kind.WorkEnd n) (Replied reply) old (record old { held = with_book (ended_in seat n old.held.book) old.held }) × BesideHolds state seat (kind.WorkEnd n) (Replied reply) old (record old { held = with_book (ended_in seat n old.held.book) old.held })
     goes = book_goes state seat (kind.WorkEnd n) (Replied reply) old old.disk (ended_in seat n old.held.book) 1 core timed reads (λ on. on) refl refl can (omega arith) (ending_keeps seat n old.held.book) refl refl
         (λ pace told. end_is_told old.held.book pace seat n works (end_has_room seat n old.held.book (work_reply (work_in seat old.held.book) old.held.book.stopped) (no_rows (work_in seat old.held.book) old.held.book.stopped) can) told) (λ pace. refl)
-        (λ opening m pace honest s ok.
+        (λ opening m honest s ok.
         let entry : Entry = record { seat = seat; op = Work n; reply = work_reply (work_in seat (book_of m)) m.stopped } in
-        quiet_step opening seat (kind.WorkEnd n) Well (Replied reply) old.held old.held.runs.space (ended_in seat n old.held.book) m (work_end m seat n).state pace reads honest s ok tt tt refl refl
+        quiet_step opening seat (kind.WorkEnd n) Well (Replied reply) old.held old.held.runs.space (ended_in seat n old.held.book) m (work_end m seat n).state reads honest s ok tt tt refl
         (ap (λ (r : Reply). record { state = (work_end m seat n).state; answer = Replied r }) (ap (λ (x : BookState). work_reply (work_in seat x) x.stopped) s.book ∙ sym reply_is))
         (record { same = record { lists = refl; merges = refl; gears = refl; spring = refl; catalogue = refl }; counts = record { charge = refl; peak = refl; quanta = refl }; book = (steps_book m).ending seat n ∙ ap (ended_in seat n) s.book; stopped = refl; noted = inr (entry, refl, quiet_entry_counts_none entry (inl refl)) }) (λ tree table file of. of) (λ none. tt))

@@ -16,7 +16,6 @@ use Rattle.disk_trait.specs.Disk.{DiskState}
 use Rattle.disk_trait.specs.Moments.{IsTimed}
 use Rattle.disk_trait.specs.Reads.{OnlyReads}
 use Rattle.disk_trait.proofs.ReadLemmas.{only_reads_start}
-use Rattle.pacing.specs.Pace.{Pace}
 use Rattle.page_file.specs.Component.{entries_of}
 use Rattle.record_delta.specs.Entries.{Entries}
 use Rattle.scan_view.specs.Hold.{HoldState}
@@ -74,12 +73,12 @@ drop_cause mid after answer seat old disk b h1 = grind (arith, common_steps, nat
 hold_goes : {D : Type 0} {end most : ℕ} {k : Kind} {command : Op} {mid : Held} {after : List (Option HoldState)} (state : D → DiskState) (seat : ℕ) (r : Reply) (old : CoreState D) (disk : D) → IsCore old.held (state old.disk) → IsTimed (state disk)
     → IsHoldKind seat k command → MovesHold seat old.held mid old.holds after → OnlyReads end most (state old.disk) (state disk) → (IsOn old.held (state old.disk) → IsOn mid (state disk))
     → HasRoom old.held.book.book.room (record { seat = seat; op = command; reply = r }) → may_in old.held seat k ≡ true
-    → ((opening : List (Key × Value)) (m : Machine) (pace : Pace) → IsTrue (state old.disk).is_honest → StandsWhole state opening old m pace → may m seat k ≡ true
-    → IsWholeStep state opening seat k (Replied r) old (after_it disk mid after seat command r old.held) m pace)
+    → ((opening : List (Key × Value)) (m : Machine) → IsTrue (state old.disk).is_honest → StandsWhole state opening old m → may m seat k ≡ true
+    → IsWholeStep state opening seat k (Replied r) old (after_it disk mid after seat command r old.held) m)
     → GoesOnAs state seat k (Replied r) old (after_it disk mid after seat command r old.held)
 hold_goes {D} {end} {most} {k} {command} {mid} {after} state seat r old disk core timed is moves reads on room can steps =
     goes_by state seat k (Replied r) old (after_it disk mid after seat command r old.held) core timed can reads.effect.goes_on (no_commits old.held (with_book (noted_in seat command r old.held.book) mid) (ap (λ (held : Held). held.runs.catalogue) moves.rest) refl) (hold_follows command r moves) (λ pace holds. hold_moves r pace is moves on room holds)
-    (λ opening m pace honest stands. steps opening m pace honest stands (may_agrees seat k old.held m stands.book stands.gears ∙ can))
+    (λ opening m honest stands. steps opening m honest stands (may_agrees seat k old.held m stands.book stands.gears ∙ can))
 
 pub hold_does : {D : Type 0} {mid : Held} {after : List (Option HoldState)} (state : D → DiskState) (seat : ℕ) (low high : Key) (answer : Holding) (old : CoreState D) (b : BookState) → IsCore old.held (state old.disk) → IsTimed (state old.disk)
     → may_note_in seat 0 old.held.book ≡ true → MovesHold seat old.held mid old.holds after → HoldsBecause answer seat low high (undisked old.held old.holds) (undisked mid after)
@@ -97,7 +96,7 @@ hold_does {D} {mid} {after} state seat low high answer old b core timed can move
 
     goes : GoesOnAs state seat (kind.Hold low high) (Replied (reply_to_hold answer)) old (after_it old.disk mid after seat (op.Hold low high) (reply_to_hold answer) old.held)
     goes = hold_goes state seat (reply_to_hold answer) old old.disk core timed (hold_kind seat low high) moves reads (moved_on (state old.disk) moves) (hold_room seat low high answer old.held.book can) can
-        (λ opening m pace honest stands ok. hold_steps state opening seat low high answer old mid after m pace timed honest (notes_below seat 0 old.held.book can) moves because rows stands ok)
+        (λ opening m honest stands ok. hold_steps state opening seat low high answer old mid after m timed honest (notes_below seat 0 old.held.book can) moves because rows stands ok)
 
 pub next_does : {D : Type 0} {after : List (Option HoldState)} (state : D → DiskState) (seat n : ℕ) (answer : Scanned) (old : CoreState D) (disk : D) (b : BookState) → IsCore old.held (state old.disk) → AreFew old.held.runs.sizes old.holds
     → IsTimed (state disk) → RunsStay → may_note_in seat n old.held.book ≡ true → 0 < n → n ≤ most_rows → ((other : ℕ) → other ≢ seat → hold_of other after ≡ hold_of other old.holds)
@@ -117,7 +116,7 @@ next_does {D} {after} state seat n answer old disk b core few timed stay note so
     goes : GoesOnAs state seat (kind.Next n) (Replied (reply_to_next answer)) old (after_it disk old.held after seat (op.Next n) (reply_to_next answer) old.held)
     goes = hold_goes state seat (reply_to_next answer) old disk core timed (next_kind seat n) moves reads (reads_on old.held stay reads)
         (next_room answer seat n (undisked old.held old.holds) (undisked old.held after) (state old.disk) (state disk) old.held.book because note) (may_next seat n old.held note some within)
-        (λ opening m pace honest stands ok. next_steps state opening seat n answer old after disk m pace reads honest (notes_below seat n old.held.book note) moves because counted gives stands ok)
+        (λ opening m honest stands ok. next_steps state opening seat n answer old after disk m reads honest (notes_below seat n old.held.book note) moves because counted gives stands ok)
 
 pub drop_does : {D : Type 0} {mid : Held} {after : List (Option HoldState)} (state : D → DiskState) (seat : ℕ) (answer : Release) (old : CoreState D) (b : BookState) → IsCore old.held (state old.disk) → IsTimed (state old.disk)
     → may_note_in seat 0 old.held.book ≡ true → MovesHold seat old.held mid old.holds after → DropsBecause answer seat (undisked old.held old.holds) (undisked mid after)
@@ -133,4 +132,4 @@ drop_does {D} {mid} {after} state seat answer old b core timed can moves because
 
     goes : GoesOnAs state seat kind.Release (Replied (reply_to_drop answer)) old (after_it old.disk mid after seat op.Release (reply_to_drop answer) old.held)
     goes = hold_goes state seat (reply_to_drop answer) old old.disk core timed (release_kind seat) moves reads (moved_on (state old.disk) moves) (drop_room seat answer old.held.book can) can
-        (λ opening m pace honest stands ok. drop_steps state opening seat answer old mid after m pace timed honest (notes_below seat 0 old.held.book can) moves because stands ok)
+        (λ opening m honest stands ok. drop_steps state opening seat answer old mid after m timed honest (notes_below seat 0 old.held.book can) moves because stands ok)

@@ -37,7 +37,6 @@ use Rattle.tree_machine.specs.Stands.{WritesFit}
 use Rattle.tree_machine.specs.Steps.{Outcome, Replied, replied}
 use Rattle.tree_machine.specs.declared.step.Kind.{Kind}
 use Rattle.tree_machine.specs.declared.step.Kind.TheVariants as kind
-use Rattle.paced_tree.specs.After.{pace_after}
 use Rattle.paced_tree.specs.Made.{IsMadeBy}
 use Rattle.tree_file.specs.Tree.{Tree}
 use Rattle.tree_runs.specs.Holding.{AreOf}
@@ -57,17 +56,16 @@ pub record IsHoldKind (seat : ℕ) (k : Kind) (command : Op) : Type 0 where
   pub writes : writes_of command ≡ []
   pub none : is_write command ≡ false
   pub fits : WritesFit k
-  pub paced : (m : Machine) (pace : Pace) (outcome : Outcome) → pace_after m pace seat k outcome ≡ pace
   pub made : (r : Reply) (pace : Pace) → IsMadeBy seat k (Replied r) pace pace
 
 pub hold_kind : (seat : ℕ) (low high : Key) → IsHoldKind seat (kind.Hold low high) (op.Hold low high)
-hold_kind seat low high = record { writes = refl; none = refl; fits = tt; paced = λ m pace outcome. refl; made = λ r pace. refl }
+hold_kind seat low high = record { writes = refl; none = refl; fits = tt; made = λ r pace. refl }
 
 pub next_kind : (seat n : ℕ) → IsHoldKind seat (kind.Next n) (op.Next n)
-next_kind seat n = record { writes = refl; none = refl; fits = tt; paced = λ m pace outcome. refl; made = λ r pace. refl }
+next_kind seat n = record { writes = refl; none = refl; fits = tt; made = λ r pace. refl }
 
 pub release_kind : (seat : ℕ) → IsHoldKind seat kind.Release op.Release
-release_kind seat = record { writes = refl; none = refl; fits = tt; paced = λ m pace outcome. refl; made = λ r pace. refl }
+release_kind seat = record { writes = refl; none = refl; fits = tt; made = λ r pace. refl }
 
 -- ---- by numbers
 
@@ -103,18 +101,18 @@ abbrev pub after_it : {D : Type 0} → D → Held → List (Option HoldState) �
 after_it disk mid holds seat command r old = record { disk = disk; held = with_book (noted_in seat command r old.book) mid; holds = holds }
 
 pub hold_step : {D : Type 0} {end most : ℕ} (state : D → DiskState) (opening : List (Key × Value)) (seat : ℕ) (k : Kind) (command : Op) (r : Reply) (outcome : Outcome) (old : CoreState D) (mid : Held) (holds : List (Option HoldState)) (disk : D)
-    (rows : List (Option (List Row))) (m : Machine) (pace : Pace) → IsHoldKind seat k command → MovesHold seat old.held mid old.holds holds → OnlyReads end most (state old.disk) (state disk) → IsTrue (state old.disk).is_honest
-    → StandsWhole state opening old m pace → may m seat k ≡ true
+    (rows : List (Option (List Row))) (m : Machine) → IsHoldKind seat k command → MovesHold seat old.held mid old.holds holds → OnlyReads end most (state old.disk) (state disk) → IsTrue (state old.disk).is_honest
+    → StandsWhole state opening old m → may m seat k ≡ true
     → stepped_as m seat k outcome ≡ replied seat command r (record m { holds = rows }) → IsPossible m seat k outcome (state old.disk).faults (state disk).faults → is_broken outcome ≡ false
     → (old.held.book.stopped ≡ None → HoldRows mid holds (state disk) rows)
-    → IsWholeStep state opening seat k (Replied r) old (after_it disk mid holds seat command r old.held) m pace
-hold_step state opening seat k command r outcome old mid holds disk rows m pace is moves reads honest stands can does possible whole gives =
+    → IsWholeStep state opening seat k (Replied r) old (after_it disk mid holds seat command r old.held) m
+hold_step state opening seat k command r outcome old mid holds disk rows m is moves reads honest stands can does possible whole gives =
     let entry : Entry = record { seat = seat; op = command; reply = r } in
     subst
     (λ (held : Held). ((tree : Tree) (table : Entries) (file : List ℕ) → AreOf old.held.runs tree table file → AreOf held.runs tree table file) → (old.held.book.stopped ≡ None → HoldRows held holds (state disk) rows)
-    → IsWholeStep state opening seat k (Replied r) old (after_it disk held holds seat command r old.held) m pace)
+    → IsWholeStep state opening seat k (Replied r) old (after_it disk held holds seat command r old.held) m)
     (sym moves.rest)
-    (quiet_step opening seat k outcome (Replied r) old.held mid.runs.space (noted_in seat command r old.held.book) m (note seat command r (record m { holds = rows })) pace reads honest stands can is.fits possible whole (is.paced m pace outcome) does
+    (quiet_step opening seat k outcome (Replied r) old.held mid.runs.space (noted_in seat command r old.held.book) m (note seat command r (record m { holds = rows })) reads honest stands can is.fits possible whole does
     (record { same = record { lists = refl; merges = refl; gears = refl; spring = refl; catalogue = refl }; counts = record { charge = refl; peak = refl; quanta = refl }; book = ap (noted_in seat command r) stands.book; stopped = refl; noted = inr (entry, refl, quiet_entry_counts_none entry (inl is.writes)) }))
     moves.lists gives
 

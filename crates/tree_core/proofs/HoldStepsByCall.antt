@@ -21,7 +21,6 @@ use Rattle.disk_trait.specs.Disk.{DiskState}
 use Rattle.disk_trait.specs.Moments.{IsTimed}
 use Rattle.disk_trait.specs.Reads.{OnlyReads}
 use Rattle.disk_trait.proofs.ReadLemmas.{only_reads_start}
-use Rattle.pacing.specs.Pace.{Pace}
 use Rattle.page_file.specs.Component.{entries_of}
 use Rattle.record_delta.specs.Entries.{Entries, replayed}
 use Rattle.scan_view.specs.Hold.{HoldState}
@@ -95,10 +94,10 @@ running_still o some none = absurd (cc (some, none))
 
 -- ---- the drop
 
-pub drop_steps : {D : Type 0} (state : D → DiskState) (opening : List (Key × Value)) (seat : ℕ) (answer : Release) (old : CoreState D) (mid : Held) (after : List (Option HoldState)) (m : Machine) (pace : Pace) → IsTimed (state old.disk)
-    → IsTrue (state old.disk).is_honest → seat < callers → MovesHold seat old.held mid old.holds after → DropsBecause answer seat (undisked old.held old.holds) (undisked mid after) → StandsWhole state opening old m pace
-    → may m seat kind.Release ≡ true → IsWholeStep state opening seat kind.Release (Replied (reply_to_drop answer)) old (after_it old.disk mid after seat op.Release (reply_to_drop answer) old.held) m pace
-drop_steps state opening seat answer old mid after m pace timed honest below moves because stands can = by answer because
+pub drop_steps : {D : Type 0} (state : D → DiskState) (opening : List (Key × Value)) (seat : ℕ) (answer : Release) (old : CoreState D) (mid : Held) (after : List (Option HoldState)) (m : Machine) → IsTimed (state old.disk)
+    → IsTrue (state old.disk).is_honest → seat < callers → MovesHold seat old.held mid old.holds after → DropsBecause answer seat (undisked old.held old.holds) (undisked mid after) → StandsWhole state opening old m
+    → may m seat kind.Release ≡ true → IsWholeStep state opening seat kind.Release (Replied (reply_to_drop answer)) old (after_it old.disk mid after seat op.Release (reply_to_drop answer) old.held) m
+drop_steps state opening seat answer old mid after m timed honest below moves because stands can = by answer because
   where
     reads : OnlyReads 0 0 (state old.disk) (state old.disk)
     reads = only_reads_start (state old.disk) timed
@@ -111,34 +110,34 @@ drop_steps state opening seat answer old mid after m pace timed honest below mov
 
     -- the seat has no hold then
     let_go : (r : Reply) → old.held.book.stopped ≡ None → answer_to_release (held_by seat m) ≡ r → hold_of seat after ≡ None
-        → IsWholeStep state opening seat kind.Release (Replied r) old (after_it old.disk mid after seat op.Release r old.held) m pace
+        → IsWholeStep state opening seat kind.Release (Replied r) old (after_it old.disk mid after seat op.Release r old.held) m
     let_go r none is gone =
-        hold_step state opening seat kind.Release op.Release r Well old mid after old.disk (slice_set m.holds seat None) m pace (release_kind seat) moves reads honest stands can
+        hold_step state opening seat kind.Release op.Release r Well old mid after old.disk (slice_set m.holds seat None) m (release_kind seat) moves reads honest stands can
         (running none ∙ ap (λ (x : Reply). replied seat op.Release x (holding seat None m)) is) tt refl
         (λ runs. seat_rows seat old.held mid old.holds after m None (state old.disk) (state old.disk) moves below stands.paced.stands.places refl
         (subst (λ (h : Option HoldState). HasHeld old.held.runs.sizes mid.runs.space.pins seat h None (state old.disk).bytes) (sym gone) tt) (stands.rows runs))
 
     by : (a : Release) → DropsBecause a seat (undisked old.held old.holds) (undisked mid after)
-        → IsWholeStep state opening seat kind.Release (Replied (reply_to_drop a)) old (after_it old.disk mid after seat op.Release (reply_to_drop a) old.held) m pace
+        → IsWholeStep state opening seat kind.Release (Replied (reply_to_drop a)) old (after_it old.disk mid after seat op.Release (reply_to_drop a) old.held) m
     by release.Done because =
         let given = some_held old.held.runs.sizes old.held.runs.space.pins seat (state old.disk).bytes (hold_of seat old.holds) (held_by seat m) because.1 (stands.rows because.0 seat below) in
         let_go reply.Done because.0 (ap answer_to_release given.1) because.2
     by release.NoHold because =
         let_go reply.NoHold because.0 (ap answer_to_release (none_held old.held.runs.sizes old.held.runs.space.pins seat (state old.disk).bytes (hold_of seat old.holds) (held_by seat m) because.1 (stands.rows because.0 seat below))) (ap (λ (hs : List (Option HoldState)). hold_of seat hs) because.2 ∙ because.1)
     by (release.Stopped why) because =
-        hold_step state opening seat kind.Release op.Release (reply.Stopped why) Well old mid after old.disk m.holds m pace (release_kind seat) moves reads honest stands can
+        hold_step state opening seat kind.Release op.Release (reply.Stopped why) Well old mid after old.disk m.holds m (release_kind seat) moves reads honest stands can
         (ap (λ (o : Option Why). unless_stopped o seat op.Release m (replied seat op.Release (answer_to_release (held_by seat m)) (holding seat None m))) (stopped_is ∙ because.0)) tt refl
         (λ runs. absurd (running_still old.held.book.stopped because.0 runs))
 
 -- ---- the hold
 
-pub hold_steps : {D : Type 0} (state : D → DiskState) (opening : List (Key × Value)) (seat : ℕ) (low high : Key) (answer : Holding) (old : CoreState D) (mid : Held) (after : List (Option HoldState)) (m : Machine) (pace : Pace) → IsTimed (state old.disk)
+pub hold_steps : {D : Type 0} (state : D → DiskState) (opening : List (Key × Value)) (seat : ℕ) (low high : Key) (answer : Holding) (old : CoreState D) (mid : Held) (after : List (Option HoldState)) (m : Machine) → IsTimed (state old.disk)
     → IsTrue (state old.disk).is_honest → seat < callers → MovesHold seat old.held mid old.holds after → HoldsBecause answer seat low high (undisked old.held old.holds) (undisked mid after)
     → ((tree : Tree) (table : Entries) (file : List ℕ) → answer ≡ holds.Held → AreOf old.held.runs tree table file
     → HasHeld old.held.runs.sizes mid.runs.space.pins seat (hold_of seat after) (Some (rows_in (record { b = old.held.log.b.entries; a = old.held.log.a.entries; c1 = entries_of tree.c1; c1x = entries_of tree.c1x; c2 = entries_of tree.c2 }) low high)) file)
-    → StandsWhole state opening old m pace → may m seat (kind.Hold low high) ≡ true
-    → IsWholeStep state opening seat (kind.Hold low high) (Replied (reply_to_hold answer)) old (after_it old.disk mid after seat (op.Hold low high) (reply_to_hold answer) old.held) m pace
-hold_steps state opening seat low high answer old mid after m pace timed honest below moves because has stands can = by answer because has
+    → StandsWhole state opening old m → may m seat (kind.Hold low high) ≡ true
+    → IsWholeStep state opening seat (kind.Hold low high) (Replied (reply_to_hold answer)) old (after_it old.disk mid after seat (op.Hold low high) (reply_to_hold answer) old.held) m
+hold_steps state opening seat low high answer old mid after m timed honest below moves because has stands can = by answer because has
   where
     reads : OnlyReads 0 0 (state old.disk) (state old.disk)
     reads = only_reads_start (state old.disk) timed
@@ -152,10 +151,10 @@ hold_steps state opening seat low high answer old mid after m pace timed honest 
     by : (a : Holding) → HoldsBecause a seat low high (undisked old.held old.holds) (undisked mid after)
         → ((tree : Tree) (table : Entries) (file : List ℕ) → a ≡ holds.Held → AreOf old.held.runs tree table file
         → HasHeld old.held.runs.sizes mid.runs.space.pins seat (hold_of seat after) (Some (rows_in (record { b = old.held.log.b.entries; a = old.held.log.a.entries; c1 = entries_of tree.c1; c1x = entries_of tree.c1x; c2 = entries_of tree.c2 }) low high)) file)
-        → IsWholeStep state opening seat (kind.Hold low high) (Replied (reply_to_hold a)) old (after_it old.disk mid after seat (op.Hold low high) (reply_to_hold a) old.held) m pace
+        → IsWholeStep state opening seat (kind.Hold low high) (Replied (reply_to_hold a)) old (after_it old.disk mid after seat (op.Hold low high) (reply_to_hold a) old.held) m
     by holds.Held because has =
         let rows = Some (rows_in m.lists low high) in
-        hold_step state opening seat (kind.Hold low high) (op.Hold low high) reply.Held Well old mid after old.disk (slice_set m.holds seat rows) m pace (hold_kind seat low high) moves reads honest stands can (by_stop Well None because.0) tt refl
+        hold_step state opening seat (kind.Hold low high) (op.Hold low high) reply.Held Well old mid after old.disk (slice_set m.holds seat rows) m (hold_kind seat low high) moves reads honest stands can (by_stop Well None because.0) tt refl
         (λ runs. seat_rows seat old.held mid old.holds after m rows (state old.disk) (state old.disk) moves below stands.paced.stands.places refl (now runs) (stands.rows runs))
       where
         -- the tables are what the lanes replay to
@@ -170,11 +169,11 @@ hold_steps state opening seat low high answer old mid after m pace timed honest 
             subst (λ (l : Lists). HasHeld old.held.runs.sizes mid.runs.space.pins seat (hold_of seat after) (Some (rows_in l low high)) (state old.disk).bytes) (sym lists)
             (has tree old.held.log.a.entries (state old.disk).bytes refl over.over.are_of)
     by holds.NoMemory because has =
-        hold_step state opening seat (kind.Hold low high) (op.Hold low high) reply.NoMemory NoRoom old mid after old.disk m.holds m pace (hold_kind seat low high) moves reads honest stands can (by_stop NoRoom None because.0)
+        hold_step state opening seat (kind.Hold low high) (op.Hold low high) reply.NoMemory NoRoom old mid after old.disk m.holds m (hold_kind seat low high) moves reads honest stands can (by_stop NoRoom None because.0)
         (ap (λ (o : Option Why). not (is_some o) && true) (stopped_is ∙ because.0)) refl
         (λ runs. same_rows old.held mid old.holds after m.holds (state old.disk) (state old.disk) because.2 because.1 refl (stands.rows runs))
     by (holds.Stopped why) because has =
-        hold_step state opening seat (kind.Hold low high) (op.Hold low high) (reply.Stopped why) Well old mid after old.disk m.holds m pace (hold_kind seat low high) moves reads honest stands can (by_stop Well (Some why) because.0) tt refl
+        hold_step state opening seat (kind.Hold low high) (op.Hold low high) (reply.Stopped why) Well old mid after old.disk m.holds m (hold_kind seat low high) moves reads honest stands can (by_stop Well (Some why) because.0) tt refl
         (λ runs. absurd (running_still old.held.book.stopped because.0 runs))
 
 -- ---- the reading on
@@ -203,12 +202,12 @@ GivesRows seat n answer old after before now =
     (rows : List Row) → IsTrue before.is_honest → old.held.book.stopped ≡ None → HasHeld old.held.runs.sizes old.held.runs.space.pins seat (hold_of seat old.holds) (Some rows) before.bytes → answer ≢ scanned.Fault
     → (answer ≡ scanned.Rows (take n rows)) × HasHeld old.held.runs.sizes old.held.runs.space.pins seat (hold_of seat after) (Some (drop n rows)) now.bytes
 
-pub next_steps : {D : Type 0} {end most : ℕ} (state : D → DiskState) (opening : List (Key × Value)) (seat n : ℕ) (answer : Scanned) (old : CoreState D) (after : List (Option HoldState)) (disk : D) (m : Machine) (pace : Pace)
+pub next_steps : {D : Type 0} {end most : ℕ} (state : D → DiskState) (opening : List (Key × Value)) (seat n : ℕ) (answer : Scanned) (old : CoreState D) (after : List (Option HoldState)) (disk : D) (m : Machine)
     → OnlyReads end most (state old.disk) (state disk) → IsTrue (state old.disk).is_honest → seat < callers → MovesHold seat old.held old.held old.holds after
     → ScansBecause answer seat n (undisked old.held old.holds) (undisked old.held after) (state old.disk) (state disk) → (answer ≡ scanned.Fault → (state disk).faults < 2 ^ 64) → GivesRows seat n answer old after (state old.disk) (state disk)
-    → StandsWhole state opening old m pace → may m seat (kind.Next n) ≡ true
-    → IsWholeStep state opening seat (kind.Next n) (Replied (reply_to_next answer)) old (after_it disk old.held after seat (op.Next n) (reply_to_next answer) old.held) m pace
-next_steps state opening seat n answer old after disk m pace reads honest below moves because counted gives stands can = by answer because counted gives
+    → StandsWhole state opening old m → may m seat (kind.Next n) ≡ true
+    → IsWholeStep state opening seat (kind.Next n) (Replied (reply_to_next answer)) old (after_it disk old.held after seat (op.Next n) (reply_to_next answer) old.held) m
+next_steps state opening seat n answer old after disk m reads honest below moves because counted gives stands can = by answer because counted gives
   where
     d : DiskState
     d = state old.disk
@@ -234,17 +233,17 @@ next_steps state opening seat n answer old after disk m pace reads honest below 
 
     -- the holds stay
     kept : (r : Reply) (outcome : Outcome) → after ≡ old.holds → next_rows m seat n outcome ≡ replied seat (op.Next n) r m → IsPossible m seat (kind.Next n) outcome d.faults (state disk).faults → is_broken outcome ≡ false
-        → IsWholeStep state opening seat (kind.Next n) (Replied r) old (after_it disk old.held after seat (op.Next n) r old.held) m pace
-    kept r outcome same does possible whole = hold_step state opening seat (kind.Next n) (op.Next n) r outcome old old.held after disk m.holds m pace (next_kind seat n) moves reads honest stands can does possible whole
+        → IsWholeStep state opening seat (kind.Next n) (Replied r) old (after_it disk old.held after seat (op.Next n) r old.held) m
+    kept r outcome same does possible whole = hold_step state opening seat (kind.Next n) (op.Next n) r outcome old old.held after disk m.holds m (next_kind seat n) moves reads honest stands can does possible whole
         (λ runs. same_rows old.held old.held old.holds after m.holds d (state disk) refl same bytes (stands.rows runs))
 
     by : (a : Scanned) → ScansBecause a seat n (undisked old.held old.holds) (undisked old.held after) d (state disk) → (a ≡ scanned.Fault → (state disk).faults < 2 ^ 64) → GivesRows seat n a old after d (state disk)
-        → IsWholeStep state opening seat (kind.Next n) (Replied (reply_to_next a)) old (after_it disk old.held after seat (op.Next n) (reply_to_next a) old.held) m pace
+        → IsWholeStep state opening seat (kind.Next n) (Replied (reply_to_next a)) old (after_it disk old.held after seat (op.Next n) (reply_to_next a) old.held) m
     by (scanned.Rows rows) because counted gives =
         let come = to_come (was_held n (hold_of seat old.holds) (hold_of seat after) rows because.2) because.0 in
         let given = gives come.0 honest because.0 (has come.0 come.1 because.0) (given_is_none_other rows) in
         let left = Some (drop n come.0) in
-        hold_step state opening seat (kind.Next n) (op.Next n) (reply.Rows rows) Well old old.held after disk (slice_set m.holds seat left) m pace (next_kind seat n) moves reads honest stands can
+        hold_step state opening seat (kind.Next n) (op.Next n) (reply.Rows rows) Well old old.held after disk (slice_set m.holds seat left) m (next_kind seat n) moves reads honest stands can
         (running Well (Some come.0) because.0 come.1 ∙ ap (λ (a : Scanned). replied seat (op.Next n) (reply_to_next a) (holding seat left m)) (sym given.0)) tt refl
         (λ runs. seat_rows seat old.held old.held old.holds after m left d (state disk) moves below stands.paced.stands.places bytes given.1 (stands.rows runs))
     by scanned.NoHold because counted gives =

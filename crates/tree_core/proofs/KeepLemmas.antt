@@ -22,7 +22,6 @@ use Rattle.disk_trait.proofs.EffectLemmas.{affects_wider}
 use Rattle.disk_trait.specs.Reads.{OnlyReads}
 use Rattle.disk_trait.specs.Region.{Region, IsSameOutside}
 use Rattle.gear_sched.specs.declared.Plan.{Plan}
-use Rattle.pacing.specs.Pace.{Pace}
 use Rattle.pacing.specs.Steps.{Move}
 use Rattle.page_file.specs.declared.file.Broken.{Broken}
 use Rattle.record_delta.specs.Entries.{entries_weight}
@@ -147,9 +146,9 @@ pub few_by : (sizes : Sizes) (seat : ℕ) (old new : List (Option HoldState)) �
 few_by sizes seat old new others bound few = grind (arith, common_steps, nat_tests)
 
 -- a store that runs after a step ran before it
-ran_before : {Rows Next : List (Option (List Row)) → Type 0} (opening : List (Key × Value)) (seat : ℕ) (k : Kind) (answer : Answer) (old new : Held) (before after : DiskState) (m : Machine) (pace : Pace) → StandsFor Rows opening old m pace before
-    → IsStep Next opening seat k answer new before after m pace → new.book.stopped ≡ None → old.book.stopped ≡ None
-ran_before opening seat k answer old new before after m pace stands is runs = by old.book.stopped refl
+ran_before : {Rows Next : List (Option (List Row)) → Type 0} (opening : List (Key × Value)) (seat : ℕ) (k : Kind) (answer : Answer) (old new : Held) (before after : DiskState) (m : Machine) → StandsFor Rows opening old m before
+    → IsStep Next opening seat k answer new before after m → new.book.stopped ≡ None → old.book.stopped ≡ None
+ran_before opening seat k answer old new before after m stands is runs = by old.book.stopped refl
   where
     by : (o : Option Why) → old.book.stopped ≡ o → old.book.stopped ≡ None
     by None same = same
@@ -158,13 +157,13 @@ ran_before opening seat k answer old new before after m pace stands is runs = by
         absurd (none-some why (sym runs ∙ sym (ap (λ (b : BookState). b.stopped) is.stands.book) ∙ step_stays m seat k is.outcome why was))
 
 -- A step that keeps the holds leaves the rows to come, of which this was so.
-pub rows_said : {Rows Next : List (Option (List Row)) → Type 0} (opening : List (Key × Value)) (seat : ℕ) (k : Kind) (answer : Answer) (old new : Held) (before after : DiskState) (m : Machine) (pace : Pace) → is_held k ≡ false
-    → (old.book.stopped ≡ None → Next m.holds) → StandsFor Rows opening old m pace before → IsStep AnyRows opening seat k answer new before after m pace → IsStep Next opening seat k answer new before after m pace
-rows_said {Rows} {Next} opening seat k answer old new before after m pace none said stands is = record {
+pub rows_said : {Rows Next : List (Option (List Row)) → Type 0} (opening : List (Key × Value)) (seat : ℕ) (k : Kind) (answer : Answer) (old new : Held) (before after : DiskState) (m : Machine) → is_held k ≡ false
+    → (old.book.stopped ≡ None → Next m.holds) → StandsFor Rows opening old m before → IsStep AnyRows opening seat k answer new before after m → IsStep Next opening seat k answer new before after m
+rows_said {Rows} {Next} opening seat k answer old new before after m none said stands is = record {
   outcome = is.outcome;
   possible = is.possible;
   whole = is.whole;
-  stands = with_rows opening new _ _ after (λ runs. subst Next (sym (step_keeps_holds m seat k is.outcome none)) (said (ran_before opening seat k answer old new before after m pace stands is runs))) is.stands;
+  stands = with_rows opening new _ after (λ runs. subst Next (sym (step_keeps_holds m seat k is.outcome none)) (said (ran_before opening seat k answer old new before after m stands is runs))) is.stands;
   answers = is.answers;
   images = is.images;
 }

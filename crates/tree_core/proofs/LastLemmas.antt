@@ -47,29 +47,29 @@ since_now state core pace timed t = record {
   sizes = refl;
   peak = omega (arith, t.peak, t.told.paced.within.peak, ap high_mark t.sizes);
   goes_on = goes_on_start (state core.disk);
-  come = λ opening m pace honest whole. ([], none_is_played state opening core m pace timed whole);
+  come = λ opening m honest whole. ([], none_is_played state opening core m timed whole);
 }
 
 -- some steps more
 pub since_played : {D : Type 0} (state : D → DiskState) (start old new : CoreState D) → StandsSince state start old → new.held.runs.sizes ≡ old.held.runs.sizes → new.held.book.counts.peak ≤ high_mark new.held.runs.sizes
     → GoesOn (state old.disk) (state new.disk)
-    → ((opening : List (Key × Value)) (m : Machine) (pace : Pace) → IsTrue (state old.disk).is_honest → StandsWhole state opening old m pace → (steps : List Step) × IsPlayed state opening steps old new m pace)
+    → ((opening : List (Key × Value)) (m : Machine) → IsTrue (state old.disk).is_honest → StandsWhole state opening old m → (steps : List Step) × IsPlayed state opening steps old new m)
     → StandsSince state start new
 since_played state start old new since sizes peak goes played = record {
   sizes = sizes ∙ since.sizes;
   peak = omega (arith, peak, ap high_mark (sizes ∙ since.sizes));
   goes_on = goes_on_run since.goes_on goes;
-  come = λ opening m pace honest whole.
-      let one = since.come opening m pace honest whole in
-      let two = played opening _ _ (subst IsTrue (sym since.goes_on.is_honest) honest) one.1.stands in
-      (one.0 ++ two.0, both_are_played state opening one.0 two.0 start old new m pace one.1 two.1);
+  come = λ opening m honest whole.
+      let one = since.come opening m honest whole in
+      let two = played opening _ (subst IsTrue (sym since.goes_on.is_honest) honest) one.1.stands in
+      (one.0 ++ two.0, both_are_played state opening one.0 two.0 start old new m one.1 two.1);
 }
 
 -- What a call says that is one step of the machine and moves the pace. What lasts from a start on lasts over it.
 pub goes_by : {D : Type 0} (state : D → DiskState) (seat : ℕ) (k : Kind) (answer : Answer) (old new : CoreState D) → IsCore old.held (state old.disk) → IsTimed (state new.disk) → may_in old.held seat k ≡ true
     → GoesOn (state old.disk) (state new.disk) → CountsCommits (rotations answer k old.held) old.held new.held → Follows seat (facts_of_held old.held) (facts_of_held new.held)
     → ((pace : Pace) → HoldsPace old.held pace (state old.disk) → MovesPace seat k answer new.held (state new.disk) pace)
-    → ((opening : List (Key × Value)) (m : Machine) (pace : Pace) → IsTrue (state old.disk).is_honest → StandsWhole state opening old m pace → IsWholeStep state opening seat k answer old new m pace)
+    → ((opening : List (Key × Value)) (m : Machine) → IsTrue (state old.disk).is_honest → StandsWhole state opening old m → IsWholeStep state opening seat k answer old new m)
     → GoesOnAs state seat k answer old new
 goes_by {D} state seat k answer old new core timed can goes commits follows numbers steps =
     record { may = can; numbers = numbers; commits = commits; steps = steps; follows = follows; lasts = lasts; begins = since_now state new moves.next timed told }
@@ -84,24 +84,24 @@ goes_by {D} state seat k answer old new core timed can goes commits follows numb
     lasts start since =
         let one : Step = record { seat = seat; kind = k } in
         since_played state start old new since (sym told.sizes ∙ made_sizes seat k answer core.pace moves.next moves.made ∙ core.holds.told.sizes) (omega (arith, told.peak, told.told.paced.within.peak, ap high_mark told.sizes)) goes
-        (λ opening m pace honest stands. (one ∷ [], played_by state opening one k answer old new m pace refl can goes stands (λ may. steps opening m pace honest stands)))
+        (λ opening m honest stands. (one ∷ [], played_by state opening one k answer old new m refl can goes stands (λ may. steps opening m honest stands)))
 
 -- And one that has nothing to do with holds: it writes beside the pages that are pinned.
 pub goes_on_by : {D : Type 0} {end most : ℕ} (state : D → DiskState) (seat : ℕ) (k : Kind) (answer : Answer) (old new : CoreState D) → IsCore old.held (state old.disk) → IsTimed (state new.disk) → is_held k ≡ false → may_in old.held seat k ≡ true
     → KeepsHolds old new → CountsCommits (rotations answer k old.held) old.held new.held → Affects (beside_pins old.held.runs.sizes old.held.runs.space.pins) end most (state old.disk) (state new.disk) → Follows seat (facts_of_held old.held) (facts_of_held new.held)
     → ((pace : Pace) → HoldsPace old.held pace (state old.disk) → MovesPace seat k answer new.held (state new.disk) pace)
-    → ((opening : List (Key × Value)) (m : Machine) (pace : Pace) → IsTrue (state old.disk).is_honest → StandsFor AnyRows opening old.held m pace (state old.disk) → may m seat k ≡ true
-    → IsStep AnyRows opening seat k answer new.held (state old.disk) (state new.disk) m pace)
+    → ((opening : List (Key × Value)) (m : Machine) → IsTrue (state old.disk).is_honest → StandsFor AnyRows opening old.held m (state old.disk) → may m seat k ≡ true
+    → IsStep AnyRows opening seat k answer new.held (state old.disk) (state new.disk) m)
     → GoesOnAs state seat k answer old new × BesideHolds state seat k answer old new
 goes_on_by state seat k answer old new core timed none can keeps commits effect follows numbers steps = (
-  goes_by state seat k answer old new core timed can effect.goes_on commits follows numbers (λ opening m pace honest stands. step opening m pace honest (λ ran. rows_stay state old new m.holds keeps (effect.bytes honest) (stands.rows ran)) stands),
-  record { holds = keeps; step = λ opening m pace honest stands. step opening m pace honest (λ ran. refl) stands },
+  goes_by state seat k answer old new core timed can effect.goes_on commits follows numbers (λ opening m honest stands. step opening m honest (λ ran. rows_stay state old new m.holds keeps (effect.bytes honest) (stands.rows ran)) stands),
+  record { holds = keeps; step = λ opening m honest stands. step opening m honest (λ ran. refl) stands },
 )
   where
-    step : {Rows Next : List (Option (List Row)) → Type 0} (opening : List (Key × Value)) (m : Machine) (pace : Pace) → IsTrue (state old.disk).is_honest → (old.held.book.stopped ≡ None → Next m.holds) → StandsFor Rows opening old.held m pace (state old.disk)
-        → IsStep Next opening seat k answer new.held (state old.disk) (state new.disk) m pace
-    step opening m pace honest said stands = rows_said opening seat k answer old.held new.held (state old.disk) (state new.disk) m pace none said stands
-        (steps opening m pace honest (with_rows opening old.held m pace (state old.disk) (λ none. tt) stands) (may_agrees seat k old.held m stands.book stands.gears ∙ can))
+    step : {Rows Next : List (Option (List Row)) → Type 0} (opening : List (Key × Value)) (m : Machine) → IsTrue (state old.disk).is_honest → (old.held.book.stopped ≡ None → Next m.holds) → StandsFor Rows opening old.held m (state old.disk)
+        → IsStep Next opening seat k answer new.held (state old.disk) (state new.disk) m
+    step opening m honest said stands = rows_said opening seat k answer old.held new.held (state old.disk) (state new.disk) m none said stands
+        (steps opening m honest (with_rows opening old.held m (state old.disk) (λ none. tt) stands) (may_agrees seat k old.held m stands.book stands.gears ∙ can))
 
 -- And the core, as it is told of, keeps what its type keeps.
 pub core_kept : {D : Type 0} (state : D → DiskState) {seat : ℕ} {k : Kind} {answer : Answer} {inside old new : CoreState D} → inside ≡ old → IsCore inside.held (state inside.disk) → GoesOnAs state seat k answer old new → IsCore new.held (state new.disk)

@@ -16,7 +16,6 @@ use Rattle.blsm_model.specs.Histories.{answer_to_get}
 use Rattle.disk_trait.specs.Disk.{DiskState}
 use Rattle.disk_trait.specs.Reads.{OnlyReads}
 use Rattle.disk_trait.specs.Moments.{IsTimed}
-use Rattle.pacing.specs.Pace.{Pace}
 use Rattle.seat_book.specs.State.{BookState, noted_in, may_note_in}
 use Rattle.seat_book.proofs.KeepLemmas.{note_keeps}
 use Rattle.seat_book.proofs.WordLemmas.{moves_book, note_has_room}
@@ -60,21 +59,21 @@ get_has_room seat key found b can = note_has_room b seat 0 (Get key) (reply_to_g
 -- ---- on an honest one
 
 -- The machine's step, where it notes this reply.
-get_step : {end most : ℕ} {d d2 : DiskState} (opening : List (Key × Value)) (seat : ℕ) (key : Key) (r : Reply) (outcome : Outcome) (held : Held) (m : Machine) (pace : Pace) → OnlyReads end most d d2 → IsTrue d.is_honest
-    → StandsFor AnyRows opening held m pace d → may m seat (kind.Look (Get key)) ≡ true → look m seat (Get key) outcome ≡ replied seat (Get key) r m
+get_step : {end most : ℕ} {d d2 : DiskState} (opening : List (Key × Value)) (seat : ℕ) (key : Key) (r : Reply) (outcome : Outcome) (held : Held) (m : Machine) → OnlyReads end most d d2 → IsTrue d.is_honest
+    → StandsFor AnyRows opening held m d → may m seat (kind.Look (Get key)) ≡ true → look m seat (Get key) outcome ≡ replied seat (Get key) r m
     → IsPossible m seat (kind.Look (Get key)) outcome d.faults d2.faults → is_broken outcome ≡ false
-    → IsStep AnyRows opening seat (kind.Look (Get key)) (Replied r) (with_book (noted_in seat (Get key) r held.book) held) d d2 m pace
-get_step opening seat key r outcome held m pace reads honest s can is possible whole =
+    → IsStep AnyRows opening seat (kind.Look (Get key)) (Replied r) (with_book (noted_in seat (Get key) r held.book) held) d d2 m
+get_step opening seat key r outcome held m reads honest s can is possible whole =
     let entry : Entry = record { seat = seat; op = Get key; reply = r } in
-    quiet_step opening seat (kind.Look (Get key)) outcome (Replied r) held held.runs.space (noted_in seat (Get key) r held.book) m (note seat (Get key) r m) pace reads honest s can tt possible whole refl is
+    quiet_step opening seat (kind.Look (Get key)) outcome (Replied r) held held.runs.space (noted_in seat (Get key) r held.book) m (note seat (Get key) r m) reads honest s can tt possible whole is
     (record { same = record { lists = refl; merges = refl; gears = refl; spring = refl; catalogue = refl }; counts = record { charge = refl; peak = refl; quanta = refl }; book = (moves_book m).note seat (Get key) r ∙ ap (noted_in seat (Get key) r) s.book; stopped = refl; noted = inr (entry, refl, quiet_entry_counts_none entry (inl refl)) }) (λ tree table file of. of) (λ none. tt)
 
-get_steps : {end most : ℕ} {d d2 : DiskState} (opening : List (Key × Value)) (seat : ℕ) (key : Key) (found : Lookup) (held : Held) (m : Machine) (pace : Pace) → OnlyReads end most d d2 → IsTrue d.is_honest
+get_steps : {end most : ℕ} {d d2 : DiskState} (opening : List (Key × Value)) (seat : ℕ) (key : Key) (found : Lookup) (held : Held) (m : Machine) → OnlyReads end most d d2 → IsTrue d.is_honest
     → FindsBecause found key held d d2 → (found ≡ lookup.Fault → d2.faults < 2 ^ 64)
     → ((tree : Tree) → HoldsTree held.runs.sizes tree d.bytes → tree.catalogue ≡ held.runs.catalogue → AreGuided held.runs.guides held.runs.tags tree → held.book.stopped ≡ None → found ≢ lookup.Fault → reply_to_get found ≡ answer_to_get (found_in key held tree))
-    → StandsFor AnyRows opening held m pace d → may m seat (kind.Look (Get key)) ≡ true
-    → IsStep AnyRows opening seat (kind.Look (Get key)) (Replied (reply_to_get found)) (with_book (noted_in seat (Get key) (reply_to_get found) held.book) held) d d2 m pace
-get_steps {end} {most} {d} {d2} opening seat key found held m pace reads honest because counted value s can = by found because counted value
+    → StandsFor AnyRows opening held m d → may m seat (kind.Look (Get key)) ≡ true
+    → IsStep AnyRows opening seat (kind.Look (Get key)) (Replied (reply_to_get found)) (with_book (noted_in seat (Get key) (reply_to_get found) held.book) held) d d2 m
+get_steps {end} {most} {d} {d2} opening seat key found held m reads honest because counted value s can = by found because counted value
   where
     stopped_is : m.stopped ≡ held.book.stopped
     stopped_is = ap (λ (b : BookState). b.stopped) s.book
@@ -91,20 +90,20 @@ get_steps {end} {most} {d} {d2} opening seat key found held m pace reads honest 
         ∙ ap answer_to_get (lookup_is_the_machines held over.tree m d.bytes key (record { are_of = over.over.are_of; holds = over.holds }))
 
     well : (r : Reply) → held.book.stopped ≡ None → r ≡ answer_to_get (value_in m.lists key)
-        → IsStep AnyRows opening seat (kind.Look (Get key)) (Replied r) (with_book (noted_in seat (Get key) r held.book) held) d d2 m pace
-    well r none is = get_step opening seat key r Well held m pace reads honest s can (running Well none ∙ ap (λ (x : Reply). replied seat (Get key) x m) (sym is)) tt refl
+        → IsStep AnyRows opening seat (kind.Look (Get key)) (Replied r) (with_book (noted_in seat (Get key) r held.book) held) d d2 m
+    well r none is = get_step opening seat key r Well held m reads honest s can (running Well none ∙ ap (λ (x : Reply). replied seat (Get key) x m) (sym is)) tt refl
 
     by : (f : Lookup) → FindsBecause f key held d d2 → (f ≡ lookup.Fault → d2.faults < 2 ^ 64)
         → ((tree : Tree) → HoldsTree held.runs.sizes tree d.bytes → tree.catalogue ≡ held.runs.catalogue → AreGuided held.runs.guides held.runs.tags tree → held.book.stopped ≡ None → f ≢ lookup.Fault → reply_to_get f ≡ answer_to_get (found_in key held tree))
-        → IsStep AnyRows opening seat (kind.Look (Get key)) (Replied (reply_to_get f)) (with_book (noted_in seat (Get key) (reply_to_get f) held.book) held) d d2 m pace
+        → IsStep AnyRows opening seat (kind.Look (Get key)) (Replied (reply_to_get f)) (with_book (noted_in seat (Get key) (reply_to_get f) held.book) held) d d2 m
     by (lookup.Is x) because counted is = well (reply.Is x) because.0 (there (reply.Is x) because.0 (λ tree holds catalogue guided. is tree holds catalogue guided because.0 (λ same. cc same)))
     by lookup.Absent because counted is = well reply.Absent because.0 (there reply.Absent because.0 (λ tree holds catalogue guided. is tree holds catalogue guided because.0 (λ same. cc same)))
     by (lookup.Damaged page) because counted is = well (reply.Damaged page) because.0 (there (reply.Damaged page) because.0 (λ tree holds catalogue guided. is tree holds catalogue guided because.0 (λ same. cc same)))
     by lookup.Fault because counted is =
-        get_step opening seat key reply.Fault (FailedAfter 0 d2.faults) held m pace reads honest s can (running (FailedAfter 0 d2.faults) because.0)
+        get_step opening seat key reply.Fault (FailedAfter 0 d2.faults) held m reads honest s can (running (FailedAfter 0 d2.faults) because.0)
         (ap (λ (o : Option Why). not (is_some o) && true) (stopped_is ∙ because.0), omega arith, rose d.faults d2.faults reads.effect.goes_on.faults (counted refl) because.1, refl) refl
     by (lookup.Stopped why) because counted is =
-        get_step opening seat key (reply.Stopped why) Well held m pace reads honest s can
+        get_step opening seat key (reply.Stopped why) Well held m reads honest s can
         (ap (λ (o : Option Why). unless_stopped o seat (Get key) m (replied seat (Get key) (answer_to_get (value_in m.lists key)) m)) (stopped_is ∙ because.0)) tt refl
 
 -- ---- the call
@@ -123,7 +122,7 @@ get_does {D} state seat key found old disk b core timed stay can because counted
     goes = book_goes state seat (kind.Look (Get key)) (Replied (reply_to_get found)) old disk (noted_in seat (Get key) (reply_to_get found) old.held.book) 1 core timed reads (reads_on old.held stay reads) refl refl can (omega arith)
         (note_keeps seat (Get key) (reply_to_get found) old.held.book) refl refl
         (λ pace told. entry_is_told old.held.book pace seat (Get key) (reply_to_get found) (λ done. refl) (get_has_room seat key found old.held.book can) told) (λ pace. refl)
-        (λ opening m pace honest s ok. get_steps opening seat key found old.held m pace reads honest because counted (λ tree holds catalogue guided. value tree honest holds catalogue guided) s ok)
+        (λ opening m honest s ok. get_steps opening seat key found old.held m reads honest because counted (λ tree holds catalogue guided. value tree honest holds catalogue guided) s ok)
 
 -- ---- as a command that only looks
 

@@ -59,7 +59,7 @@ pub pay_halted : {D : Type 0} (state : D → DiskState) (seat : ℕ) (why : Why)
 pay_halted state seat why old core timed caller stopped =
     let goes = goes_on_by {end = 0} {most = 0} state seat kind.Pay (Turn (machine.Halted why)) old old core timed refl (may_leave seat caller) (record { holds = refl; pins = refl; sizes = refl }) (no_commits old.held old.held refl refl) (affects_start (state old.disk) timed)
     (follows_by seat 0 0 old.held old.held (omega arith) (omega arith) (keeps_itself seat old.held.book) (debts_stay seat old.held.gears)) (λ pace holds. record { next = pace; made = refl; holds = holds })
-    (λ opening m pace honest s ok. halted_payment opening seat why old.held m pace (state old.disk) timed honest stopped s ok) in
+    (λ opening m honest s ok. halted_payment opening seat why old.held m (state old.disk) timed honest stopped s ok) in
     record {
       goes = goes.0;
       beside = goes.1;
@@ -78,7 +78,7 @@ pay_settled state seat plan old forgiven core timed caller ran is plan_is none =
     let nothing = nothing_planned seat plan old.held forgiven is plan_is none in
     let pins = forgiven_keeps_pins seat old.held forgiven is in
     let goes = goes_on_by {end = 0} {most = 0} state seat kind.Pay Settled old (record old { held = forgiven }) core timed refl (may_leave seat caller) (record { holds = refl; pins = pins.pins; sizes = pins.sizes }) pins.commits (affects_start d timed) (settling_follows seat old.held forgiven is)
-    (λ pace holds. settling_moves seat old.held forgiven pace d caller ran holds is) (λ opening m pace honest s ok. settled_payment opening seat old.held forgiven m pace core.pace d timed ran core.holds s ok is nothing) in
+    (λ pace holds. settling_moves seat old.held forgiven pace d caller ran holds is) (λ opening m honest s ok. settled_payment opening seat old.held forgiven m core.pace d timed ran core.holds s ok is nothing) in
     record {
       goes = goes.0;
       beside = goes.1;
@@ -114,18 +114,18 @@ module _ {D : Type 0} (state : D → DiskState) (seat : ℕ) (plan : Plan) (resu
 
   paying_goes : (answer : Answer) (b : BookState) → b.counts ≡ taken.book.counts → Follows seat (facts_of_held old.held) (facts_of_held (with_book b taken))
       → ((pace : Pace) → HoldsPace old.held pace (state old.disk) → MovesPace seat kind.Pay answer (with_book b taken) (state disk) pace)
-      → ((opening : List (Key × Value)) (m : Machine) (pace : Pace) (tree : Tree) → RunsAt opening old.held m pace (state old.disk) tree → may m seat kind.Pay ≡ true → LeavesTaken plan result forgiven taken tree (state old.disk) (state disk)
-      → IsStep AnyRows opening seat kind.Pay answer (with_book b taken) (state old.disk) (state disk) m pace)
+      → ((opening : List (Key × Value)) (m : Machine) (tree : Tree) → RunsAt opening old.held m (state old.disk) tree → may m seat kind.Pay ≡ true → LeavesTaken plan result forgiven taken tree (state old.disk) (state disk)
+      → IsStep AnyRows opening seat kind.Pay answer (with_book b taken) (state old.disk) (state disk) m)
       → GoesOnAs state seat kind.Pay answer old (record { disk = disk; held = with_book b taken; holds = old.holds }) × BesideHolds state seat kind.Pay answer old (record { disk = disk; held = with_book b taken; holds = old.holds })
   paying_goes answer b counts follows numbers steps =
       let pins = then_pins old.held forgiven taken (forgiven_keeps_pins seat old.held forgiven t.plans.is) (quantum_keeps_pins plan result seat forgiven taken t.takes t.kept) in
       goes_on_by state seat kind.Pay answer old _ t.core t.timed refl (may_leave seat t.plans.caller) (record { holds = refl; pins = pins.pins; sizes = pins.sizes }) (subst (λ (n : ℕ). CountsCommits n old.held (with_book b taken)) (sym (pay_rotates answer old.held)) (commits_beside 0 old.held taken b counts pins.commits)) paying_effect follows numbers
-      (λ opening m pace honest s ok.
+      (λ opening m honest s ok.
       let ran = t.plans.ran in
       let k = (t.core.holds.live ran).paced in
       let tree = (s.runs ran).tree in
-      let r = running_at opening old.held m pace (state old.disk) t.core.pace s ran k.numbers k.one.gears in
-      steps opening m pace tree r ok (t.lists tree honest (stands_forgiven seat old.held forgiven tree (state old.disk) t.plans.is r.over)))
+      let r = running_at opening old.held m (state old.disk) t.core.pace s ran k.numbers k.one.gears in
+      steps opening m tree r ok (t.lists tree honest (stands_forgiven seat old.held forgiven tree (state old.disk) t.plans.is r.over)))
 
 pub pay_taken : {D : Type 0} (state : D → DiskState) (seat n : ℕ) (plan : Plan) (old : CoreState D) (forgiven taken : Held) (disk : D) (b : BookState) → Paying state seat plan (Ok n) old forgiven taken disk → IsOn taken (state disk)
     → b ≡ paid_in seat taken.book → Pays state seat payment.Paid old (record { disk = disk; held = with_book b taken; holds = old.holds })
@@ -160,7 +160,7 @@ pay_taken {D} state seat n plan old forgiven taken disk b t on counted = record 
 
     goes : GoesOnAs state seat kind.Pay Paid old (record { disk = disk; held = with_book b taken; holds = old.holds }) × BesideHolds state seat kind.Pay Paid old (record { disk = disk; held = with_book b taken; holds = old.holds })
     goes = paying_goes state seat plan (Ok n) old forgiven taken disk t Paid b (ap (λ (x : BookState). x.counts) counted) (payment_follows seat n plan old.held forgiven taken b took counted) (λ pace holds. moves pace holds)
-        (λ opening m pace tree r ok leaves. paid_step opening seat n plan old.held forgiven taken b m pace (moves t.core.pace t.core.holds).next before after tree (Ok n) took counted r
+        (λ opening m tree r ok leaves. paid_step opening seat n plan old.held forgiven taken b m (moves t.core.pace t.core.holds).next before after tree (Ok n) took counted r
         ((moves t.core.pace t.core.holds).holds.live runs).paced ok refl leaves)
 
 -- a call of the disk failed, or a page was found damaged
@@ -178,7 +178,7 @@ pay_failed state seat faults plan broken old forgiven taken disk b t is counted 
     let risen = t.told.failed (ap (λ (x : Broken). Err x) is) in
     let goes = paying_goes state seat plan (Err broken) old forgiven taken disk t (Turn machine.Failed) b (ap (λ (x : BookState). x.counts) stops) (failed_payment_follows seat plan (Faulted faults) old.held forgiven taken b f)
     (λ pace holds. failed_payment_moves seat plan (Faulted faults) old.held forgiven taken b pace before after (Turn machine.Failed) f holds refl)
-    (λ opening m pace tree r ok leaves. failed_payment_step opening seat faults plan old.held forgiven taken b m pace before after tree (Err broken) f r ok counted (has_risen before.faults after.faults t.effect.goes_on.faults few risen) leaves) in
+    (λ opening m tree r ok leaves. failed_payment_step opening seat faults plan old.held forgiven taken b m before after tree (Err broken) f r ok counted (has_risen before.faults after.faults t.effect.goes_on.faults few risen) leaves) in
     record {
       goes = goes.0;
       beside = goes.1;
@@ -199,7 +199,7 @@ pay_damaged state seat page plan broken old forgiven taken disk b t is stops =
     let notes = failed_payment_counts seat plan (BadPage page) old.held forgiven taken b f in
     let goes = paying_goes state seat plan (Err broken) old forgiven taken disk t (Turn (machine.BadPage page)) b (ap (λ (x : BookState). x.counts) stops) (failed_payment_follows seat plan (BadPage page) old.held forgiven taken b f)
     (λ pace holds. failed_payment_moves seat plan (BadPage page) old.held forgiven taken b pace before after (Turn (machine.BadPage page)) f holds refl)
-    (λ opening m pace tree r ok leaves. absurd (never_damaged plan page forgiven taken tree before after (Err broken) (ap (λ (x : Broken). Err x) is) leaves)) in
+    (λ opening m tree r ok leaves. absurd (never_damaged plan page forgiven taken tree before after (Err broken) (ap (λ (x : Broken). Err x) is) leaves)) in
     record {
       goes = goes.0;
       beside = goes.1;

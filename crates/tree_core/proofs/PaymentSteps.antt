@@ -24,7 +24,6 @@ use Rattle.tree_machine.specs.Moves.{stop}
 use Rattle.tree_machine.specs.Steps.{Stepped, Outcome, Well, FailedAfter, Paid, Settled, Turn, forgive, pay, pay_planned, pay_running}
 use Rattle.tree_machine.specs.Plays.{may}
 use Rattle.tree_machine.specs.Outcomes.{Rose, IsPossible}
-use Rattle.paced_tree.specs.After.{pace_after, unless_stopped, after_payment}
 use Rattle.paced_tree.specs.Kept.{IsPacedTree}
 use Rattle.paced_tree.proofs.Payments.{sound_forgiven}
 use Rattle.seat_book.specs.State.{BookState, paid_in, stopped_in}
@@ -54,53 +53,53 @@ use Rattle.core_lists.proofs.Terms.{IsAt}
 
 -- ---- a store that is stopped
 
-pub halted_payment : (opening : List (Key × Value)) (seat : ℕ) (why : Why) (held : Held) (m : Machine) (pace : Pace) (d : DiskState) → IsTimed d → IsTrue d.is_honest → held.book.stopped ≡ Some why → StandsFor AnyRows opening held m pace d
-    → IsTrue (may m seat kind.Pay) → IsStep AnyRows opening seat kind.Pay (Turn (machine.Halted why)) held d d m pace
-halted_payment opening seat why held m pace d timed honest is stands ok =
+pub halted_payment : (opening : List (Key × Value)) (seat : ℕ) (why : Why) (held : Held) (m : Machine) (d : DiskState) → IsTimed d → IsTrue d.is_honest → held.book.stopped ≡ Some why → StandsFor AnyRows opening held m d
+    → IsTrue (may m seat kind.Pay) → IsStep AnyRows opening seat kind.Pay (Turn (machine.Halted why)) held d d m
+halted_payment opening seat why held m d timed honest is stands ok =
     let stop_is : m.stopped ≡ Some why = ap (λ (b : BookState). b.stopped) stands.book ∙ is in
-    quiet_step {end = 0} {most = 0} opening seat kind.Pay Well (Turn (machine.Halted why)) held held.runs.space held.book m m pace (only_reads_start d timed) honest stands ok tt tt refl
-    (ap (λ (o : Option Why). unless_stopped o pace (after_payment m pace seat Well)) stop_is) (ap (λ (o : Option Why). pay_running o m seat Well) stop_is)
+    quiet_step {end = 0} {most = 0} opening seat kind.Pay Well (Turn (machine.Halted why)) held held.runs.space held.book m m (only_reads_start d timed) honest stands ok tt tt refl
+    (ap (λ (o : Option Why). pay_running o m seat Well) stop_is)
     (record { same = record { lists = refl; merges = refl; gears = refl; spring = refl; catalogue = refl }; counts = record { charge = refl; peak = refl; quanta = refl }; book = stands.book; stopped = refl; noted = inl refl }) (λ tree table file of. of) (λ none. tt)
 
 -- ---- one that runs
 
 -- What a payment finds: where the core stands, with its numbers.
-abbrev pub at_forgiven : (opening : List (Key × Value)) (seat : ℕ) (old : Held) (m : Machine) (pace : Pace) (d : DiskState) (tree : Tree) (r : RunsAt opening old m pace d tree) → IsAt (with_debts_forgiven seat old) tree (forgive seat m) d.bytes
-at_forgiven opening seat old m pace d tree r = forgiving_lands seat old tree m d.bytes r.numbers (record { are_of = r.over.are_of; holds = r.holds }) r.goes.paced.stands.sound r.has
+abbrev pub at_forgiven : (opening : List (Key × Value)) (seat : ℕ) (old : Held) (m : Machine) (d : DiskState) (tree : Tree) (r : RunsAt opening old m d tree) → IsAt (with_debts_forgiven seat old) tree (forgive seat m) d.bytes
+at_forgiven opening seat old m d tree r = forgiving_lands seat old tree m d.bytes r.numbers (record { are_of = r.over.are_of; holds = r.holds }) r.goes.paced.stands.sound r.has
 
 pay_as : (m : Machine) (seat : ℕ) (outcome : Outcome) (plan : Plan) → m.stopped ≡ None → plan_for (first_debt (forgive seat m).gears seat) (second_debt (forgive seat m).gears seat) ≡ plan
     → pay m seat outcome ≡ pay_planned plan (forgive seat m) seat outcome
 pay_as m seat outcome plan runs is = ap (λ (o : Option Why). pay_running o m seat outcome) runs ∙ ap (λ (p : Plan). pay_planned p (forgive seat m) seat outcome) is
 
-same_plan : (opening : List (Key × Value)) (seat : ℕ) (old : Held) (m : Machine) (pace : Pace) (d : DiskState) (tree : Tree) → RunsAt opening old m pace d tree
+same_plan : (opening : List (Key × Value)) (seat : ℕ) (old : Held) (m : Machine) (d : DiskState) (tree : Tree) → RunsAt opening old m d tree
     → plan_for (first_debt (forgive seat m).gears seat) (second_debt (forgive seat m).gears seat) ≡ plan_in seat old
-same_plan opening seat old m pace d tree r = ap (λ (g : GearState). plan_for (first_debt g seat) (second_debt g seat)) (at_forgiven opening seat old m pace d tree r).holds.gears
+same_plan opening seat old m d tree r = ap (λ (g : GearState). plan_for (first_debt g seat) (second_debt g seat)) (at_forgiven opening seat old m d tree r).holds.gears
 
-machine_runs : (opening : List (Key × Value)) (old : Held) (m : Machine) (pace : Pace) (d : DiskState) (tree : Tree) → RunsAt opening old m pace d tree → m.stopped ≡ None
-machine_runs opening old m pace d tree r = ap (λ (b : BookState). b.stopped) r.holds.book ∙ r.ran
+machine_runs : (opening : List (Key × Value)) (old : Held) (m : Machine) (d : DiskState) (tree : Tree) → RunsAt opening old m d tree → m.stopped ≡ None
+machine_runs opening old m d tree r = ap (λ (b : BookState). b.stopped) r.holds.book ∙ r.ran
 
 -- where nothing is owed
-settled_at : (opening : List (Key × Value)) (seat : ℕ) (old : Held) (m : Machine) (pace : Pace) (d : DiskState) (tree : Tree) → IsTimed d → RunsAt opening old m pace d tree → IsTrue (may m seat kind.Pay)
-    → ((c : List ℕ) → d.images c → HoldsTree old.runs.sizes tree c) → plan_in seat old ≡ Nothing → IsStep AnyRows opening seat kind.Pay Settled (with_debts_forgiven seat old) d d m pace
-settled_at opening seat old m pace d tree timed r ok each nothing =
-    let steady = steady_at opening old m pace d tree r in
+settled_at : (opening : List (Key × Value)) (seat : ℕ) (old : Held) (m : Machine) (d : DiskState) (tree : Tree) → IsTimed d → RunsAt opening old m d tree → IsTrue (may m seat kind.Pay)
+    → ((c : List ℕ) → d.images c → HoldsTree old.runs.sizes tree c) → plan_in seat old ≡ Nothing → IsStep AnyRows opening seat kind.Pay Settled (with_debts_forgiven seat old) d d m
+settled_at opening seat old m d tree timed r ok each nothing =
+    let steady = steady_at opening old m d tree r in
     let at = settling_lands seat old tree m d.bytes steady nothing in
-    let goes = payment_goes_on opening m pace r.fronts tree seat Well ok r.goes in
-    let answers = ap (λ (s : Stepped). s.answer) (pay_as m seat Well Nothing (machine_runs opening old m pace d tree r) (same_plan opening seat old m pace d tree r ∙ nothing)) in
-    step_by opening seat kind.Pay Settled (with_debts_forgiven seat old) d d m pace Well (pay m seat Well) (pace_after m pace seat kind.Pay Well) refl refl tt refl
-    (stands_running opening (with_debts_forgiven seat old) (pay m seat Well).state (pace_after m pace seat kind.Pay Well) d tree
+    let goes = payment_goes_on opening m r.fronts tree seat Well ok r.goes in
+    let answers = ap (λ (s : Stepped). s.answer) (pay_as m seat Well Nothing (machine_runs opening old m d tree r) (same_plan opening seat old m d tree r ∙ nothing)) in
+    step_by opening seat kind.Pay Settled (with_debts_forgiven seat old) d d m Well (pay m seat Well) refl tt refl
+    (stands_running opening (with_debts_forgiven seat old) (pay m seat Well).state d tree
     (record { fronts = r.fronts; over = r.over; holds = at.holds; goes = goes; numbers = with_forgiven r.numbers seat; has = forgiving_has_pace seat old r.numbers r.has; one = r.one; ran = r.ran }))
     (sym answers)
     (leaves_same opening m d d (pay m seat Well).state.book.entries d.images (ap (λ (b : BookState). b.book.entries) (at.holds.book ∙ sym r.holds.book))
-    (λ c here. shows_at opening old m pace d tree c r (each c here)) (leaves_only_start d d.images timed (λ c here. here)))
+    (λ c here. shows_at opening old m d tree c r (each c here)) (leaves_only_start d d.images timed (λ c here. here)))
 
-pub settled_payment : (opening : List (Key × Value)) (seat : ℕ) (old forgiven : Held) (m : Machine) (pace numbers : Pace) (d : DiskState) → IsTimed d → old.book.stopped ≡ None → HoldsPace old numbers d → StandsFor AnyRows opening old m pace d
-    → IsTrue (may m seat kind.Pay) → forgiven ≡ with_debts_forgiven seat old → plan_in seat old ≡ Nothing → IsStep AnyRows opening seat kind.Pay Settled forgiven d d m pace
-settled_payment opening seat old forgiven m pace numbers d timed ran holds stands ok is nothing =
+pub settled_payment : (opening : List (Key × Value)) (seat : ℕ) (old forgiven : Held) (m : Machine) (numbers : Pace) (d : DiskState) → IsTimed d → old.book.stopped ≡ None → HoldsPace old numbers d → StandsFor AnyRows opening old m d
+    → IsTrue (may m seat kind.Pay) → forgiven ≡ with_debts_forgiven seat old → plan_in seat old ≡ Nothing → IsStep AnyRows opening seat kind.Pay Settled forgiven d d m
+settled_payment opening seat old forgiven m numbers d timed ran holds stands ok is nothing =
     let k = (holds.live ran).paced in
-    let r = running_at opening old m pace d numbers stands ran k.numbers k.one.gears in
-    subst (λ (h : Held). IsStep AnyRows opening seat kind.Pay Settled h d d m pace) (sym is)
-    (settled_at opening seat old m pace d (stands.runs ran).tree timed r ok (stands.runs ran).over.stands.each nothing)
+    let r = running_at opening old m d numbers stands ran k.numbers k.one.gears in
+    subst (λ (h : Held). IsStep AnyRows opening seat kind.Pay Settled h d d m) (sym is)
+    (settled_at opening seat old m d (stands.runs ran).tree timed r ok (stands.runs ran).over.stands.each nothing)
 
 -- where the quantum was taken
 paid_answer : (plan : Plan) (m : Machine) (seat : ℕ) → (plan ≡ Nothing → ⊥) → (pay_planned plan m seat Well).answer ≡ Paid
@@ -116,17 +115,17 @@ same_file seat old forgiven tree file is holds = subst (λ (h : Held). HoldsTree
 pub stands_forgiven : (seat : ℕ) (old forgiven : Held) (tree : Tree) (d : DiskState) → forgiven ≡ with_debts_forgiven seat old → StandOver old.runs tree old.log.a.entries d → StandOver forgiven.runs tree forgiven.log.a.entries d
 stands_forgiven seat old forgiven tree d is over = subst (λ (h : Held). StandOver h.runs tree h.log.a.entries d) (sym is) over
 
-pub paid_step : (opening : List (Key × Value)) (seat n : ℕ) (plan : Plan) (old forgiven taken : Held) (b : BookState) (m : Machine) (pace next : Pace) (before after : DiskState) (tree : Tree) (result : Result ℕ Broken)
-    → Took seat n plan old forgiven taken → b ≡ paid_in seat taken.book → RunsAt opening old m pace before tree → IsPacedHeld (with_book b taken) next → IsTrue (may m seat kind.Pay)
-    → result ≡ Ok n → LeavesTaken plan result forgiven taken tree before after → IsStep AnyRows opening seat kind.Pay Paid (with_book b taken) before after m pace
-paid_step opening seat n plan old forgiven taken b m pace next before after tree result took counted r k ok is leaves =
-    step_by opening seat kind.Pay Paid (with_book b taken) before after m pace Well (pay m seat Well) (pace_after m pace seat kind.Pay Well) refl refl tt refl
-    (stands_running opening (with_book b taken) (pay m seat Well).state (pace_after m pace seat kind.Pay Well) after tree
-    (record { fronts = r.fronts; over = left.2; holds = at.holds; goes = payment_goes_on opening m pace r.fronts tree seat Well ok r.goes; numbers = next; has = k.numbers; one = k.one.gears; ran = payment_runs seat n plan old forgiven taken b took counted }))
-    (sym (ap (λ (s : Stepped). s.answer) (pay_as m seat Well plan (machine_runs opening old m pace before tree r) (same_plan opening seat old m pace before tree r ∙ sym took.plans.plan_is)) ∙ paid_answer plan (forgive seat m) seat took.plans.owes))
+pub paid_step : (opening : List (Key × Value)) (seat n : ℕ) (plan : Plan) (old forgiven taken : Held) (b : BookState) (m : Machine) (next : Pace) (before after : DiskState) (tree : Tree) (result : Result ℕ Broken)
+    → Took seat n plan old forgiven taken → b ≡ paid_in seat taken.book → RunsAt opening old m before tree → IsPacedHeld (with_book b taken) next → IsTrue (may m seat kind.Pay)
+    → result ≡ Ok n → LeavesTaken plan result forgiven taken tree before after → IsStep AnyRows opening seat kind.Pay Paid (with_book b taken) before after m
+paid_step opening seat n plan old forgiven taken b m next before after tree result took counted r k ok is leaves =
+    step_by opening seat kind.Pay Paid (with_book b taken) before after m Well (pay m seat Well) refl tt refl
+    (stands_running opening (with_book b taken) (pay m seat Well).state after tree
+    (record { fronts = r.fronts; over = left.2; holds = at.holds; goes = payment_goes_on opening m r.fronts tree seat Well ok r.goes; numbers = next; has = k.numbers; one = k.one.gears; ran = payment_runs seat n plan old forgiven taken b took counted }))
+    (sym (ap (λ (s : Stepped). s.answer) (pay_as m seat Well plan (machine_runs opening old m before tree r) (same_plan opening seat old m before tree r ∙ sym took.plans.plan_is)) ∙ paid_answer plan (forgive seat m) seat took.plans.owes))
     (leaves_same opening m before after (pay m seat Well).state.book.entries (HoldsTree forgiven.runs.sizes tree)
     (ap (λ (x : BookState). x.book.entries) at.holds.book ∙ paid_entries seat n plan old forgiven taken b took counted ∙ sym (ap (λ (x : BookState). x.book.entries) r.holds.book))
-    (λ c here. shows_at opening old m pace before tree c r (same_file seat old forgiven tree c took.plans.is here)) leaves.each)
+    (λ c here. shows_at opening old m before tree c r (same_file seat old forgiven tree c took.plans.is here)) leaves.each)
   where
     left : (x : ℕ) × (result ≡ Ok x) × StandOver taken.runs tree taken.log.a.entries after × TookByPlan plan x forgiven taken tree
     left = leaves.taken (λ same. cc (same, is))
@@ -140,7 +139,7 @@ paid_step opening seat n plan old forgiven taken b m pace next before after tree
         (subst (λ (h : Held). TookByPlan plan n h taken tree) took.plans.is (subst (λ (x : ℕ). TookByPlan plan x forgiven taken tree) same_n left.3))
 
     at : IsAt (with_book b taken) tree (pay m seat Well).state after.bytes
-    at = payment_lands seat n old taken (with_book b taken) tree m before.bytes after.bytes (steady_at opening old m pace before tree r)
+    at = payment_lands seat n old taken (with_book b taken) tree m before.bytes after.bytes (steady_at opening old m before tree r)
         (record { takes = takes_in seat n plan old forgiven taken took; counted = ap (λ (x : BookState). with_book x taken) counted }) took_lists left.2.are_of
 
 -- ---- where it failed
@@ -152,11 +151,11 @@ failed_as plan m seat f h1 = grind (arith, common_steps, nat_tests)
 owed_by : (first second : ℕ) → (plan_for first second ≡ Nothing → ⊥) → nat_lt 0 (first + second) ≡ true
 owed_by first second h1 = grind (arith, common_steps, nat_tests)
 
-pub failed_payment_step : (opening : List (Key × Value)) (seat f : ℕ) (plan : Plan) (old forgiven failed : Held) (b : BookState) (m : Machine) (pace : Pace) (before after : DiskState) (tree : Tree) (result : Result ℕ Broken)
-    → FailedToTake seat plan (Faulted f) old forgiven failed b → RunsAt opening old m pace before tree → IsTrue (may m seat kind.Pay) → f ≡ after.faults → Rose before.faults after.faults
-    → LeavesTaken plan result forgiven failed tree before after → IsStep AnyRows opening seat kind.Pay (Turn machine.Failed) (with_book b failed) before after m pace
-failed_payment_step opening seat f plan old forgiven failed b m pace before after tree result fails r ok counted rose leaves =
-    step_by opening seat kind.Pay (Turn machine.Failed) (with_book b failed) before after m pace (FailedAfter 0 f) stepped (pace_after m pace seat kind.Pay (FailedAfter 0 f)) same refl possible refl stands refl
+pub failed_payment_step : (opening : List (Key × Value)) (seat f : ℕ) (plan : Plan) (old forgiven failed : Held) (b : BookState) (m : Machine) (before after : DiskState) (tree : Tree) (result : Result ℕ Broken)
+    → FailedToTake seat plan (Faulted f) old forgiven failed b → RunsAt opening old m before tree → IsTrue (may m seat kind.Pay) → f ≡ after.faults → Rose before.faults after.faults
+    → LeavesTaken plan result forgiven failed tree before after → IsStep AnyRows opening seat kind.Pay (Turn machine.Failed) (with_book b failed) before after m
+failed_payment_step opening seat f plan old forgiven failed b m before after tree result fails r ok counted rose leaves =
+    step_by opening seat kind.Pay (Turn machine.Failed) (with_book b failed) before after m (FailedAfter 0 f) stepped same possible refl stands refl
     (leaves_same opening m before after m.book.entries (HoldsTree forgiven.runs.sizes tree) refl shows leaves.each)
   where
     stopped : Machine
@@ -166,36 +165,36 @@ failed_payment_step opening seat f plan old forgiven failed b m pace before afte
     stepped = record { state = stop (Faulted f) (forgive seat m); answer = Turn machine.Failed }
 
     at : IsAt (with_debts_forgiven seat old) tree (forgive seat m) before.bytes
-    at = at_forgiven opening seat old m pace before tree r
+    at = at_forgiven opening seat old m before tree r
 
     plan_is : plan_for (first_debt (forgive seat m).gears seat) (second_debt (forgive seat m).gears seat) ≡ plan
-    plan_is = same_plan opening seat old m pace before tree r ∙ sym fails.plans.plan_is
+    plan_is = same_plan opening seat old m before tree r ∙ sym fails.plans.plan_is
 
     same : pay m seat (FailedAfter 0 f) ≡ stepped
-    same = pay_as m seat (FailedAfter 0 f) plan (machine_runs opening old m pace before tree r) plan_is ∙ failed_as plan (forgive seat m) seat f fails.plans.owes
+    same = pay_as m seat (FailedAfter 0 f) plan (machine_runs opening old m before tree r) plan_is ∙ failed_as plan (forgive seat m) seat f fails.plans.owes
 
     owes : nat_lt 0 (first_debt (forgive seat m).gears seat + second_debt (forgive seat m).gears seat) ≡ true
     owes = owed_by (first_debt (forgive seat m).gears seat) (second_debt (forgive seat m).gears seat) (λ none. fails.plans.owes (sym plan_is ∙ none))
 
     possible : IsPossible m seat kind.Pay (FailedAfter 0 f) before.faults after.faults
     possible = (
-      ap (λ (o : Option Why). not (is_some o) && nat_lt 0 (first_debt (forgive seat m).gears seat + second_debt (forgive seat m).gears seat)) (machine_runs opening old m pace before tree r) ∙ owes,
+      ap (λ (o : Option Why). not (is_some o) && nat_lt 0 (first_debt (forgive seat m).gears seat + second_debt (forgive seat m).gears seat)) (machine_runs opening old m before tree r) ∙ owes,
       omega arith,
       rose,
       counted,
     )
 
     shows : (c : List ℕ) → HoldsTree forgiven.runs.sizes tree c → ShowsWhole opening m c
-    shows c here = shows_at opening old m pace before tree c r (same_file seat old forgiven tree c fails.plans.is here)
+    shows c here = shows_at opening old m before tree c r (same_file seat old forgiven tree c fails.plans.is here)
 
     stops : b ≡ stopped_in (Faulted f) old.book
     stops = book_stopped seat plan (Faulted f) old forgiven failed b fails
 
-    stands : StandsFor AnyRows opening (with_book b failed) stepped.state (pace_after m pace seat kind.Pay (FailedAfter 0 f)) after
+    stands : StandsFor AnyRows opening (with_book b failed) stepped.state after
     stands =
         let kept = kept_of seat plan (Faulted f) old forgiven failed b fails in
         record {
-          paced = subst (λ (s : Stepped). IsPacedTree opening s.state (pace_after m pace seat kind.Pay (FailedAfter 0 f))) same (payment_goes_on opening m pace r.fronts tree seat (FailedAfter 0 f) ok r.goes).paced;
+          paced = subst (λ (s : Stepped). IsPacedTree opening s.state) same (payment_goes_on opening m r.fronts tree seat (FailedAfter 0 f) ok r.goes).paced;
           sizes = ap (λ (g : GearState). g.sizes) r.holds.gears ∙ r.one ∙ sym (kept.sizes tt);
           gears = at.holds.gears ∙ sym (kept.gears tt);
           book = ap (λ (x : BookState). stopped_in (Faulted f) x) at.holds.book ∙ sym stops;

@@ -15,7 +15,6 @@ use Rattle.blsm_model.specs.Sizes.{Sizes}
 use Rattle.disk_trait.specs.Disk.{DiskState, GoesOn}
 use Rattle.disk_trait.specs.Moments.{IsTimed, LeavesOnly}
 use Rattle.disk_trait.proofs.MomentLemmas.{goes_on_start, leaves_only_run, leaves_only_weaken}
-use Rattle.pacing.specs.Pace.{Pace}
 use Rattle.seat_book.specs.State.{book_of}
 use Rattle.tree_machine.specs.declared.step.Kind.{Kind}
 use Rattle.tree_machine.specs.declared.step.Step.{Step}
@@ -24,11 +23,9 @@ use Rattle.tree_machine.specs.Outcomes.{AreTold, IsPossible, NoneBroken}
 use Rattle.tree_machine.specs.Plays.{may, played, played_one, stepped_as}
 use Rattle.tree_machine.specs.Steps.{Outcome, Answer, Well}
 use Rattle.tree_machine.proofs.FrameLemmas.{step_fixed, step_follows}
-use Rattle.paced_tree.specs.After.{pace_after}
 use Rattle.core_moves.specs.declared.held.Held.{Held}
 use Rattle.core_lists.specs.Shown.{ShowsHistory}
 use Rattle.core_lists.proofs.ShowingLemmas.{prefix_self, prefix_then, showing_is_kept}
-use Rattle.paced_tree.specs.Kept.{paced_all, paced_one}
 use Rattle.tree_core.specs.Core.{CoreState}
 use Rattle.tree_core.specs.Holds.{StandsWhole}
 use Rattle.tree_core.proofs.QuietLemmas.{leaves_now}
@@ -58,16 +55,16 @@ fit_as op fits is = same_truth fits (is_fit op) (λ yes. are_fit op (is.0 yes)) 
 -- ---- lists of steps
 
 -- what the machine does without any
-pub none_is_played : {D : Type 0} (state : D → DiskState) (opening : List (Key × Value)) (core : CoreState D) (m : Machine) (pace : Pace) → IsTimed (state core.disk) → StandsWhole state opening core m pace
-    → IsPlayed state opening [] core core m pace
-none_is_played state opening core m pace timed whole = record {
+pub none_is_played : {D : Type 0} (state : D → DiskState) (opening : List (Key × Value)) (core : CoreState D) (m : Machine) → IsTimed (state core.disk) → StandsWhole state opening core m
+    → IsPlayed state opening [] core core m
+none_is_played state opening core m timed whole = record {
   made = [];
   steps_are = refl;
   told = omega arith;
   whole = tt;
   stands = whole;
   grows = prefix_self m.book.entries;
-  images = leaves_only_weaken (λ c shows. shows.0) (leaves_now opening core.held m pace (state core.disk) timed whole);
+  images = leaves_only_weaken (λ c shows. shows.0) (leaves_now opening core.held m (state core.disk) timed whole);
 }
 
 -- a step of one seat notes one entry at most
@@ -81,45 +78,45 @@ one_told : (m : Machine) (step : Step) (outcome : Outcome) (old new : ℕ) → o
 one_told m step outcome old new grows possible = (new, grows, possible, omega arith)
 
 -- a step that was made
-pub made_is_played : {D : Type 0} (state : D → DiskState) (opening : List (Key × Value)) (step : Step) (answer : Answer) (old new : CoreState D) (m : Machine) (pace : Pace) → may m step.seat step.kind ≡ true
-    → (state old.disk).faults ≤ (state new.disk).faults → IsWholeStep state opening step.seat step.kind answer old new m pace → IsPlayed state opening (step ∷ []) old new m pace
-made_is_played state opening step answer old new m pace can grows is =
+pub made_is_played : {D : Type 0} (state : D → DiskState) (opening : List (Key × Value)) (step : Step) (answer : Answer) (old new : CoreState D) (m : Machine) → may m step.seat step.kind ≡ true
+    → (state old.disk).faults ≤ (state new.disk).faults → IsWholeStep state opening step.seat step.kind answer old new m → IsPlayed state opening (step ∷ []) old new m
+made_is_played state opening step answer old new m can grows is =
     let outcome = is.outcome in
     let played_is : played_one m (step, outcome) ≡ (stepped_as m step.seat step.kind outcome).state = ap (λ (b : Bool). cond b (stepped_as m step.seat step.kind outcome).state m) can in
-    let paced_is : paced_one m pace (step, outcome) ≡ pace_after m pace step.seat step.kind outcome = ap (λ (b : Bool). cond b (pace_after m pace step.seat step.kind outcome) pace) can in
     record {
       made = (step, outcome) ∷ [];
       steps_are = refl;
       told = one_told m step outcome (state old.disk).faults (state new.disk).faults grows (λ may. is.possible);
       whole = (is.whole, tt);
-      stands = subst (λ (p : Pace). StandsWhole state opening new (played_one m (step, outcome)) p) (sym paced_is)
-          (subst (λ (x : Machine). StandsWhole state opening new x (pace_after m pace step.seat step.kind outcome)) (sym played_is) is.stands);
+      stands = subst (λ (x : Machine). StandsWhole state opening new x) (sym played_is) is.stands;
       grows = subst (λ (x : Machine). IsPrefix m.book.entries x.book.entries) (sym played_is) (history_grows m step.seat step.kind outcome can);
       images = subst (λ (x : Machine). LeavesOnly (state old.disk) (state new.disk) (ShowsHistory m.gears.sizes opening x.book.entries (length m.book.entries))) (sym played_is) is.images;
     }
 
 -- a step of a kind, whose condition holds by what the core has in memory
-pub played_by : {D : Type 0} (state : D → DiskState) (opening : List (Key × Value)) (step : Step) (k : Kind) (answer : Answer) (old new : CoreState D) (m : Machine) (pace : Pace) → step.kind ≡ k
-    → may_in old.held step.seat step.kind ≡ true → GoesOn (state old.disk) (state new.disk) → StandsWhole state opening old m pace
-    → (may m step.seat k ≡ true → IsWholeStep state opening step.seat k answer old new m pace) → IsPlayed state opening (step ∷ []) old new m pace
-played_by state opening step k answer old new m pace is can goes whole by = grind (arith, common_steps, nat_tests, may_agrees, made_is_played)
+pub played_by : {D : Type 0} (state : D → DiskState) (opening : List (Key × Value)) (step : Step) (k : Kind) (answer : Answer) (old new : CoreState D) (m : Machine) → step.kind ≡ k
+    → may_in old.held step.seat step.kind ≡ true → GoesOn (state old.disk) (state new.disk) → StandsWhole state opening old m
+    → (may m step.seat k ≡ true → IsWholeStep state opening step.seat k answer old new m) → IsPlayed state opening (step ∷ []) old new m
+played_by state opening step k answer old new m is can goes whole by =
+    let may_now : may m step.seat step.kind ≡ true = may_agrees step.seat step.kind old.held m whole.book whole.gears ∙ can in
+    let made = by (subst (λ (x : Kind). may m step.seat x ≡ true) is may_now) in
+    made_is_played state opening step answer old new m may_now goes.faults (subst (λ (x : Kind). IsWholeStep state opening step.seat x answer old new m) (sym is) made)
 
 -- one that is passed over
-pub passed_is_played : {D : Type 0} (state : D → DiskState) (opening : List (Key × Value)) (step : Step) (core : CoreState D) (m : Machine) (pace : Pace) → IsTimed (state core.disk)
-    → may_in core.held step.seat step.kind ≡ false → StandsWhole state opening core m pace → IsPlayed state opening (step ∷ []) core core m pace
-passed_is_played state opening step core m pace timed cannot whole =
+pub passed_is_played : {D : Type 0} (state : D → DiskState) (opening : List (Key × Value)) (step : Step) (core : CoreState D) (m : Machine) → IsTimed (state core.disk)
+    → may_in core.held step.seat step.kind ≡ false → StandsWhole state opening core m → IsPlayed state opening (step ∷ []) core core m
+passed_is_played state opening step core m timed cannot whole =
     let d = state core.disk in
     let not : may m step.seat step.kind ≡ false = may_agrees step.seat step.kind core.held m whole.book whole.gears ∙ cannot in
     let played_is : played_one m (step, Well) ≡ m = ap (λ (b : Bool). cond b (stepped_as m step.seat step.kind Well).state m) not in
-    let paced_is : paced_one m pace (step, Well) ≡ pace = ap (λ (b : Bool). cond b (pace_after m pace step.seat step.kind Well) pace) not in
     record {
       made = (step, Well) ∷ [];
       steps_are = refl;
       told = one_told m step Well d.faults d.faults (omega arith) (λ may. tt);
       whole = (refl, tt);
-      stands = subst (λ (p : Pace). StandsWhole state opening core (played_one m (step, Well)) p) (sym paced_is) (subst (λ (x : Machine). StandsWhole state opening core x pace) (sym played_is) whole);
+      stands = subst (λ (x : Machine). StandsWhole state opening core x) (sym played_is) whole;
       grows = subst (λ (x : Machine). IsPrefix m.book.entries x.book.entries) (sym played_is) (prefix_self m.book.entries);
-      images = subst (λ (x : Machine). LeavesOnly d d (ShowsHistory m.gears.sizes opening x.book.entries (length m.book.entries))) (sym played_is) (leaves_only_weaken (λ c shows. shows.0) (leaves_now opening core.held m pace d timed whole));
+      images = subst (λ (x : Machine). LeavesOnly d d (ShowsHistory m.gears.sizes opening x.book.entries (length m.book.entries))) (sym played_is) (leaves_only_weaken (λ c shows. shows.0) (leaves_now opening core.held m d timed whole));
     }
 
 -- a disk that wasn't called
@@ -155,14 +152,10 @@ whole_then : (first second : List (Step × Outcome)) → NoneBroken first → No
 whole_then [] second one two = two
 whole_then (made ∷ first) second one two = (one.0, whole_then first second one.1 two)
 
-paced_then : (m : Machine) (pace : Pace) (first second : List (Step × Outcome)) → paced_all m pace (first ++ second) ≡ paced_all (played m first) (paced_all m pace first) second
-paced_then m pace [] second = refl
-paced_then m pace (made ∷ first) second = paced_then (played_one m made) (paced_one m pace made) first second
-
 -- these steps, and then those
-pub both_are_played : {D : Type 0} (state : D → DiskState) (opening : List (Key × Value)) (first second : List Step) (old mid new : CoreState D) (m : Machine) (pace : Pace) (one : IsPlayed state opening first old mid m pace)
-    → IsPlayed state opening second mid new (played m one.made) (paced_all m pace one.made) → IsPlayed state opening (first ++ second) old new m pace
-both_are_played state opening first second old mid new m pace one two =
+pub both_are_played : {D : Type 0} (state : D → DiskState) (opening : List (Key × Value)) (first second : List Step) (old mid new : CoreState D) (m : Machine) (one : IsPlayed state opening first old mid m)
+    → IsPlayed state opening second mid new (played m one.made) → IsPlayed state opening (first ++ second) old new m
+both_are_played state opening first second old mid new m one two =
     let before = state old.disk in
     let between = state mid.disk in
     let after = state new.disk in
@@ -177,8 +170,7 @@ both_are_played state opening first second old mid new m pace one two =
       steps_are = map-append (λ (x : Step × Outcome). x.0) one.made two.made ∙ ap (λ (xs : List Step). xs ++ map (λ (x : Step × Outcome). x.0) two.made) one.steps_are ∙ ap (λ (xs : List Step). first ++ xs) two.steps_are;
       told = told_then m before.faults between.faults after.faults one.made two.made one.told two.told;
       whole = whole_then one.made two.made one.whole two.whole;
-      stands = subst (λ (p : Pace). StandsWhole state opening new (played m (one.made ++ two.made)) p) (sym (paced_then m pace one.made two.made))
-          (subst (λ (x : Machine). StandsWhole state opening new x (paced_all (played m one.made) (paced_all m pace one.made) two.made)) (sym all) two.stands);
+      stands = subst (λ (x : Machine). StandsWhole state opening new x) (sym all) two.stands;
       grows = subst (λ (x : Machine). IsPrefix m.book.entries x.book.entries) (sym all) grows;
       images = subst (λ (x : Machine). LeavesOnly before after (ShowsHistory m.gears.sizes opening x.book.entries (length m.book.entries))) (sym all) longer;
     }

@@ -19,7 +19,7 @@ use Rattle.disk_trait.proofs.MomentLemmas.{leaves_only_start, leaves_only_weaken
 use Rattle.gear_sched.specs.Gears.{GearState}
 use Rattle.pacing.specs.Pace.{Pace}
 use Rattle.page_space.specs.Space.{SpaceState}
-use Rattle.record_delta.specs.Entries.{Entries}
+use Rattle.record_delta.specs.Entries.{Entries, entries_weight}
 use Rattle.tree_machine.specs.Lists.{Lists}
 use Rattle.tree_machine.specs.Machine.{Machine, charge}
 use Rattle.tree_machine.specs.Outcomes.{IsPossible, is_broken}
@@ -42,7 +42,8 @@ use Rattle.core_lists.specs.Standing.{HoldsMachine}
 use Rattle.core_lists.specs.Shown.{ShowsHistory, ShowsWhole, doubted}
 use Rattle.core_lists.proofs.FileWeights.{doubt_grows, weighs_as}
 use Rattle.core_lists.proofs.ShowingLemmas.{prefix_self, standing_shows, showing_is_kept, quiet_entry_shows}
-use Rattle.paced_tree.specs.After.{pace_after}
+use Rattle.paced_tree.specs.Numbers.{pace_of}
+use Rattle.pacing.specs.Fronts.{Fronts, AreFronts}
 use Rattle.paced_tree.specs.Kept.{IsPacedTree}
 use Rattle.paced_tree.proofs.Promises.{step_is_paced}
 use Rattle.tree_core.specs.Core.{IsTold, HoldsPace}
@@ -65,7 +66,7 @@ mapped_one : (held : Held) (space : SpaceState) → IsOne held → IsOne (mapped
 mapped_one held space one = grind (arith, common_steps, nat_tests)
 
 mapped_paced : (held : Held) (space : SpaceState) (pace : Pace) → IsPacedHeld held pace → IsPacedHeld (mapped space held) pace
-mapped_paced held space pace paced = record { numbers = mapped_numbers held space pace paced.numbers; told = paced.told; counted = paced.counted; one = mapped_one held space paced.one; version = paced.version }
+mapped_paced held space pace paced = record { numbers = mapped_numbers held space pace paced.numbers; told = paced.told; counted = paced.counted; one = mapped_one held space paced.one; ends = paced.ends; version = paced.version }
 
 -- a disk that is only read, or isn't called, where the book and the map of the pages alone change
 pub read_holds : (held : Held) (space : SpaceState) (b : BookState) (pace : Pace) (d d2 : DiskState) → HoldsPace held pace d → b.counts ≡ held.book.counts → b.stopped ≡ held.book.stopped → IsRunBook b pace
@@ -87,20 +88,20 @@ runs_or_not : (stopped : Option Why) → (stopped ≡ None) ⊎ IsSome stopped
 runs_or_not stopped = grind (arith, common_steps, nat_tests)
 
 -- the core stands for it whatever is said of the rows, if that is so
-pub with_rows : {Rows Next : List (Option (List Row)) → Type 0} (opening : List (Key × Value)) (held : Held) (m : Machine) (pace : Pace) (d : DiskState) → (held.book.stopped ≡ None → Next m.holds) → StandsFor Rows opening held m pace d
-    → StandsFor Next opening held m pace d
-with_rows opening held m pace d said s = record { paced = s.paced; sizes = s.sizes; gears = s.gears; book = s.book; charge_is = s.charge_is; runs = s.runs; rows = said; stopped = s.stopped }
+pub with_rows : {Rows Next : List (Option (List Row)) → Type 0} (opening : List (Key × Value)) (held : Held) (m : Machine) (d : DiskState) → (held.book.stopped ≡ None → Next m.holds) → StandsFor Rows opening held m d
+    → StandsFor Next opening held m d
+with_rows opening held m d said s = record { paced = s.paced; sizes = s.sizes; gears = s.gears; book = s.book; charge_is = s.charge_is; runs = s.runs; rows = said; stopped = s.stopped }
 
 -- The disk's images, and what it reads, show the whole history.
-pub shows_now : {Rows : List (Option (List Row)) → Type 0} (opening : List (Key × Value)) (held : Held) (m : Machine) (pace : Pace) (d : DiskState) → StandsFor Rows opening held m pace d → HasStopped opening m d
-shows_now opening held m pace d s = ⊎_elim running s.stopped (runs_or_not held.book.stopped)
+pub shows_now : {Rows : List (Option (List Row)) → Type 0} (opening : List (Key × Value)) (held : Held) (m : Machine) (d : DiskState) → StandsFor Rows opening held m d → HasStopped opening m d
+shows_now opening held m d s = ⊎_elim running s.stopped (runs_or_not held.book.stopped)
   where
     running : held.book.stopped ≡ None → HasStopped opening m d
     running runs =
         let over = s.runs runs in
         record {
-          reads = standing_shows opening m pace over.fronts over.tree d.bytes s.paced over.within over.holds.lists over.lanes (subst (λ (z : Sizes). HoldsTree z over.tree d.bytes) (sym s.sizes) over.over.stands.reads);
-          each = λ c left. standing_shows opening m pace over.fronts over.tree c s.paced over.within over.holds.lists over.lanes (subst (λ (z : Sizes). HoldsTree z over.tree c) (sym s.sizes) (over.over.stands.each c left));
+          reads = standing_shows opening m over.fronts over.tree d.bytes s.paced over.within over.holds.lists over.lanes (subst (λ (z : Sizes). HoldsTree z over.tree d.bytes) (sym s.sizes) over.over.stands.reads);
+          each = λ c left. standing_shows opening m over.fronts over.tree c s.paced over.within over.holds.lists over.lanes (subst (λ (z : Sizes). HoldsTree z over.tree c) (sym s.sizes) (over.over.stands.each c left));
           commits = one_commits m.gears.sizes held.runs.sizes m.catalogue.version over.tree d s.sizes (version_of held over.tree m held.log.a.entries d.bytes over.over.are_of over.holds) over.over.stands;
         }
 
@@ -118,12 +119,22 @@ same_charge m after same = cc (same.lists, same.gears, same.merges)
 same_machine : (held : Held) (space : SpaceState) (b : BookState) (tree : Tree) (m after : Machine) → HoldsMachine held tree m → SameTree m after → book_of after ≡ b → HoldsMachine (with_book b (mapped space held)) tree after
 same_machine held space b tree m after holds same book = grind (arith, common_steps, nat_tests)
 
+-- the fronts hang on the lists and the gears
+same_fronts : (m after : Machine) (fronts : Fronts) → SameTree m after → AreFronts (pace_of m) fronts → AreFronts (pace_of after) fronts
+same_fronts m after fronts same within = by m.lists after.lists m.gears after.gears same.lists same.gears within
+  where
+    by : (l k : Lists) (g h : GearState) → k ≡ l → h ≡ g → AreFronts (record (pace_of m) { gears = g; a = entries_weight l.a; b = entries_weight l.b; c1 = entries_weight l.c1; c1x = entries_weight l.c1x; c2 = entries_weight l.c2 }) fronts
+        → AreFronts (record (pace_of after) { gears = h; a = entries_weight k.a; b = entries_weight k.b; c1 = entries_weight k.c1; c1x = entries_weight k.c1x; c2 = entries_weight k.c2 }) fronts
+    by l k g h same_lists same_gears a = subst (λ (x : Lists). AreFronts (record (pace_of after) { gears = h; a = entries_weight x.a; b = entries_weight x.b; c1 = entries_weight x.c1; c1x = entries_weight x.c1x; c2 = entries_weight x.c2 }) fronts) (sym same_lists)
+        (subst (λ (x : GearState). AreFronts (record (pace_of after) { gears = x; a = entries_weight l.a; b = entries_weight l.b; c1 = entries_weight l.c1; c1x = entries_weight l.c1x; c2 = entries_weight l.c2 }) fronts) (sym same_gears)
+        (record { table = a.table; high = a.high; full = a.full; next = a.next; behind = a.behind; both = a.both; none = a.none }))
+
 -- Where the book and the map of the pages alone change, on a disk that still stands, the core stands for the machine's state with that book.
-quiet_stands : {Rows Next : List (Option (List Row)) → Type 0} (opening : List (Key × Value)) (held : Held) (space : SpaceState) (b : BookState) (m after : Machine) (pace : Pace) (d d2 : DiskState) → StandsFor Rows opening held m pace d → SameTree m after
-    → book_of after ≡ b → b.stopped ≡ held.book.stopped → IsPacedTree opening after pace
+quiet_stands : {Rows Next : List (Option (List Row)) → Type 0} (opening : List (Key × Value)) (held : Held) (space : SpaceState) (b : BookState) (m after : Machine) (d d2 : DiskState) → StandsFor Rows opening held m d → SameTree m after
+    → book_of after ≡ b → b.stopped ≡ held.book.stopped → IsPacedTree opening after
     → ((tree : Tree) → StandOver held.runs tree held.log.a.entries d → StandOver (mapped space held).runs tree held.log.a.entries d2)
-    → (IsSome held.book.stopped → HasStopped opening after d2) → (held.book.stopped ≡ None → Next after.holds) → StandsFor Next opening (with_book b (mapped space held)) after pace d2
-quiet_stands opening held space b m after pace d d2 s same book stopped paced stays shows gives = record {
+    → (IsSome held.book.stopped → HasStopped opening after d2) → (held.book.stopped ≡ None → Next after.holds) → StandsFor Next opening (with_book b (mapped space held)) after d2
+quiet_stands opening held space b m after d d2 s same book stopped paced stays shows gives = record {
   paced = paced;
   sizes = ap (λ (g : GearState). g.sizes) same.gears ∙ s.sizes;
   gears = same.gears ∙ s.gears;
@@ -136,7 +147,7 @@ quiet_stands opening held space b m after pace d d2 s same book stopped paced st
         tree = over.tree;
         over = stays over.tree over.over;
         holds = same_machine held space b over.tree m after over.holds same book;
-        within = over.within;
+        within = same_fronts m after over.fronts same over.within;
         lanes = record {
           lane_a = subst (λ (l : Lists). Rattle.paced_tree.specs.Lanes.IsLane over.tree.lane_a l.a over.fronts.lane_a) (sym same.lists) over.lanes.lane_a;
           lane_b = subst (λ (l : Lists). Rattle.paced_tree.specs.Lanes.IsLane over.tree.lane_b l.b over.fronts.lane_b) (sym same.lists) over.lanes.lane_b;
@@ -187,8 +198,8 @@ leaves_longer opening m longer before after begins leaves =
     leaves_only_weaken (λ file shows. showing_is_kept m.gears.sizes opening m.book.entries longer (length m.book.entries) (length m.book.entries) file begins (omega arith) shows.0) leaves
 
 -- no call, no other moment
-pub leaves_now : {Rows : List (Option (List Row)) → Type 0} (opening : List (Key × Value)) (held : Held) (m : Machine) (pace : Pace) (d : DiskState) → IsTimed d → StandsFor Rows opening held m pace d → LeavesOnly d d (ShowsWhole opening m)
-leaves_now opening held m pace d timed s = leaves_only_start d (ShowsWhole opening m) timed (shows_now opening held m pace d s).each
+pub leaves_now : {Rows : List (Option (List Row)) → Type 0} (opening : List (Key × Value)) (held : Held) (m : Machine) (d : DiskState) → IsTimed d → StandsFor Rows opening held m d → LeavesOnly d d (ShowsWhole opening m)
+leaves_now opening held m d timed s = leaves_only_start d (ShowsWhole opening m) timed (shows_now opening held m d s).each
 
 -- ---- a step that changes the book alone
 
@@ -200,35 +211,33 @@ pub record ChangesBook (held : Held) (b : BookState) (m after : Machine) : Type 
   pub stopped : b.stopped ≡ held.book.stopped
   pub noted : (after.book.entries ≡ m.book.entries) ⊎ ((entry : Entry) × (after.book.entries ≡ m.book.entries ++ entry ∷ []) × ((unsure : Bool) → counted_with unsure entry ≡ []))
 
--- So it is the machine's step, by an outcome that leaves the pace, on a disk that is only read, or isn't called. A hold may have moved pins before.
+-- So it is the machine's step, on a disk that is only read, or isn't called. A hold may have moved pins before.
 pub quiet_step : {end most : ℕ} {d d2 : DiskState} {Rows Next : List (Option (List Row)) → Type 0} (opening : List (Key × Value)) (seat : ℕ) (k : Kind) (outcome : Outcome) (answer : Answer) (held : Held) (space : SpaceState) (b : BookState)
-    (m after : Machine) (pace : Pace) → OnlyReads end most d d2 → IsTrue d.is_honest
-    → StandsFor Rows opening held m pace d → may m seat k ≡ true → WritesFit k → IsPossible m seat k outcome d.faults d2.faults → is_broken outcome ≡ false → pace_after m pace seat k outcome ≡ pace
+    (m after : Machine) → OnlyReads end most d d2 → IsTrue d.is_honest
+    → StandsFor Rows opening held m d → may m seat k ≡ true → WritesFit k → IsPossible m seat k outcome d.faults d2.faults → is_broken outcome ≡ false
     → stepped_as m seat k outcome ≡ record { state = after; answer = answer } → ChangesBook held b m after
     → ((tree : Tree) (table : Entries) (file : List ℕ) → AreOf held.runs tree table file → AreOf (mapped space held).runs tree table file) → (held.book.stopped ≡ None → Next after.holds)
-    → IsStep Next opening seat k answer (with_book b (mapped space held)) d d2 m pace
-quiet_step {end} {most} {d} {d2} {Rows} {Next} opening seat k outcome answer held space b m after pace reads honest s can fits possible whole same_pace is changes lists gives = record {
+    → IsStep Next opening seat k answer (with_book b (mapped space held)) d d2 m
+quiet_step {end} {most} {d} {d2} {Rows} {Next} opening seat k outcome answer held space b m after reads honest s can fits possible whole is changes lists gives = record {
   outcome = outcome;
   possible = possible;
   whole = whole;
-  stands = subst (λ (p : Pace). StandsFor Next opening (with_book b (mapped space held)) (stepped_as m seat k outcome).state p d2) (sym same_pace)
-      (subst (λ (t : Stepped). StandsFor Next opening (with_book b (mapped space held)) t.state pace d2) (sym is)
-      (quiet_stands opening held space b m after pace d d2 s changes.same changes.book changes.stopped paced
+  stands = subst (λ (t : Stepped). StandsFor Next opening (with_book b (mapped space held)) t.state d2) (sym is)
+      (quiet_stands opening held space b m after d d2 s changes.same changes.book changes.stopped paced
       (λ tree over. record {
         stands = (stands_read held.runs.sizes tree reads honest over.stands).0;
         are_of = lists tree held.log.a.entries d2.bytes (subst (λ (file : List ℕ). AreOf held.runs tree held.log.a.entries file) (sym (reads.same.same.bytes honest)) over.are_of);
-      }) (λ stopped. shows) gives));
+      }) (λ stopped. shows) gives);
   answers = ap (λ (t : Stepped). t.answer) (sym is);
   images = subst (λ (t : Stepped). LeavesOnly d d2 (ShowsHistory m.gears.sizes opening t.state.book.entries (length m.book.entries))) (sym is)
       (leaves_longer opening m after.book.entries d d2 grows (leaves_only_weaken shown.each (only_reads_each reads honest)));
 }
   where
     shown : HasStopped opening m d
-    shown = shows_now opening held m pace d s
+    shown = shows_now opening held m d s
 
-    paced : IsPacedTree opening after pace
-    paced = subst (λ (p : Pace). IsPacedTree opening after p) same_pace
-        (subst (λ (t : Stepped). IsPacedTree opening t.state (pace_after m pace seat k outcome)) is (step_is_paced opening m pace (record { seat = seat; kind = k }) outcome s.paced can fits))
+    paced : IsPacedTree opening after
+    paced = subst (λ (t : Stepped). IsPacedTree opening t.state) is (step_is_paced opening m (record { seat = seat; kind = k }) outcome s.paced can fits)
 
     grows : IsPrefix m.book.entries after.book.entries
     grows = ⊎_elim (λ (none : after.book.entries ≡ m.book.entries). subst (λ (es : List Entry). IsPrefix m.book.entries es) (sym none) (prefix_self m.book.entries))

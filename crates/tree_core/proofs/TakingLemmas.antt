@@ -20,7 +20,7 @@ use Rattle.blsm_model.specs.Histories.{writes_of}
 use Rattle.blsm_model.specs.Legal.{total_weight}
 use Rattle.blsm_model.specs.Values.{key_of}
 use Rattle.record_delta.specs.Records.{record_of, weight}
-use Rattle.paced_tree.proofs.Counted.{writes_once}
+use Rattle.paced_tree.proofs.Admissions.{writes_once}
 use Rattle.tree_machine.proofs.WeightLemmas.{weight_of_record}
 use Rattle.record_delta.specs.declared.record.Rec.{Rec}
 use Rattle.tree_runs.specs.Runs.{AreRunning}

@@ -84,9 +84,9 @@ Appends key rec begun ok before after = (tree : Tree) → IsTrue before.is_hones
     → Becomes begun.runs.sizes tree (appended (goes_ahead key begun) (key, rec) tree) ok before after
 
 -- what an admission begins with
-pub record Begins (opening : List (Key × Value)) (old : Held) (m : Machine) (pace : Pace) (d : DiskState) : Type 0 where
+pub record Begins (opening : List (Key × Value)) (old : Held) (m : Machine) (d : DiskState) : Type 0 where
   pub honest : IsTrue d.is_honest
-  pub stands : StandsFor AnyRows opening old m pace d
+  pub stands : StandsFor AnyRows opening old m d
   pub runs : old.book.stopped ≡ None
   pub numbers : Pace
   pub paced : IsPacedHeld old numbers
@@ -103,7 +103,7 @@ one_tree sizes tree next image same either = ⊎_elim (λ holds. holds) (λ hold
 pub tells_of : (held : Held) (tree : Tree) (m : Machine) (file : List ℕ) (numbers : Pace) → IsAt held tree m file → IsSound m → HasPace held numbers → held.gears.sizes ≡ held.runs.sizes → TellsOf held m
 tells_of held tree m file numbers at sound has one = grind (arith, common_steps, nat_tests)
 
-module _ (opening : List (Key × Value)) (old : Held) (m : Machine) (pace : Pace) (d : DiskState) (is : Begins opening old m pace d) where
+module _ (opening : List (Key × Value)) (old : Held) (m : Machine) (d : DiskState) (is : Begins opening old m d) where
   abbrev tree : Tree
   tree = (is.stands.runs is.runs).tree
 
@@ -113,7 +113,7 @@ module _ (opening : List (Key × Value)) (old : Held) (m : Machine) (pace : Pace
   over : StandOver old.runs tree old.log.a.entries d
   over = (is.stands.runs is.runs).over
 
-  stood : StandsIn opening old m pace fronts tree d.bytes
+  stood : StandsIn opening old m fronts tree d.bytes
   stood = record {
     at = record { are_of = (is.stands.runs is.runs).over.are_of; holds = (is.stands.runs is.runs).holds };
     paced = is.stands.paced;
@@ -133,8 +133,8 @@ module _ (opening : List (Key × Value)) (old : Held) (m : Machine) (pace : Pace
   deep_shows next image cases moves either =
       let either_here : HoldsEither m.gears.sizes tree next image = subst (λ (s : Sizes). HoldsEither s tree next image) (sym is.stands.sizes) either in
       ⊎_elim
-      (λ done. deep_swap_images opening old m pace fronts tree next d.bytes image stood done (moves.done done) either_here)
-      (λ never. standing_shows opening m pace fronts tree image stood.paced stood.within stood.at.holds.lists stood.lanes (one_tree m.gears.sizes tree next image (moves.rests never) either_here))
+      (λ done. deep_swap_images opening old m fronts tree next d.bytes image stood done (moves.done done) either_here)
+      (λ never. standing_shows opening m fronts tree image stood.paced stood.within stood.at.holds.lists stood.lanes (one_tree m.gears.sizes tree next image (moves.rests never) either_here))
       cases
 
   version_is : tree.catalogue.version ≡ m.catalogue.version
@@ -167,28 +167,28 @@ settled_by r old settled d mid ok settles leaves same = record {
   honest = λ honest. subst IsTrue (sym same) honest;
 }
 
-module _ (opening : List (Key × Value)) (old : Held) (m : Machine) (pace : Pace) (d : DiskState) (is : Begins opening old m pace d) (settled : Held) (mid : DiskState) (has : HasSettled old settled d mid) where
+module _ (opening : List (Key × Value)) (old : Held) (m : Machine) (d : DiskState) (is : Begins opening old m d) (settled : Held) (mid : DiskState) (has : HasSettled old settled d mid) where
   abbrev first : Tree
-  first = tree opening old m pace d is
+  first = tree opening old m d is
 
   abbrev bounds : Fronts
-  bounds = fronts opening old m pace d is
+  bounds = fronts opening old m d is
 
   abbrev middle : Tree
-  middle = (has.leaves first is.honest (over opening old m pace d is)).0
+  middle = (has.leaves first is.honest (over opening old m d is)).0
 
   moves : DeepSettlesTree old first middle
-  moves = (has.leaves first is.honest (over opening old m pace d is)).1
+  moves = (has.leaves first is.honest (over opening old m d is)).1
 
   over_middle : StandOver settled.runs middle settled.log.a.entries mid
-  over_middle = (has.leaves first is.honest (over opening old m pace d is)).2.stands refl
+  over_middle = (has.leaves first is.honest (over opening old m d is)).2.stands refl
 
   between : IsBetween settled (deep_settled is.numbers)
   between = settled_between old settled is.numbers is.paced has.deep
 
-  settled_in : SettledIn opening old settled m pace bounds first middle d.bytes mid.bytes
+  settled_in : SettledIn opening old settled m bounds first middle d.bytes mid.bytes
   settled_in =
-      let start = stood opening old m pace d is in
+      let start = stood opening old m d is in
       record {
         stood = start;
         moves = moves;
@@ -205,9 +205,9 @@ module _ (opening : List (Key × Value)) (old : Held) (m : Machine) (pace : Pace
   pass_shows next image cases makes either =
       let either_here : HoldsEither m.gears.sizes middle next image = subst (λ (s : Sizes). HoldsEither s middle next image) (sym sizes_here) either in
       ⊎_elim
-      (λ done. pass_swap_images opening old settled m pace bounds first middle next d.bytes mid.bytes image settled_in done (makes.done done) either_here)
-      (λ never. settled_shows opening m pace bounds middle image is.stands.paced (stood opening old m pace d is).within settled_in.at.holds.lists
-      (settled_fronts opening old m pace bounds first middle d.bytes (stood opening old m pace d is) moves) (one_tree m.gears.sizes middle next image (makes.rests never) either_here))
+      (λ done. pass_swap_images opening old settled m bounds first middle next d.bytes mid.bytes image settled_in done (makes.done done) either_here)
+      (λ never. settled_shows opening m bounds middle image is.stands.paced (stood opening old m d is).within settled_in.at.holds.lists
+      (settled_fronts opening old m bounds first middle d.bytes (stood opening old m d is) moves) (one_tree m.gears.sizes middle next image (makes.rests never) either_here))
       cases
 
   pub lost_pass : (new : Held) → new ≡ settled → IsPassDone settled → (ok : Bool) (after : DiskState) → PassLeaves settled new ok mid after → HasLost m new after
@@ -225,7 +225,7 @@ module _ (opening : List (Key × Value)) (old : Held) (m : Machine) (pace : Pace
   pub pass_whole : (new : Held) (ok : Bool) (after : DiskState) → IsPassDone settled ⊎ (IsPassDone settled → ⊥) → PassLeaves settled new ok mid after → LeavesWhole opening m d after
   pass_whole new ok after cases leaves =
       let made = leaves middle (has.honest is.honest) over_middle in (
-        leaves_only_run (deep_whole opening old m pace d is settled true mid (decided has.deep) has.leaves).0 (leaves_only_weaken (λ c either. pass_shows made.0 c cases made.1 either) made.2.each),
+        leaves_only_run (deep_whole opening old m d is settled true mid (decided has.deep) has.leaves).0 (leaves_only_weaken (λ c either. pass_shows made.0 c cases made.1 either) made.2.each),
         pass_shows made.0 after.bytes cases made.1 made.2.either.reads,
       )
 
@@ -257,28 +257,28 @@ pub record MayTake (seat : ℕ) (op : Op) (write : Write) (old : Held) (m : Mach
   pub writes : writes_of op ≡ write ∷ []
   pub room : charge_in old + total_weight (writes_of op) ≤ charge_limit old.runs.sizes (is_del op)
 
-module _ (opening : List (Key × Value)) (old : Held) (m : Machine) (pace : Pace) (d : DiskState) (is : Begins opening old m pace d) (settled : Held) (mid : DiskState) (has : HasSettled old settled d mid)
+module _ (opening : List (Key × Value)) (old : Held) (m : Machine) (d : DiskState) (is : Begins opening old m d) (settled : Held) (mid : DiskState) (has : HasSettled old settled d mid)
     (seat : ℕ) (op : Op) (write : Write) (takes : MayTake seat op write old m) (ready begun : Held) (last : DiskState) (then : HasBegun (total_weight (writes_of op)) settled ready begun mid last) where
   abbrev w : ℕ
   w = total_weight (writes_of op)
 
   abbrev one : Tree
-  one = tree opening old m pace d is
+  one = tree opening old m d is
 
   abbrev two : Tree
-  two = middle opening old m pace d is settled mid has
+  two = middle opening old m d is settled mid has
 
   abbrev limits : Fronts
-  limits = fronts opening old m pace d is
+  limits = fronts opening old m d is
 
-  abbrev start : StandsIn opening old m pace limits one d.bytes
-  start = stood opening old m pace d is
+  abbrev start : StandsIn opening old m limits one d.bytes
+  start = stood opening old m d is
 
-  abbrev between_them : SettledIn opening old settled m pace limits one two d.bytes mid.bytes
-  between_them = settled_in opening old m pace d is settled mid has
+  abbrev between_them : SettledIn opening old settled m limits one two d.bytes mid.bytes
+  between_them = settled_in opening old m d is settled mid has
 
   made : (next : Tree) × PassMakesTree settled two next × LeavesSwapped settled.runs ready.runs two next ready.log.a.entries true mid last
-  made = then.leaves two (has.honest is.honest) (over_middle opening old m pace d is settled mid has)
+  made = then.leaves two (has.honest is.honest) (over_middle opening old m d is settled mid has)
 
   abbrev next : Tree
   next = made.0
@@ -294,12 +294,12 @@ module _ (opening : List (Key × Value)) (old : Held) (m : Machine) (pace : Pace
       (subst (λ (h : Held). AreOf h.runs next ready.log.a.entries last.bytes) then.is_begun (then.lists next ready.log.a.entries last.bytes over_next.are_of))
 
   readied : IsReadied w settled ready two next m mid.bytes last.bytes
-  readied = readying_lands w old settled ready one two next m is.numbers (deep_settled is.numbers) d.bytes mid.bytes last.bytes start.at is.stands.paced.stands.sound (has_way opening m pace is.stands.paced) is.paced.one.gears is.paced.numbers
-      (between opening old m pace d is settled mid has).numbers
+  readied = readying_lands w old settled ready one two next m is.numbers (deep_settled is.numbers) d.bytes mid.bytes last.bytes start.at is.stands.paced.stands.sound (has_way opening m is.stands.paced) is.paced.one.gears is.paced.numbers
+      (between opening old m d is settled mid has).numbers
       (record {
         deep = has.deep;
-        deep_tree = moves opening old m pace d is settled mid has;
-        after_deep = (over_middle opening old m pace d is settled mid has).are_of;
+        deep_tree = moves opening old m d is settled mid has;
+        after_deep = (over_middle opening old m d is settled mid has).are_of;
         pass = then.pass;
         pass_tree = pass_tree;
         after_pass = over_next.are_of;
@@ -318,22 +318,22 @@ module _ (opening : List (Key × Value)) (old : Held) (m : Machine) (pace : Pace
     are_of = at_begun.are_of;
   }
 
-  may_append : MayAppend opening m pace limits seat op write begun next
+  may_append : MayAppend opening m limits seat op write begun next
   may_append = record {
     paced = is.stands.paced;
     within = (is.stands.runs is.runs).within;
-    runs = stopped_is opening old m pace d is;
+    runs = stopped_is opening old m d is;
     may = takes.may;
     fits = takes.fits;
     writes = takes.writes;
     room = subst (λ (n : ℕ). n + w ≤ charge_limit m.gears.sizes (is_del op)) (sym is.stands.charge_is)
         (subst (λ (s : Sizes). charge_in old + w ≤ charge_limit s (is_del op)) (sym is.stands.sizes) takes.room);
     holds = at_begun.holds;
-    lanes = ready_fronts opening old settled ready m pace limits one two next d.bytes mid.bytes between_them pass_tree;
+    lanes = ready_fronts opening old settled ready m limits one two next d.bytes mid.bytes between_them pass_tree;
   }
 
   before : LeavesWhole opening m d last
-  before = pass_whole opening old m pace d is settled mid has ready true last (decided then.pass) then.leaves
+  before = pass_whole opening old m d is settled mid has ready true last (decided then.pass) then.leaves
 
   -- the history with the entry
   abbrev entry : Reply → Entry
@@ -353,12 +353,12 @@ module _ (opening : List (Key × Value)) (old : Held) (m : Machine) (pace : Pace
 
   done_shows : (image : List ℕ) → HoldsEither begun.runs.sizes next appended_tree image → Shows_with Done (length m.book.entries) image
   done_shows image either = ⊎_elim
-      (λ holds. without Done image (swapped_shows opening m pace limits next image is.stands.paced start.within readied.after_pass.holds.lists may_append.lanes holds))
-      (λ holds. fewer Done image (append_shows opening m pace limits seat op write begun next image may_append holds))
+      (λ holds. without Done image (swapped_shows opening m limits next image is.stands.paced start.within readied.after_pass.holds.lists may_append.lanes holds))
+      (λ holds. fewer Done image (append_shows opening m limits seat op write begun next image may_append holds))
       (subst (λ (s : Sizes). HoldsEither s next appended_tree image) sizes_begun either)
 
   doubt_shows : (image : List ℕ) → HoldsEither begun.runs.sizes next appended_tree image → ShowsNoted opening seat op FaultUnsure m image
-  doubt_shows image either = unsure_shows opening m pace limits seat op write begun next image may_append (subst (λ (s : Sizes). HoldsEither s next appended_tree image) sizes_begun either)
+  doubt_shows image either = unsure_shows opening m limits seat op write begun next image may_append (subst (λ (s : Sizes). HoldsEither s next appended_tree image) sizes_begun either)
 
   -- an append commits nothing
   same_catalogue : (b : Bool) → (appended b (key_of write, record_of write) next).catalogue.version ≡ next.catalogue.version
@@ -384,13 +384,13 @@ module _ (opening : List (Key × Value)) (old : Held) (m : Machine) (pace : Pace
   doubt_leaves new same ok after appends =
       let left = becomes ok after appends in (
         subst (λ (h : Held). TellsOf h (ready_for w m)) (sym (same ∙ then.is_begun))
-            (tells_of (begun_in w ready) next (ready_for w m) last.bytes (pace_ready_for is.numbers w) readied.begun (ready_carries w m is.stands.paced.stands.sound (has_way opening m pace is.stands.paced)).sound
+            (tells_of (begun_in w ready) next (ready_for w m) last.bytes (pace_ready_for is.numbers w) readied.begun (ready_carries w m is.stands.paced.stands.sound (has_way opening m is.stands.paced)).sound
             begun_between.numbers begun_between.one.gears),
         leaves_only_run (leaves_only_weaken (without FaultUnsure) before.0) (leaves_only_weaken (λ c either. fewer FaultUnsure c (doubt_shows c either).0) left.each),
         (λ c here. doubt_shows c (left.either.each c here)),
         doubt_shows after.bytes left.either.reads,
         either_commits (ready_for w m).gears.sizes begun.runs.sizes (ready_for w m).catalogue.version next appended_tree after
-            ((ready_carries w m is.stands.paced.stands.sound (has_way opening m pace is.stands.paced)).sizes ∙ sym sizes_begun) version_begun (inl (same_catalogue (goes_ahead (key_of write) begun))) left.either,
+            ((ready_carries w m is.stands.paced.stands.sound (has_way opening m is.stands.paced)).sizes ∙ sym sizes_begun) version_begun (inl (same_catalogue (goes_ahead (key_of write) begun))) left.either,
       )
 
   -- the write is the machine's
@@ -398,12 +398,12 @@ module _ (opening : List (Key × Value)) (old : Held) (m : Machine) (pace : Pace
       → ((tree : Tree) → IsLogOf tree begun.log → IsLogOf (appended (goes_ahead (key_of write) begun) (key_of write, record_of write) tree) new.log)
       → ((tree : Tree) → IsTrue last.is_honest → IsLogOf tree begun.log → StandOver begun.runs tree begun.log.a.entries last
       → StandOver new.runs (appended (goes_ahead (key_of write) begun) (key_of write, record_of write) tree) new.log.a.entries after)
-      → TakenOver opening seat op m pace new after
+      → TakenOver opening seat op m new after
   writes_over new after writes of_log stands =
       let over_new = stands next (then.honest (has.honest is.honest)) at_begun.holds.of_log over_begun in
       let wrote : IsAt new appended_tree (with_peak (take_write seat write (ready_for w m))) after.bytes =
-      write_lands seat write begun new next (ready_for w m) last.bytes after.bytes at_begun (ready_carries w m is.stands.paced.stands.sound (has_way opening m pace is.stands.paced)).sound writes (of_log next) over_new.are_of in
-      let goes = admission_goes_on opening m pace limits seat op write begun next may_append in
+      write_lands seat write begun new next (ready_for w m) last.bytes after.bytes at_begun (ready_carries w m is.stands.paced.stands.sound (has_way opening m is.stands.paced)).sound writes (of_log next) over_new.are_of in
+      let goes = admission_goes_on opening m limits seat op write begun next may_append in
       record {
         tree = appended_tree;
         fronts = goes.0;

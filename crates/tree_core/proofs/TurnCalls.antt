@@ -52,7 +52,7 @@ halted_goes : {D : Type 0} (state : D → DiskState) (w : Bool) (seat : ℕ) (wh
 halted_goes state w seat why old b core timed stopped is none can counts =
     let d = state old.disk in
     goes_on_by {end = 0} {most = 0} state seat (kind_of_turn w) (Turn (machine.Halted why)) old _ core timed none can (record { holds = refl; pins = refl; sizes = refl }) (no_commits old.held (with_book b old.held) refl (ap (λ (x : BookState). x.counts) counts ∙ counted_counts w seat (machine.Halted why) 0 old.held.book)) (affects_start d timed) (halted_follows w seat (machine.Halted why) old.held b is counts)
-    (λ pace holds. halted_moves w seat why old.held b pace d stopped is holds counts) (λ opening m pace honest s ok. halted_turn w opening seat why old.held b m pace d timed honest stopped counts s ok)
+    (λ pace holds. halted_moves w seat why old.held b pace d stopped is holds counts) (λ opening m honest s ok. halted_turn w opening seat why old.held b m d timed honest stopped counts s ok)
 
 closed_goes : {D : Type 0} (state : D → DiskState) (seat : ℕ) (old : CoreState D) (b : BookState) → IsCore old.held (state old.disk) → IsTimed (state old.disk) → old.held.book.stopped ≡ None → is_closed_in old.held.book ≡ true → callers ≤ seat → seat < seats
     → b ≡ helped_in seat old.held.book → GoesOnAs state seat kind.WorkerTurn (Turn machine.Closed) old (record old { held = with_book b old.held }) × BesideHolds state seat kind.WorkerTurn (Turn machine.Closed) old (record old { held = with_book b old.held })
@@ -60,7 +60,7 @@ closed_goes state seat old b core timed ran closed above below counts =
     let d = state old.disk in
     goes_on_by {end = 0} {most = 0} state seat kind.WorkerTurn (Turn machine.Closed) old _ core timed refl (may_help seat above below) (record { holds = refl; pins = refl; sizes = refl }) (no_commits old.held (with_book b old.held) refl (ap (λ (x : BookState). x.counts) counts)) (affects_start d timed)
     (halted_follows true seat machine.Closed old.held b (above, below) counts) (λ pace holds. closed_moves seat old.held b pace d ran holds counts)
-    (λ opening m pace honest s ok. closed_turn opening seat old.held b m pace d timed honest ran closed counts s ok)
+    (λ opening m honest s ok. closed_turn opening seat old.held b m d timed honest ran closed counts s ok)
 
 -- a worker's, which counts all the same
 rests_helping : {D : Type 0} (state : D → DiskState) (seat : ℕ) (ended : Turned) (old : CoreState D) (b : BookState) → IsTimed (state old.disk) → callers ≤ seat → seat < seats → length old.held.book.seats.turns ≡ seats - callers
@@ -124,13 +124,13 @@ turning_goes state w seat mv made faults old disk moved ended b none can t =
     let pins = move_keeps_pins mv made seat old.held moved t.ends.moves t.ends.kept in
     goes_on_by state seat (kind_of_turn w) (Turn ended) old _ t.core t.timed none can (record { holds = refl; pins = pins.pins; sizes = pins.sizes }) (turn_commits w seat mv made faults old.held moved ended b before after t.ends) t.effect (turn_follows w seat mv made faults old.held moved ended b before after t.ends)
     (λ pace holds. turn_moves w seat mv made faults old.held moved ended b pace before after t.ends holds)
-    (λ opening m pace honest s ok.
+    (λ opening m honest s ok.
     let ran = t.ends.turns.ran in
     let k = (t.core.holds.live ran).paced in
-    let r = running_at opening old.held m pace before t.core.pace s ran k.numbers k.one.gears in
+    let r = running_at opening old.held m before t.core.pace s ran k.numbers k.one.gears in
     let tree = (s.runs ran).tree in
     let left = t.lists tree honest r.over in
-    turn_step w opening seat mv made faults old.held moved ended b m pace t.core.pace tree before after t.ends t.core.holds t.counted
+    turn_step w opening seat mv made faults old.held moved ended b m t.core.pace tree before after t.ends t.core.holds t.counted
     (λ is. has_risen before.faults after.faults t.effect.goes_on.faults t.few (t.ends.told.failed is)) t.called
     (record { runs = r; opened = t.opened m s.book; ok = ok; may_move = turn_may w seat mv old.held t.core.pace before t.ends.turns t.core.holds; next = left.0; leaves = left.1 }))
 

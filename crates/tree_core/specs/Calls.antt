@@ -42,7 +42,7 @@ pub record GoesOnAs {D : Type 0} (state : D → DiskState) (seat : ℕ) (k : Kin
   pub may : IsTrue (may_in old.held seat k)
   pub numbers : (pace : Pace) → HoldsPace old.held pace (state old.disk) → MovesPace seat k answer new.held (state new.disk) pace
   pub commits : CountsCommits (rotations answer k old.held) old.held new.held
-  pub steps : (opening : List (Key × Value)) (m : Machine) (pace : Pace) → IsTrue (state old.disk).is_honest → StandsWhole state opening old m pace → IsWholeStep state opening seat k answer old new m pace
+  pub steps : (opening : List (Key × Value)) (m : Machine) → IsTrue (state old.disk).is_honest → StandsWhole state opening old m → IsWholeStep state opening seat k answer old new m
   pub follows : Follows seat (facts_of_held old.held) (facts_of_held new.held)
   pub lasts : (start : CoreState D) → StandsSince state start old → StandsSince state start new
   pub begins : StandsSince state new new
@@ -51,8 +51,8 @@ pub record GoesOnAs {D : Type 0} (state : D → DiskState) (seat : ℕ) (k : Kin
 -- and while it runs these stay.
 pub record BesideHolds {D : Type 0} (state : D → DiskState) (seat : ℕ) (k : Kind) (answer : Answer) (old new : CoreState D) : Type 0 where
   pub holds : KeepsHolds old new
-  pub step : (opening : List (Key × Value)) (m : Machine) (pace : Pace) → IsTrue (state old.disk).is_honest → StandsFor AnyRows opening old.held m pace (state old.disk)
-      → IsStep (λ rows. rows ≡ m.holds) opening seat k answer new.held (state old.disk) (state new.disk) m pace
+  pub step : (opening : List (Key × Value)) (m : Machine) → IsTrue (state old.disk).is_honest → StandsFor AnyRows opening old.held m (state old.disk)
+      → IsStep (λ rows. rows ≡ m.holds) opening seat k answer new.held (state old.disk) (state new.disk) m
 
 pub record Admits {D : Type 0} (state : D → DiskState) (seat : ℕ) (op : Op) (answer : Admission) (old new : CoreState D) : Type 0 where
   pub goes : GoesOnAs state seat (kind.Admit op) (Replied (reply_to_write answer)) old new

@@ -6,7 +6,6 @@ use Rattle.blsm_model.specs.declared.key.Key.{Key}
 use Rattle.blsm_model.specs.declared.row.Row.{Row}
 use Rattle.blsm_model.specs.declared.row.Value.{Value}
 use Rattle.disk_trait.specs.Disk.{DiskState}
-use Rattle.pacing.specs.Pace.{Pace}
 use Rattle.page_space.specs.Space.{KeepsOtherPins}
 use Rattle.scan_view.specs.Hold.{HoldState}
 use Rattle.scan_view.specs.Holds.{hold_of, pages_behind}
@@ -26,8 +25,8 @@ abbrev pub HoldRows : Held → List (Option HoldState) → DiskState → List (O
 HoldRows held holds d rows = (seat : ℕ) → seat < callers → HasHeld held.runs.sizes held.runs.space.pins seat (hold_of seat holds) (slice_index_or rows seat None) d.bytes
 
 -- The whole core stands for it: its holds have the rows that the machine's have.
-abbrev pub StandsWhole : {D : Type 0} → (D → DiskState) → List (Key × Value) → CoreState D → Machine → Pace → Type 0
-StandsWhole state opening core m pace = StandsFor (HoldRows core.held core.holds (state core.disk)) opening core.held m pace (state core.disk)
+abbrev pub StandsWhole : {D : Type 0} → (D → DiskState) → List (Key × Value) → CoreState D → Machine → Type 0
+StandsWhole state opening core m = StandsFor (HoldRows core.held core.holds (state core.disk)) opening core.held m (state core.disk)
 
 -- A call that has nothing to do with holds leaves them as they are, and the pages that they pin.
 pub record KeepsHolds {D : Type 0} (old new : CoreState D) : Type 0 where

@@ -22,8 +22,6 @@ use Rattle.tree_machine.specs.Steps.{Outcome, Answer}
 use Rattle.tree_machine.specs.Plays.{played, stepped_as}
 use Rattle.tree_machine.specs.Outcomes.{AreTold, IsPossible, NoneBroken, is_broken}
 use Rattle.paced_tree.specs.Made.{IsMadeBy}
-use Rattle.paced_tree.specs.After.{pace_after}
-use Rattle.paced_tree.specs.Kept.{paced_all}
 use Rattle.core_moves.specs.declared.held.Held.{Held}
 use Rattle.core_lists.specs.Shown.{ShowsHistory}
 use Rattle.tree_core.specs.Core.{CoreState, HoldsPace}
@@ -38,19 +36,19 @@ pub record MovesPace (seat : ℕ) (kind : Kind) (answer : Answer) (new : Held) (
 
 -- By lists: the machine's own step, by an outcome that the disk's count of faults tells, with its answer. Each image of each moment since it began
 -- shows the history after it, with all entries of the one before it. `Rows` holds of the rows to come then.
-pub record IsStep (Rows : List (Option (List Row)) → Type 0) (opening : List (Key × Value)) (seat : ℕ) (kind : Kind) (answer : Answer) (new : Held) (before after : DiskState) (m : Machine) (pace : Pace) : Type 0 where
+pub record IsStep (Rows : List (Option (List Row)) → Type 0) (opening : List (Key × Value)) (seat : ℕ) (kind : Kind) (answer : Answer) (new : Held) (before after : DiskState) (m : Machine) : Type 0 where
   pub outcome : Outcome
   pub possible : IsPossible m seat kind outcome before.faults after.faults
   -- no page is found damaged there
   pub whole : is_broken outcome ≡ false
-  pub stands : StandsFor Rows opening new (stepped_as m seat kind outcome).state (pace_after m pace seat kind outcome) after
+  pub stands : StandsFor Rows opening new (stepped_as m seat kind outcome).state after
   pub answers : answer ≡ (stepped_as m seat kind outcome).answer
   pub images : LeavesOnly before after (ShowsHistory m.gears.sizes opening (stepped_as m seat kind outcome).state.book.entries (length m.book.entries))
 
 -- A step of the whole core: its holds have the rows to give then that the machine's have.
-abbrev pub IsWholeStep : {D : Type 0} → (D → DiskState) → List (Key × Value) → ℕ → Kind → Answer → CoreState D → CoreState D → Machine → Pace → Type 0
-IsWholeStep state opening seat kind answer old new m pace =
-    IsStep (HoldRows new.held new.holds (state new.disk)) opening seat kind answer new.held (state old.disk) (state new.disk) m pace
+abbrev pub IsWholeStep : {D : Type 0} → (D → DiskState) → List (Key × Value) → ℕ → Kind → Answer → CoreState D → CoreState D → Machine → Type 0
+IsWholeStep state opening seat kind answer old new m =
+    IsStep (HoldRows new.held new.holds (state new.disk)) opening seat kind answer new.held (state old.disk) (state new.disk) m
 
 -- ---- when a step may be made
 
@@ -88,12 +86,12 @@ those_that_fit steps = filter (λ step. admits_fit step.kind) steps
 
 -- These steps, each by an outcome that the disk's count of faults tells, lead to the state for which the core stands then. A step whose condition
 -- doesn't hold is passed over. Each image of each moment since the first shows the history then, with all entries of the one before.
-pub record IsPlayed {D : Type 0} (state : D → DiskState) (opening : List (Key × Value)) (steps : List Step) (old new : CoreState D) (m : Machine) (pace : Pace) : Type 0 where
+pub record IsPlayed {D : Type 0} (state : D → DiskState) (opening : List (Key × Value)) (steps : List Step) (old new : CoreState D) (m : Machine) : Type 0 where
   pub made : List (Step × Outcome)
   pub steps_are : map (λ one. one.0) made ≡ steps
   pub told : AreTold m (state old.disk).faults made (state new.disk).faults
   pub whole : NoneBroken made
-  pub stands : StandsWhole state opening new (played m made) (paced_all m pace made)
+  pub stands : StandsWhole state opening new (played m made)
   pub grows : IsPrefix m.book.entries (played m made).book.entries
   pub images : LeavesOnly (state old.disk) (state new.disk) (ShowsHistory m.gears.sizes opening (played m made).book.entries (length m.book.entries))
 
@@ -105,5 +103,5 @@ pub record StandsSince {D : Type 0} (state : D → DiskState) (start now : CoreS
   pub sizes : now.held.runs.sizes ≡ start.held.runs.sizes
   pub peak : now.held.book.counts.peak ≤ high_mark start.held.runs.sizes
   pub goes_on : GoesOn (state start.disk) (state now.disk)
-  pub come : (opening : List (Key × Value)) (m : Machine) (pace : Pace) → IsTrue (state start.disk).is_honest → StandsWhole state opening start m pace
-      → (steps : List Step) × IsPlayed state opening steps start now m pace
+  pub come : (opening : List (Key × Value)) (m : Machine) → IsTrue (state start.disk).is_honest → StandsWhole state opening start m
+      → (steps : List Step) × IsPlayed state opening steps start now m

@@ -13,11 +13,9 @@ use Rattle.record_delta.specs.declared.record.Rec.{Rec}
 use Rattle.record_delta.specs.Records.{weight}
 use Rattle.pacing.specs.Pace.{Pace}
 use Rattle.pacing.specs.Fronts.{Fronts}
-use Rattle.tree_machine.specs.declared.step.Kind.TheVariants as kind
 use Rattle.tree_machine.specs.Machine.{Machine, charge, deep_done, pass_done}
 use Rattle.tree_machine.specs.Moves.{with_peak}
 use Rattle.tree_machine.specs.Steps.{Well, admit, deep_swapped, ready_for, taken_once}
-use Rattle.paced_tree.specs.After.{pace_after}
 use Rattle.seat_book.specs.State.{book_of}
 use Rattle.tree_file.specs.Tree.{Tree}
 use Rattle.tree_runs.specs.Holding.{StandOver, IsPassSwapped}
@@ -65,12 +63,12 @@ pub record TellsOf (held : Held) (m : Machine) : Type 0 where
   pub charge_is : charge m ≡ charge_in held
 
 -- The write is in the tree that the disk stands on then. With its entry the machine goes on from there.
-pub record TakenOver (opening : List (Key × Value)) (seat : ℕ) (op : Op) (m : Machine) (pace : Pace) (new : Held) (after : DiskState) : Type 0 where
+pub record TakenOver (opening : List (Key × Value)) (seat : ℕ) (op : Op) (m : Machine) (new : Held) (after : DiskState) : Type 0 where
   pub tree : Tree
   pub fronts : Fronts
   pub over : StandOver new.runs tree new.log.a.entries after
   pub holds : HoldsMachine new tree (with_peak (taken_once seat (writes_of op) (ready_for (total_weight (writes_of op)) m)))
-  pub goes : GoesOn opening (admit m seat op Well).state (pace_after m pace seat (kind.Admit op) Well) fronts tree
+  pub goes : GoesOn opening (admit m seat op Well).state fronts tree
 
 -- Where a swap failed, it was due: that of the deep merge, or that of the pass after it. No other commit was made.
 abbrev pub HasLost : Machine → Held → DiskState → Type 0
@@ -78,16 +76,16 @@ HasLost m new after =
     (TellsOf new m × (deep_done m ≡ true) × CommitsAs m after) ⊎ (TellsOf new (deep_swapped m) × (pass_done (deep_swapped m) ≡ true) × CommitsAs (deep_swapped m) after)
 
 -- what the images show of it, and which state of the machine is in memory
-abbrev pub TakesOver : Taking → List (Key × Value) → ℕ → Op → Machine → Pace → Held → DiskState → DiskState → Type 0
-TakesOver Taken opening seat op m pace new before after =
-    TakenOver opening seat op m pace new after × LeavesOnly before after (ShowsHistory m.gears.sizes opening (history_with seat op Done m) (length m.book.entries))
-TakesOver (Failed true) opening seat op m pace new before after =
+abbrev pub TakesOver : Taking → List (Key × Value) → ℕ → Op → Machine → Held → DiskState → DiskState → Type 0
+TakesOver Taken opening seat op m new before after =
+    TakenOver opening seat op m new after × LeavesOnly before after (ShowsHistory m.gears.sizes opening (history_with seat op Done m) (length m.book.entries))
+TakesOver (Failed true) opening seat op m new before after =
     TellsOf new (ready_for (total_weight (writes_of op)) m)
     × LeavesOnly before after (ShowsHistory m.gears.sizes opening (history_with seat op FaultUnsure m) (length m.book.entries))
     × ((c : List ℕ) → after.images c → ShowsNoted opening seat op FaultUnsure m c)
     × ShowsNoted opening seat op FaultUnsure m after.bytes
     × CommitsAs (ready_for (total_weight (writes_of op)) m) after
-TakesOver (Failed false) opening seat op m pace new before after = HasLost m new after × LeavesOnly before after (ShowsWhole opening m) × ShowsWhole opening m after.bytes
+TakesOver (Failed false) opening seat op m new before after = HasLost m new after × LeavesOnly before after (ShowsWhole opening m) × ShowsWhole opening m after.bytes
 
 -- how it tells the disk's faults
 abbrev pub TellsTaking : Taking → DiskState → DiskState → Type 0

@@ -11,7 +11,6 @@ ghost use Rattle.blsm_model.specs.Tails.{TailFits};
 ghost use Rattle.blsm_model.specs.Values.{key_of};
 ghost use Rattle.disk_trait.specs.Effects.{Affects};
 ghost use Rattle.gear_sched.specs.Gears.{first_debt, second_debt};
-ghost use Rattle.pacing.specs.Pace.{Pace};
 ghost use Rattle.record_delta.specs.Records.{record_of};
 ghost use Rattle.seat_book.specs.State.{may_note_in};
 ghost use Rattle.scan_view.specs.Pins.{beside_pins};
@@ -46,9 +45,9 @@ fn take<D: Disk>(held: &mut Held, disk: &mut D, seat: u32, op: &Op, write: &Writ
     requires tail { TailFits write.now }
     requires may { MayWrite seat (total_weight (writes_of op.now)) op.now held.old }
     ensures takes { Takes result seat (key_of write.now) (record_of write.now) held.old held.new (D.state disk.new) }
-    ensures lists { (opening : List (Key × Value)) (m : Machine) (pace : Pace) → IsTrue (D.state disk.old).is_honest → StandsFor AnyRows opening held.old m pace (D.state disk.old)
+    ensures lists { (opening : List (Key × Value)) (m : Machine) → IsTrue (D.state disk.old).is_honest → StandsFor AnyRows opening held.old m (D.state disk.old)
         → held.old.book.stopped ≡ None → IsTrue (may m seat (kind.Admit op.now)) → WritesFit (kind.Admit op.now)
-        → TakesOver result opening seat op.now m pace held.new (D.state disk.old) (D.state disk.new) }
+        → TakesOver result opening seat op.now m held.new (D.state disk.old) (D.state disk.new) }
     ensures effect { Affects (beside_pins held.old.runs.sizes held.old.runs.space.pins) (file_length held.old.runs.sizes) (calls_to_admit held.old) (D.state disk.old) (D.state disk.new) }
     ensures faults { TellsTaking result (D.state disk.old) (D.state disk.new) }
 {

@@ -6,7 +6,6 @@ ghost use Rattle.blsm_model.specs.Geometry.{file_length, high_mark};
 ghost use Rattle.disk_trait.specs.Disk.{DiskState};
 ghost use Rattle.page_file.specs.Component.{entries_of};
 ghost use Rattle.pacing.specs.Laws.{IsOpening};
-ghost use Rattle.pacing.specs.Pace.{opened as pace_opened};
 ghost use Rattle.tree_machine.specs.Machine.{opened};
 ghost use Rattle.tree_file.specs.Tree.{Tree, map_of_tree};
 ghost use Rattle.tree_log.specs.Log.{IsLogOf};
@@ -61,8 +60,7 @@ impl<D: Disk + Drop> Core<D> {
         ensures stands { (tree : Tree) → IsTrue (D.state parts.disk).is_honest → StandOver parts.runs tree parts.log.a.entries (D.state parts.disk)
             → tree.lane_a ≡ [] → tree.lane_b ≡ []
             → StandsWhole D.state (map_of_tree tree) result
-            (opened parts.runs.sizes (entries_of tree.c1) (entries_of tree.c2) (catalogue_of parts.runs.catalogue) (D.state parts.disk).faults parts.annals.room)
-            (pace_opened parts.runs.sizes parts.runs.catalogue.c1.weight parts.runs.catalogue.c2.weight) }
+            (opened parts.runs.sizes (entries_of tree.c1) (entries_of tree.c2) (catalogue_of parts.runs.catalogue) (D.state parts.disk).faults parts.annals.room) }
     {
         let now = parts.runs.catalogue();
         let gears = Gears::new(&parts.runs.geometry());

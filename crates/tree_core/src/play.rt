@@ -4,7 +4,6 @@ ghost use Rattle.blsm_model.specs.declared.key.Key.{Key};
 ghost use Rattle.blsm_model.specs.declared.row.Value.{Value};
 ghost use Rattle.blsm_model.specs.Format.{callers};
 ghost use Rattle.disk_trait.specs.Disk.{GoesOn};
-ghost use Rattle.pacing.specs.Pace.{Pace};
 ghost use Rattle.tree_machine.specs.Machine.{Machine};
 ghost use Rattle.tree_machine.specs.declared.step.Kind.TheVariants as kind;
 ghost use Rattle.tree_core.specs.Calls.{IsCall};
@@ -75,8 +74,8 @@ impl<D: Disk + Drop> Core<D> {
     fn step(&mut self, alloc: Global, step: &Step)
         requires may { IsTrue (may_in self.old.held step.now.seat step.now.kind) }
         requires fits { IsTrue (admits_fit step.now.kind) }
-        ensures played { (opening : List (Key × Value)) (m : Machine) (pace : Pace) → IsTrue (D.state self.old.disk).is_honest
-            → StandsWhole D.state opening self.old m pace → IsPlayed D.state opening (step.now ∷ []) self.old self.new m pace }
+        ensures played { (opening : List (Key × Value)) (m : Machine) → IsTrue (D.state self.old.disk).is_honest
+            → StandsWhole D.state opening self.old m → IsPlayed D.state opening (step.now ∷ []) self.old self.new m }
         ensures goes_on { GoesOn (D.state self.old.disk) (D.state self.new.disk) }
         ensures lasts { (start : CoreState D) → StandsSince D.state start self.old → StandsSince D.state start self.new }
     {
@@ -113,8 +112,8 @@ impl<D: Disk + Drop> Core<D> {
 
     // Makes a step where its condition holds.
     fn try_step(&mut self, alloc: Global, step: &Step)
-        ensures played { (opening : List (Key × Value)) (m : Machine) (pace : Pace) → IsTrue (D.state self.old.disk).is_honest
-            → StandsWhole D.state opening self.old m pace → IsPlayed D.state opening (those_that_fit (step.now ∷ [])) self.old self.new m pace }
+        ensures played { (opening : List (Key × Value)) (m : Machine) → IsTrue (D.state self.old.disk).is_honest
+            → StandsWhole D.state opening self.old m → IsPlayed D.state opening (those_that_fit (step.now ∷ [])) self.old self.new m }
         ensures goes_on { GoesOn (D.state self.old.disk) (D.state self.new.disk) }
         ensures lasts { (start : CoreState D) → StandsSince D.state start self.old → StandsSince D.state start self.new }
     {
@@ -129,8 +128,8 @@ impl<D: Disk + Drop> Core<D> {
     /// Makes each of these steps whose condition holds, one after another, and passes over the others, and over tails that don't have 1 to 64 bytes. A hold
     /// takes its memory of `alloc`.
     pub fn play(&mut self, alloc: Global, steps: &[Step])
-        ensures played { (opening : List (Key × Value)) (m : Machine) (pace : Pace) → IsTrue (D.state self.old.disk).is_honest
-            → StandsWhole D.state opening self.old m pace → IsPlayed D.state opening (those_that_fit steps.now) self.old self.new m pace }
+        ensures played { (opening : List (Key × Value)) (m : Machine) → IsTrue (D.state self.old.disk).is_honest
+            → StandsWhole D.state opening self.old m → IsPlayed D.state opening (those_that_fit steps.now) self.old self.new m }
         ensures goes_on { GoesOn (D.state self.old.disk) (D.state self.new.disk) }
         ensures lasts { (start : CoreState D) → StandsSince D.state start self.old → StandsSince D.state start self.new }
     {

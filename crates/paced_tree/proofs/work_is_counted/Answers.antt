@@ -2,7 +2,7 @@ use Rattle.paced_tree.proofs.Work.{step_work, run_work, run_commits, run_small}
 use Rattle.paced_tree.proofs.work_is_counted.Goals as goal
 
 pub returns-clause-step : goal.returns-clause-step
-returns-clause-step c = λ opening m pace step outcome tree ok. step_work opening m pace step.seat step.kind outcome tree ok
+returns-clause-step c = λ opening m step outcome tree ok. step_work opening m step.seat step.kind outcome tree ok
 
 pub returns-clause-run : goal.returns-clause-run
 returns-clause-run c = run_work

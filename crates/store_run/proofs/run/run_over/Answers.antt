@@ -127,7 +127,7 @@ returns-in-Ok-run_all-clause-headline g c = λ honest.
       run = by_threads state c.args.lines.now c.args.workers c.args.turns old new c.kept.ensures.core runs (c.calls_tell.ensures calls old unasked are) (c.calls_take_few.ensures calls old unasked are);
     })
     (no_entries_yet annals faults old.held opened) (c.in-Ok.ensures.keeps old.held.runs.sizes opens.pairs honest opens.reads) runs
-    (λ opening m pace stands. c.calls_are_steps.ensures opening calls old m pace c.kept.ensures.core are honest_then stands)
+    (λ opening m stands. c.calls_are_steps.ensures opening calls old m c.kept.ensures.core are honest_then stands)
     (few_turned state calls annals faults old new opened (c.calls_help.ensures calls old unasked are)) (c.calls_help.ensures calls old unasked are).rests
     c.finish-disk.result.0 c.finish-disk.ensures.disk (run_of c.finish-disk.result.1) (c.finish-disk.ensures.finished ∙ ap (λ (n : ℕ). run_at n new.held) c.charge-charge.ensures)
 

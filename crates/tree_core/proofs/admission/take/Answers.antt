@@ -38,15 +38,15 @@ pub returns-then-is_err-clause-takes : goal.returns-then-is_err-clause-takes
 returns-then-is_err-clause-takes g c = inl (err_of c.settle_deep.result (sym c.is_err.ensures.value ∙ c.if-is_err.true) c.settle_deep.ensures.kept, c.settle_deep.ensures.due (sym c.is_err.ensures.value ∙ c.if-is_err.true))
 
 pub returns-then-is_err-clause-lists : goal.returns-then-is_err-clause-lists
-returns-then-is_err-clause-lists g c = λ opening m pace honest stands runs may fits.
+returns-then-is_err-clause-lists g c = λ opening m honest stands runs may fits.
     let old = c.args.held.now in
     let left = c.settle_deep.new.held in
     let before = g.D.Disk.state c.args.disk.now in
     let after = g.D.Disk.state c.settle_deep.new.disk in
     let failed = sym c.is_err.ensures.value ∙ c.if-is_err.true in
-    let begins : Begins opening old m pace before = record { honest = honest; stands = stands; runs = runs; numbers = c.requires.runs.pace; paced = c.requires.runs.live.paced } in
-    let whole = deep_whole opening old m pace before begins left (is_ok c.settle_deep.result) after (inl (c.settle_deep.ensures.due failed)) c.settle_deep.ensures.lists in
-    (lost_deep opening old m pace before begins left (err_of c.settle_deep.result failed c.settle_deep.ensures.kept) (c.settle_deep.ensures.due failed) (is_ok c.settle_deep.result) after c.settle_deep.ensures.lists, whole.0, whole.1)
+    let begins : Begins opening old m before = record { honest = honest; stands = stands; runs = runs; numbers = c.requires.runs.pace; paced = c.requires.runs.live.paced } in
+    let whole = deep_whole opening old m before begins left (is_ok c.settle_deep.result) after (inl (c.settle_deep.ensures.due failed)) c.settle_deep.ensures.lists in
+    (lost_deep opening old m before begins left (err_of c.settle_deep.result failed c.settle_deep.ensures.kept) (c.settle_deep.ensures.due failed) (is_ok c.settle_deep.result) after c.settle_deep.ensures.lists, whole.0, whole.1)
 
 pub returns-then-is_err-clause-effect : goal.returns-then-is_err-clause-effect
 returns-then-is_err-clause-effect g c = affects_wider (λ i here. here) (omega arith) (omega arith) c.settle_deep.ensures.effect
@@ -76,7 +76,7 @@ returns-then-is_err-2-clause-takes g c =
     )
 
 pub returns-then-is_err-2-clause-lists : goal.returns-then-is_err-2-clause-lists
-returns-then-is_err-2-clause-lists g c = λ opening m pace honest stands runs may fits.
+returns-then-is_err-2-clause-lists g c = λ opening m honest stands runs may fits.
     let ok = sym c.is_err.ensures.value ∙ c.if-is_err.false in
     let failed = sym c.is_err-2.ensures.value ∙ c.if-is_err-2.true in
     let old = c.args.held.now in
@@ -85,10 +85,10 @@ returns-then-is_err-2-clause-lists g c = λ opening m pace honest stands runs ma
     let before = g.D.Disk.state c.args.disk.now in
     let mid = g.D.Disk.state c.settle_deep.new.disk in
     let after = g.D.Disk.state c.settle_pass.new.disk in
-    let begins : Begins opening old m pace before = record { honest = honest; stands = stands; runs = runs; numbers = c.requires.runs.pace; paced = c.requires.runs.live.paced } in
+    let begins : Begins opening old m before = record { honest = honest; stands = stands; runs = runs; numbers = c.requires.runs.pace; paced = c.requires.runs.live.paced } in
     let has = settled_by c.settle_deep.result old settled before mid ok c.settle_deep.ensures.settles c.settle_deep.ensures.lists c.settle_deep.ensures.effect.goes_on.is_honest in
-    let whole = pass_whole opening old m pace before begins settled mid has left (is_ok c.settle_pass.result) after (inl (c.settle_pass.ensures.due failed)) c.settle_pass.ensures.lists in
-    (lost_pass opening old m pace before begins settled mid has left (err_of c.settle_pass.result failed c.settle_pass.ensures.kept) (c.settle_pass.ensures.due failed) (is_ok c.settle_pass.result) after c.settle_pass.ensures.lists, whole.0, whole.1)
+    let whole = pass_whole opening old m before begins settled mid has left (is_ok c.settle_pass.result) after (inl (c.settle_pass.ensures.due failed)) c.settle_pass.ensures.lists in
+    (lost_pass opening old m before begins settled mid has left (err_of c.settle_pass.result failed c.settle_pass.ensures.kept) (c.settle_pass.ensures.due failed) (is_ok c.settle_pass.result) after c.settle_pass.ensures.lists, whole.0, whole.1)
 
 pub returns-then-is_err-2-clause-effect : goal.returns-then-is_err-2-clause-effect
 returns-then-is_err-2-clause-effect g c =
@@ -167,7 +167,7 @@ returns-in-Ok-clause-takes g c =
     )
 
 pub returns-in-Ok-clause-lists : goal.returns-in-Ok-clause-lists
-returns-in-Ok-clause-lists g c = λ opening m pace honest stands runs may fits.
+returns-in-Ok-clause-lists g c = λ opening m honest stands runs may fits.
     let ok = sym c.is_err.ensures.value ∙ c.if-is_err.false in
     let ok_then = sym c.is_err-2.ensures.value ∙ c.if-is_err-2.false in
     let old = c.args.held.now in
@@ -180,21 +180,21 @@ returns-in-Ok-clause-lists g c = λ opening m pace honest stands runs may fits.
     let after = g.D.Disk.state c.write.new.disk in
     let key = key_of c.args.write.now in
     let rec = record_of c.args.write.now in
-    let begins : Begins opening old m pace before = record { honest = honest; stands = stands; runs = runs; numbers = c.requires.runs.pace; paced = c.requires.runs.live.paced } in
+    let begins : Begins opening old m before = record { honest = honest; stands = stands; runs = runs; numbers = c.requires.runs.pace; paced = c.requires.runs.live.paced } in
     let has = settled_by c.settle_deep.result old settled before mid ok c.settle_deep.ensures.settles c.settle_deep.ensures.lists c.settle_deep.ensures.effect.goes_on.is_honest in
     let takes : MayTake c.args.seat c.args.op.now c.args.write.now old m = record { may = may; fits = fits; writes = c.requires.write; room = c.requires.may.room } in
     let then = begun_by c.settle_pass.result (total_weight (writes_of c.args.op.now)) c.weight.result settled ready begun mid last ok_then c.settle_pass.ensures.settles c.settle_pass.ensures.turns c.settle_pass.ensures.lists
     c.settle_pass.ensures.effect.goes_on.is_honest c.begin_for.ensures.begun c.weight.ensures.weight c.begin_for.ensures.lists in
     let appends : Appends key rec begun true last after = at_write (λ (k : Key) (r : Rec). Appends k r begun true last after) key c.key.result.now rec c.of_write-rec.result c.key.ensures c.of_write-rec.ensures.«record»
     (λ tree here of_log over. (c.in-Ok.ensures.becomes tree here of_log over).0) in (
-      writes_over opening old m pace before begins settled mid has c.args.seat c.args.op.now c.args.write.now takes ready begun last then c.write.new.self after
+      writes_over opening old m before begins settled mid has c.args.seat c.args.op.now c.args.write.now takes ready begun last then c.write.new.self after
           (at_write (λ (k : Key) (r : Rec). WritesIn c.args.seat k r begun c.write.new.self) key c.key.result.now rec c.of_write-rec.result c.key.ensures c.of_write-rec.ensures.«record» c.in-Ok.ensures.writes)
           (at_write (λ (k : Key) (r : Rec). (tree : Tree) → IsLogOf tree begun.log → IsLogOf (appended (goes_ahead k begun) (k, r) tree) c.write.new.self.log) key c.key.result.now rec c.of_write-rec.result c.key.ensures c.of_write-rec.ensures.«record»
           c.in-Ok.ensures.is_of)
           (at_write (λ (k : Key) (r : Rec). (tree : Tree) → IsTrue last.is_honest → IsLogOf tree begun.log → StandOver begun.runs tree begun.log.a.entries last
           → StandOver c.write.new.self.runs (appended (goes_ahead k begun) (k, r) tree) c.write.new.self.log.a.entries after) key c.key.result.now rec c.of_write-rec.result c.key.ensures c.of_write-rec.ensures.«record»
           (λ tree here of_log over. (c.in-Ok.ensures.becomes tree here of_log over).1)),
-      done_leaves opening old m pace before begins settled mid has c.args.seat c.args.op.now c.args.write.now takes ready begun last then after appends,
+      done_leaves opening old m before begins settled mid has c.args.seat c.args.op.now c.args.write.now takes ready begun last then after appends,
     )
 
 pub returns-in-Ok-clause-effect : goal.returns-in-Ok-clause-effect
@@ -240,7 +240,7 @@ returns-in-Err-clause-takes g c =
     }
 
 pub returns-in-Err-clause-lists : goal.returns-in-Err-clause-lists
-returns-in-Err-clause-lists g c = λ opening m pace honest stands runs may fits.
+returns-in-Err-clause-lists g c = λ opening m honest stands runs may fits.
     let ok = sym c.is_err.ensures.value ∙ c.if-is_err.false in
     let ok_then = sym c.is_err-2.ensures.value ∙ c.if-is_err-2.false in
     let old = c.args.held.now in
@@ -253,12 +253,12 @@ returns-in-Err-clause-lists g c = λ opening m pace honest stands runs may fits.
     let after = g.D.Disk.state c.write.new.disk in
     let key = key_of c.args.write.now in
     let rec = record_of c.args.write.now in
-    let begins : Begins opening old m pace before = record { honest = honest; stands = stands; runs = runs; numbers = c.requires.runs.pace; paced = c.requires.runs.live.paced } in
+    let begins : Begins opening old m before = record { honest = honest; stands = stands; runs = runs; numbers = c.requires.runs.pace; paced = c.requires.runs.live.paced } in
     let has = settled_by c.settle_deep.result old settled before mid ok c.settle_deep.ensures.settles c.settle_deep.ensures.lists c.settle_deep.ensures.effect.goes_on.is_honest in
     let takes : MayTake c.args.seat c.args.op.now c.args.write.now old m = record { may = may; fits = fits; writes = c.requires.write; room = c.requires.may.room } in
     let then = begun_by c.settle_pass.result (total_weight (writes_of c.args.op.now)) c.weight.result settled ready begun mid last ok_then c.settle_pass.ensures.settles c.settle_pass.ensures.turns c.settle_pass.ensures.lists
     c.settle_pass.ensures.effect.goes_on.is_honest c.begin_for.ensures.begun c.weight.ensures.weight c.begin_for.ensures.lists in
-    doubt_leaves opening old m pace before begins settled mid has c.args.seat c.args.op.now c.args.write.now takes ready begun last then c.write.new.self c.in-Err.ensures.kept false after
+    doubt_leaves opening old m before begins settled mid has c.args.seat c.args.op.now c.args.write.now takes ready begun last then c.write.new.self c.in-Err.ensures.kept false after
     (at_write (λ (k : Key) (r : Rec). Appends k r begun false last after) key c.key.result.now rec c.of_write-rec.result c.key.ensures c.of_write-rec.ensures.«record»
     (λ tree here of_log over. (c.in-Err.ensures.becomes tree here of_log over).0))
 
