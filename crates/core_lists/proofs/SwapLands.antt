@@ -113,8 +113,8 @@ made_of_done held tree m file at sound done =
         let parts = both_hold (is_empty (above pass.cursor m.lists.a)) (is_empty (above pass.cursor m.lists.c1)) none in
         let of_a = taken_all pass.cursor snow.at m.lists.a held.log.a.entries comes (table_a held tree m file at) parts.0 in
         let of_c1 = taken_all pass.cursor snow.at m.lists.c1 (entries_of tree.c1) comes (list_c1 held tree m file at) parts.1 in
-        sym over.pushed.held.weight_is
-        ∙ ap entries_weight over.pushed.entries_are
+        sym over.run.pushed.held.weight_is
+        ∙ ap entries_weight (over.run.pushed.entries_are ∙ over.out_is)
         ∙ ap (λ (es : Entries). entries_weight (folded_over es (up_to snow.at (entries_of tree.c1)))) of_a
         ∙ ap (λ (es : Entries). entries_weight (folded_over held.log.a.entries es)) of_c1
 

@@ -17,26 +17,22 @@ ghost use Rattle.merge_ends.specs.Quantum.{IsNext, NoneAbove, IsQuantum};
 ghost use Rattle.merge_ends.specs.Progress.{IsRunning, MayGoOn, MergesOn, TakesGroup, TakesQuantum, left_to_take, stage};
 ghost use Rattle.deep_merge.specs.Merge.{started, IsMerge, progress_of_deep};
 
-use crate::settled::put_settled;
 use bloom_bits::{Fences, Filter};
 use blsm_model::{Component, Geometry, Key};
 use disk_trait::Disk;
-use merge_ends::{an_input_stays, go_above, is_through};
-use merge_step::{a_merge_goes_on, least_group};
+use merge_ends::Merge;
 use page_file::{Broken, one_order};
 use page_space::{Role, Space};
 use refusal::Failed;
 use run_cursor::Cursor;
-use run_writer::{Writer, where_a_run_writes};
 use std::marker::Model;
 
-/// A deep merge. Contracts see the run that it writes, its cursors over C1' and C2, and the greatest key that it took.
+/// A deep merge. Contracts see the run that it writes, its cursors over C1' and C2, the greatest key that it took, and the one up to which all is on
+/// closed pages of the run.
 #[derive(Debug, Drop)]
 pub struct Deep {
-    writer: Writer,
+    merge: Merge,
     c1x: Cursor,
-    c2: Cursor,
-    at: Option<Key>,
 }
 
 impl Model for Deep {
@@ -44,7 +40,7 @@ impl Model for Deep {
 
     ghost Value = { DeepState };
 
-    ghost view = { λ d. record { writer = d.writer; c1x = d.c1x; c2 = d.c2; at = d.at } };
+    ghost view = { λ d. record { writer = d.merge.writer; c1x = d.c1x; c2 = d.merge.older; at = d.merge.at; closed = d.merge.closed; left = d.merge.left } };
 }
 
 impl Deep {
@@ -74,13 +70,9 @@ impl Deep {
             → IsMerge sizes file space result filter.new fences.new (numbers_of list.pages) (numbers_of below.pages) newer older }
     {
         one_order();
-        filter.reset(bits);
-        fences.clear();
         Deep {
-            writer: Writer::start(role),
+            merge: Merge::begin(c2, role, bits, filter, fences),
             c1x: Cursor::start(c1x),
-            c2: Cursor::start(c2),
-            at: None,
         }
     }
 
@@ -88,56 +80,28 @@ impl Deep {
     pub fn cursor(&self) -> Option<Key>
         ensures { result ≡ self.now.at }
     {
-        match &self.at {
-            Some(key) => Some(key.copy()),
-            None => None,
-        }
+        self.merge.cursor()
+    }
+
+    /// The greatest key up to which all that was taken is on closed pages of the run, which stay as they are; `None` where none is closed.
+    pub fn closed(&self) -> Option<Key>
+        ensures { result ≡ self.now.closed }
+    {
+        self.merge.closed()
+    }
+
+    /// How much of both components was left above that key when it was told, in bytes; 0 where no page is closed.
+    pub fn left(&self) -> u64
+        ensures { result ≡ self.now.left }
+    {
+        self.merge.left()
     }
 
     /// Whether C1' and C2 are wholly taken.
     pub fn is_done(&self) -> bool
         ensures { IsTrue result ↔ (left_to_take (progress_of_deep self.now) ≡ 0) }
     {
-        is_through(&self.c1x, &self.at) && is_through(&self.c2, &self.at)
-    }
-
-    // Takes the next key group, and gives the weight of its records; 0 where nothing is left.
-    fn step<D: Disk>(
-        &mut self,
-        disk: &mut D,
-        geo: &Geometry,
-        space: &mut Space,
-        filter: &mut Filter,
-        fences: &mut Fences,
-    ) -> Result<u64, Broken>
-        requires pages { space.old.pages ≡ page_count geo.now }
-        requires length { IsTrue (D.state disk.old).tells_bytes → length (D.state disk.old).bytes ≡ file_length geo.now }
-        requires runs { MayGoOn geo.now (stage (progress_of_deep self.old) space.old filter.old fences.old (D.state disk.old)) }
-        ensures merge { (newer older : List ℕ) (c1x c2 : Entries) → IsTrue (D.state disk.old).is_honest → IsMerge geo.now (D.state disk.old).bytes space.old self.old filter.old fences.old newer older c1x c2
-            → result ≢ Err Broken.Fault
-            → (n : ℕ) × (result ≡ Ok n) × IsMerge geo.now (D.state disk.new).bytes space.new self.new filter.new fences.new newer older c1x c2
-            × (IsNext self.old.at self.new.at c1x c2 n ⊎ (NoneAbove self.old.at c1x c2 × (self.new.at ≡ self.old.at) × (n ≡ 0))) }
-        ensures numbers { MergesOn geo.now 3 TakesGroup (stage (progress_of_deep self.old) space.old filter.old fences.old (D.state disk.old)) (stage (progress_of_deep self.new) space.new filter.new fences.new (D.state disk.new)) result }
-    {
-        an_input_stays();
-        a_merge_goes_on();
-        go_above(&mut self.c1x, disk, geo, &self.at)?;
-        go_above(&mut self.c2, disk, geo, &self.at)?;
-        let Some((key, rec, weight)) = least_group(&self.c1x, &self.c2) else {
-            return Ok(0);
-        };
-        put_settled(
-            &mut self.writer,
-            disk,
-            geo,
-            space,
-            filter,
-            fences,
-            &key,
-            rec,
-        )?;
-        self.at = Some(key);
-        Ok(weight)
+        self.merge.has_taken(&self.c1x) && self.merge.has_taken_older()
     }
 
     /// Takes whole key groups, the least key first, until they weigh a quantum or nothing is left. Gives the weight that it took.
@@ -170,24 +134,8 @@ impl Deep {
         ensures numbers { MergesOn geo.now (geo.now.quantum / 4 + 3) (TakesQuantum geo.now.quantum) (stage (progress_of_deep self.old) space.old filter.old fences.old (D.state disk.old)) (stage (progress_of_deep self.new) space.new filter.new fences.new (D.state disk.new)) result }
         ensures kept { IsErr result → self.new.at ≡ self.old.at }
     {
-        a_merge_goes_on();
-        let at = self.cursor();
-        let quantum = geo.quantum();
-        let mut taken = 0;
-        while taken < quantum {
-            let weight = match self.step(disk, geo, space, filter, fences) {
-                Ok(weight) => weight,
-                Err(broken) => {
-                    self.at = at;
-                    return Err(broken);
-                }
-            };
-            if weight == 0 {
-                return Ok(taken);
-            }
-            taken += weight;
-        }
-        Ok(taken)
+        self.merge
+            .quantum(disk, geo, &mut self.c1x, true, space, filter, fences)
     }
 
     /// Writes the run's last page, and gives the new C2. The merge stays as it was. After an `Err`, whose cause is a fault of the
@@ -207,7 +155,6 @@ impl Deep {
         ensures writes { (space : SpaceState) (filter : BitState) (fences : FencesState) → IsRunning geo.now (D.state disk.old).is_honest (D.state disk.old).bytes space self.old.writer self.old.at (self.old.c1x ∷ self.old.c2 ∷ []) filter fences
             → Writes (role_region geo.now space self.old.writer.role) (file_length geo.now) result (D.state disk.old) (D.state disk.new) }
     {
-        where_a_run_writes();
-        self.writer.end(disk, geo)
+        self.merge.finish(disk, geo)
     }
 }

@@ -3,6 +3,5 @@
 #![tactic(auto)]
 
 mod deep;
-mod settled;
 
 pub use deep::Deep;

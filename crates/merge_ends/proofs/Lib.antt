@@ -4,3 +4,7 @@ pub mod GroupLemmas
 pub mod WorkLemmas
 pub mod QuantumLemmas
 pub mod ProgressLemmas
+pub mod KeptLemmas
+pub mod NewerLemmas
+pub mod MergeLemmas
+pub mod LeftLemmas

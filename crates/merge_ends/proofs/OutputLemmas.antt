@@ -1,8 +1,8 @@
 -- Which pages a run takes, and the room that it leaves.
 use Rattle.std.proofs.lemmas.Bool.Decides.{nat_tests}
 use Rattle.std.proofs.lemmas.Grind.{common_steps}
-use Rattle.std.proofs.Common.{◌≡◌, ◌≢◌, ◌∙◌, ◌+◌, ◌*◌, ◌<◌, ◌≤◌, ℕ, Bool, true, false, List, [], ◌∷◌, ◌++◌, ◌/◌, length, Option, Result, refl, ap, sym, subst, inl, inr, ⊎_elim, arith}
-use Rattle.std.specs.Prelude.{IsTrue, OnOk, slice_index_or}
+use Rattle.std.proofs.Common.{◌≡◌, ◌≢◌, ◌∙◌, ◌+◌, ◌*◌, ◌<◌, ◌≤◌, ℕ, Bool, true, false, List, [], ◌∷◌, ◌++◌, ◌/◌, length, Option, Result, Ok, Err, refl, ap, sym, subst, inl, inr, ⊎_elim, arith}
+use Rattle.std.specs.Prelude.{if◌then◌else◌, nat_lt, IsTrue, OnErr, OnOk, slice_index_or}
 use Rattle.std.specs.List.{AllByRecursion}
 use Rattle.std.specs.List.Sorted.{IsStrictlySortedBy}
 use Rattle.std.specs.declared.cmp.Ordering.TheVariants.{Less}
@@ -14,11 +14,16 @@ use Rattle.record_delta.specs.declared.record.Rec.{Rec}
 use Rattle.record_delta.specs.Records.{weight}
 use Rattle.record_delta.specs.Entries.{Entries, is_above}
 use Rattle.page_space.specs.PageSet.{Members, size}
-use Rattle.page_space.specs.Space.{SpaceState, IsFree, IsLeastFree, IsWithin, Claims, role_size, role_count, seat_count}
+use Rattle.page_space.specs.Space.{SpaceState, HasRole, IsFree, IsLeastFree, IsWithin, Claims, role_size, role_count, seat_count}
 use Rattle.page_file.specs.Entry.{keys_of, AreRising}
-use Rattle.run_writer.specs.Writer.{WriterState, has_place, put_in, turned, IsCounted}
+use Rattle.blsm_model.specs.Sizes.{Sizes}
+use Rattle.disk_trait.specs.Region.{IsWithin as IsInside}
+use Rattle.page_file.specs.File.{page_region}
+use Rattle.page_file.proofs.PageLemmas.{others_apart}
+use Rattle.run_writer.specs.Writer.{WriterState, closed_entries, has_place, open_region, loose_region, put_in, turned, IsCounted}
 use Rattle.merge_step.proofs.TakenLemmas.{below_above}
-use Rattle.merge_ends.specs.Output.{TakesPages, HasRoom, EndBy, most_pages}
+use Rattle.merge_ends.specs.Output.{TakesPages, HasRoom, EndBy, has_turned, kept, most_pages}
+use Rattle.merge_ends.proofs.KeptLemmas.{same_none}
 
 -- ---- pages
 
@@ -114,6 +119,82 @@ room_put false result space after writer new key rec left role here claimed room
     (λ is. room_claimed space after writer new writer.role t.0 (weight key rec) left role t.1.free t.2
     (ap (λ (w : WriterState). w.component.weight) is) (ap (λ (w : WriterState). w.component.pages) is) room)
     t.3
+
+-- the page that is open behind a push is the one before, or was free
+opens_here : (sizes : Sizes) (space : SpaceState) (writer new : WriterState) → new.number ≡ writer.number → new.component.pages ≡ writer.component.pages → IsInside (open_region sizes new) (loose_region sizes space writer)
+opens_here sizes space writer new number pages i here = inl (subst (λ (n : ℕ). 0 < n) pages here.0, subst (λ (n : ℕ). page_region sizes n i) number here.1)
+
+opens_free : (sizes : Sizes) (space : SpaceState) (writer new : WriterState) (page : ℕ) → new.number ≡ page → IsFree space page → IsInside (open_region sizes new) (loose_region sizes space writer)
+opens_free sizes space writer new page number free i here =
+    inr (λ inside. others_apart sizes inside.0 page (λ same. free.no_role writer.role (subst (λ (n : ℕ). HasRole space writer.role n) same inside.1)) i inside.2 (subst (λ (n : ℕ). page_region sizes n i) number here.1))
+
+pub opens_put : (sizes : Sizes) (place : Bool) (result : Result (Unit {0}) Failed) (space after : SpaceState) (writer new : WriterState) (key : Key) (rec : Rec)
+    → Here place space after writer new key rec → Claimed place result space after writer new key rec → OnErr result (new ≡ writer) → IsInside (open_region sizes new) (loose_region sizes space writer)
+opens_put sizes true result space after writer new key rec here claimed kept =
+    let is = (here refl).1 in opens_here sizes space writer new (ap (λ (w : WriterState). w.number) is) (ap (λ (w : WriterState). w.component.pages) is)
+opens_put sizes false (Ok done) space after writer new key rec here claimed kept =
+    let t = claimed refl in opens_free sizes space writer new t.0 (ap (λ (w : WriterState). w.number) t.3) t.1.free
+opens_put sizes false (Err failed) space after writer new key rec here claimed kept =
+    let is = kept in opens_here sizes space writer new (ap (λ (w : WriterState). w.number) is) (ap (λ (w : WriterState). w.component.pages) is)
+
+-- ---- the closed pages
+
+same_pages : (writer new : WriterState) → new.component.pages ≡ writer.component.pages → has_turned writer new ≡ false
+same_pages writer new h1 = grind (arith, common_steps, nat_tests)
+
+one_page_more : (writer new : WriterState) → new.component.pages ≡ writer.component.pages + 1 → has_turned writer new ≡ true
+one_page_more writer new h1 = grind (arith, common_steps, nat_tests)
+
+pub turned_behind : {A : Type 0} (at closed result : A) (pages after : ℕ) (writer new : WriterState) → result ≡ (if nat_lt pages after then at else closed) → pages ≡ writer.component.pages → after ≡ new.component.pages
+    → result ≡ (if has_turned writer new then at else closed)
+turned_behind at closed result pages after writer new is before behind =
+    is ∙ ap (λ (n : ℕ). if nat_lt n after then at else closed) before ∙ ap (λ (n : ℕ). if nat_lt writer.component.pages n then at else closed) behind
+
+pub closed_none : (writer : WriterState) (out more : Entries) → more ≡ [] → closed_entries writer (out ++ more) ≡ (if has_turned writer writer then out else closed_entries writer out)
+closed_none writer out more none =
+    ap (λ (l : Entries). closed_entries writer (out ++ l)) none ∙ ap (closed_entries writer) (sym (same_none out))
+    ∙ sym (ap (λ (b : Bool). if b then out else closed_entries writer out) (same_pages writer writer refl))
+
+pub closed_put : (place : Bool) (result : Result (Unit {0}) Failed) (space after : SpaceState) (writer new : WriterState) (key : Key) (rec : Rec) (out : Entries)
+    → Here place space after writer new key rec → Claimed place result space after writer new key rec
+    → (closed_entries (put_in key rec writer) (out ++ (key, rec) ∷ []) ≡ closed_entries writer out) × ((page : ℕ) → closed_entries (put_in key rec (turned page writer)) (out ++ (key, rec) ∷ []) ≡ out)
+    → OnOk result (closed_entries new (out ++ (key, rec) ∷ []) ≡ (if has_turned writer new then out else closed_entries writer out))
+closed_put true result space after writer new key rec out here claimed law =
+    let is = (here refl).1 in
+    always result
+    (ap (λ (w : WriterState). closed_entries w (out ++ (key, rec) ∷ [])) is ∙ law.0
+    ∙ sym (ap (λ (b : Bool). if b then out else closed_entries writer out) (same_pages writer new (ap (λ (w : WriterState). w.component.pages) is))))
+closed_put false result space after writer new key rec out here claimed law =
+    let t = claimed refl in
+    on_ok result
+    (λ is. ap (λ (w : WriterState). closed_entries w (out ++ (key, rec) ∷ [])) is ∙ law.1 t.0
+    ∙ sym (ap (λ (b : Bool). if b then out else closed_entries writer out) (one_page_more writer new (ap (λ (w : WriterState). w.component.pages) is))))
+    t.3
+
+pub text_put : (place : Bool) (result : Result (Unit {0}) Failed) (space after : SpaceState) (writer new : WriterState) (key : Key) (rec : Rec)
+    → Here place space after writer new key rec → Claimed place result space after writer new key rec
+    → ((w : WriterState) (k : Key) (r : Rec) → length (put_in k r w).buffer.text ≡ length w.buffer.text + weight k r)
+    → OnOk result (length new.buffer.text ≡ (if has_turned writer new then 0 else length writer.buffer.text) + weight key rec)
+text_put true result space after writer new key rec here claimed law =
+    let is = (here refl).1 in
+    always result
+    (ap (λ (w : WriterState). length w.buffer.text) is ∙ law writer key rec
+    ∙ sym (ap (λ (b : Bool). (if b then 0 else length writer.buffer.text) + weight key rec) (same_pages writer new (ap (λ (w : WriterState). w.component.pages) is))))
+text_put false result space after writer new key rec here claimed law =
+    let t = claimed refl in
+    on_ok result
+    (λ is. ap (λ (w : WriterState). length w.buffer.text) is ∙ law (turned t.0 writer) key rec
+    ∙ sym (ap (λ (b : Bool). (if b then 0 else length writer.buffer.text) + weight key rec) (one_page_more writer new (ap (λ (w : WriterState). w.component.pages) is))))
+    t.3
+
+-- a merge that doesn't settle writes the record itself
+pub not_kept : (settles : Bool) (key : Key) (rec : Rec) → settles ≡ false → kept settles ((key, rec) ∷ []) ≡ [] → ⊥
+not_kept true key rec plain none = cc
+not_kept false key rec plain none = cc
+
+pub same_kept : (settles : Bool) (key : Key) (rec left : Rec) → settles ≡ false → kept settles ((key, rec) ∷ []) ≡ (key, left) ∷ [] → left ≡ rec
+same_kept true key rec left plain is = absurd (false≢true (sym plain))
+same_kept false key rec left plain is = let same : (key, rec) ≡ (key, left) = cc in sym (ap (λ (e : Key × Rec). e.1) same)
 
 -- ---- order
 

@@ -19,7 +19,7 @@ use Rattle.page_file.specs.declared.file.Broken.TheVariants.{Fault, Damaged}
 use Rattle.run_cursor.specs.Cursor.{CursorState}
 use Rattle.merge_step.specs.Merged.{IsTaken}
 use Rattle.merge_ends.proofs.GroupLemmas.{further}
-use Rattle.merge_ends.specs.Quantum.{Works, Counts, IsNext, NoneAbove, HasTaken}
+use Rattle.merge_ends.specs.Quantum.{Grows, Counts, IsNext, NoneAbove, HasTaken}
 use Rattle.merge_ends.specs.Progress.{Progress, Stage, MayGoOn, MeetsDamage, MergesOn, Takes, TakesGroup, TakesQuantum, left_to_take, pages_ahead}
 use Rattle.merge_ends.proofs.QuantumLemmas.{GoesOn, has_step, no_weight}
 use Rattle.merge_ends.proofs.WorkLemmas.{works_start, works_run, works_counted}
@@ -83,14 +83,14 @@ module _ {sizes : Sizes} {most : ℕ} {Took : Progress → Progress → ℕ → 
   pub told_ok : {n : ℕ} → Took old.merge new.merge n → MayGoOn sizes new
       → role_size new.space old.merge.writer.role + old.merge.writer.component.pages ≡ role_size old.space old.merge.writer.role + new.merge.writer.component.pages
       → Counts 0 (pages_ahead old.merge.cursors) (pages_ahead new.merge.cursors) old.merge.writer.component.pages new.merge.writer.component.pages old.disk new.disk
-      → new.merge.writer.role ≡ old.merge.writer.role → KeepReserves old.filter new.filter old.fences new.fences → Works sizes old.merge.writer.role most old.space new.space old.disk new.disk
+      → new.merge.writer.role ≡ old.merge.writer.role → KeepReserves old.filter new.filter old.fences new.fences → Grows sizes most old.space new.space old.merge.writer new.merge.writer old.disk new.disk
       → new.disk.faults ≡ old.disk.faults → MergesOn sizes most Took old new (Ok n)
   told_ok h1 h2 h3 h4 h5 h6 h7 h8 = grind (arith, common_steps, nat_tests)
 
   -- where it failed
   pub told_err : {result : Result ℕ Broken} {broken : Broken} → result ≡ Err broken
       → Counts 1 (pages_ahead old.merge.cursors) (pages_ahead new.merge.cursors) old.merge.writer.component.pages new.merge.writer.component.pages old.disk new.disk
-      → new.merge.writer.role ≡ old.merge.writer.role → KeepReserves old.filter new.filter old.fences new.fences → Works sizes old.merge.writer.role most old.space new.space old.disk new.disk
+      → new.merge.writer.role ≡ old.merge.writer.role → KeepReserves old.filter new.filter old.fences new.fences → Grows sizes most old.space new.space old.merge.writer new.merge.writer old.disk new.disk
       → ((n : ℕ) → result ≡ Err (Damaged n) → IsTrue old.disk.tells_bytes → MeetsDamage sizes new.merge.cursors n new.disk.bytes) → TellsFaultsBy (Err Fault) result old.disk new.disk → MergesOn sizes most Took old new result
   told_err h1 h2 h3 h4 h5 h6 h7 = grind (arith, common_steps, nat_tests)
 
@@ -107,7 +107,7 @@ pub record HasMerged (sizes : Sizes) (most : ℕ) (old new : Stage) (taken : ℕ
   pub counts : Counts 0 (pages_ahead old.merge.cursors) (pages_ahead new.merge.cursors) old.merge.writer.component.pages new.merge.writer.component.pages old.disk new.disk
   pub role : new.merge.writer.role ≡ old.merge.writer.role
   pub reserves : KeepReserves old.filter new.filter old.fences new.fences
-  pub works : Works sizes old.merge.writer.role most old.space new.space old.disk new.disk
+  pub works : Grows sizes most old.space new.space old.merge.writer new.merge.writer old.disk new.disk
   pub faults : new.disk.faults ≡ old.disk.faults
 
 pub merged_start : (sizes : Sizes) (most : ℕ) (now : Stage) → IsTimed now.disk → now.space.pages ≡ page_count sizes → (IsTrue now.disk.tells_bytes → length now.disk.bytes ≡ file_length sizes) → MayGoOn sizes now
@@ -121,11 +121,10 @@ module _ {sizes : Sizes} {most : ℕ} {old mid : Stage} {taken : ℕ} (has : Has
 
   -- a call more, where they don't weigh a quantum yet
   module _ {each : ℕ} {new : Stage} (timed : IsTimed mid.disk) (calls : new.disk.clock ≤ old.disk.clock + most) where
-    works_more_groups : {Took : Progress → Progress → ℕ → Type 0} {result : Result ℕ Broken} → MergesOn sizes each Took mid new result → Works sizes old.merge.writer.role most old.space new.space old.disk new.disk
+    works_more_groups : {Took : Progress → Progress → ℕ → Type 0} {result : Result ℕ Broken} → MergesOn sizes each Took mid new result → Grows sizes most old.space new.space old.merge.writer new.merge.writer old.disk new.disk
     works_more_groups on =
-        works_counted sizes old.merge.writer.role (most + each) most old.space new.space old.disk new.disk calls
-        (works_run sizes old.merge.writer.role most each old.space mid.space new.space old.disk mid.disk new.disk timed has.faults has.works
-        (subst (λ (r : ℕ). Works sizes r each mid.space new.space mid.disk new.disk) has.role on.works))
+        works_counted sizes (most + each) most old.space new.space old.merge.writer new.merge.writer old.disk new.disk calls
+        (works_run sizes most each old.space mid.space new.space old.merge.writer mid.merge.writer new.merge.writer old.disk mid.disk new.disk timed has.faults has.role has.works on.works)
 
     reserves_run : {Took : Progress → Progress → ℕ → Type 0} {result : Result ℕ Broken} → MergesOn sizes each Took mid new result → KeepReserves old.filter new.filter old.fences new.fences
     reserves_run on = record { bits = on.reserves.bits ∙ has.reserves.bits; fences_are = on.reserves.fences_are ∙ has.reserves.fences_are; size_is = on.reserves.size_is ∙ has.reserves.size_is }

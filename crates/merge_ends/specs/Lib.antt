@@ -1,4 +1,6 @@
 pub mod Input
 pub mod Output
 pub mod Quantum
+pub mod Newer
 pub mod Progress
+pub mod Merge

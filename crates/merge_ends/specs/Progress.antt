@@ -16,7 +16,7 @@ use Rattle.run_cursor.specs.Cursor.{CursorState, IsDamageAt}
 use Rattle.run_writer.specs.Writer.{WriterState}
 use Rattle.merge_ends.specs.Input.{IsBehind}
 use Rattle.merge_ends.specs.Output.{HasFences, HasRoom, HasRun}
-use Rattle.merge_ends.specs.Quantum.{Works, Counts}
+use Rattle.merge_ends.specs.Quantum.{Grows, Counts}
 
 -- The run that is written, the greatest key that was taken, how much is left of the newer input and of the older, and the cursors over the
 -- components among these: of a pass the newer input is a memory table, which has none.
@@ -96,6 +96,6 @@ pub record MergesOn (sizes : Sizes) (most : ℕ) (Took : Progress → Progress �
   pub counts : Counts 1 (pages_ahead old.merge.cursors) (pages_ahead new.merge.cursors) old.merge.writer.component.pages new.merge.writer.component.pages old.disk new.disk
   pub role : new.merge.writer.role ≡ old.merge.writer.role
   pub reserves : KeepReserves old.filter new.filter old.fences new.fences
-  pub works : Works sizes old.merge.writer.role most old.space new.space old.disk new.disk
+  pub works : Grows sizes most old.space new.space old.merge.writer new.merge.writer old.disk new.disk
   pub damaged : (n : ℕ) → result ≡ Err (Damaged n) → IsTrue old.disk.tells_bytes → MeetsDamage sizes new.merge.cursors n new.disk.bytes
   pub faults : TellsFaultsBy (Err Fault) result old.disk new.disk

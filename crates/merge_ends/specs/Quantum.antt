@@ -9,7 +9,8 @@ use Rattle.blsm_model.specs.Geometry.{file_length}
 use Rattle.record_delta.specs.declared.record.Rec.{Rec}
 use Rattle.record_delta.specs.Entries.{Entries, entries_weight, above, first_of}
 use Rattle.page_space.specs.Space.{SpaceState}
-use Rattle.run_writer.specs.Writer.{role_region}
+use Rattle.disk_trait.specs.Region.{Region, IsWithin}
+use Rattle.run_writer.specs.Writer.{WriterState, open_region, role_region, loose_region}
 use Rattle.merge_step.specs.Group.{group_of}
 use Rattle.merge_ends.specs.Output.{TakesPages}
 
@@ -41,7 +42,18 @@ pub record IsQuantum (least : ℕ) (from to : Option Key) (newer older : Entries
   pub has_taken : HasTaken least from to newer older taken
   pub enough : (least ≤ taken) ⊎ NoneAbove to newer older
 
--- It takes free pages for the role, and writes these alone, in so many calls at most.
+-- where a run writes that grows from this writer on: on pages that have its tag afterwards, and of those that had it before on the open one alone
+abbrev pub grown_region : Sizes → SpaceState → SpaceState → WriterState → Region
+grown_region sizes space after writer = λ i. role_region sizes after writer.role i × loose_region sizes space writer i
+
+-- It takes free pages for the run, and writes these and the page that was open, in so many calls at most. The page that is open then is one of them.
+pub record Grows (sizes : Sizes) (most : ℕ) (space after : SpaceState) (writer next : WriterState) (old new : DiskState) : Type 0 where
+  pub takes : TakesPages writer.role space after
+  pub effect : Affects (grown_region sizes space after writer) (file_length sizes) most old new
+  pub opens : IsWithin (open_region sizes next) (loose_region sizes space writer)
+  pub no_sync : MarksSync ⊥ old new
+
+-- so it takes free pages for a role, and writes pages of that role alone
 pub record Works (sizes : Sizes) (role most : ℕ) (space after : SpaceState) (old new : DiskState) : Type 0 where
   pub takes : TakesPages role space after
   pub effect : Affects (role_region sizes after role) (file_length sizes) most old new

@@ -1,5 +1,5 @@
 //! A component as an input of a merge.
-ghost use Rattle.std.specs.Prelude.{◌≡◌, ◌≢◌, ◌↔◌, ◌+◌, ◌≤◌, ℕ, List, Ok, Err, length, IsTrue, IsErr, OnOk};
+ghost use Rattle.std.specs.Prelude.{◌≡◌, ◌≢◌, ◌↔◌, ◌+◌, ◌≤◌, ◌<◌, ◌^◌, ℕ, List, Ok, Err, length, IsTrue, IsErr, OnOk};
 ghost use Rattle.blsm_model.specs.Sizes.{Sizes};
 ghost use Rattle.blsm_model.specs.Geometry.{file_length};
 ghost use Rattle.record_delta.specs.Entries.{Entries};
@@ -11,7 +11,7 @@ ghost use Rattle.merge_ends.specs.Input.{head_above, left_in, IsReady, IsBehind,
 use blsm_model::{Geometry, Key};
 use disk_trait::Disk;
 use page_file::Broken;
-use record_delta::Stream;
+use record_delta::{Stream, weight};
 use run_cursor::Cursor;
 
 // Whether a cursor is at an entry above a key.
@@ -30,6 +30,18 @@ pub fn is_through(cursor: &Cursor, at: &Option<Key>) -> bool
     ensures { IsTrue result ↔ (left_in at.now cursor.now ≡ 0) }
 {
     cursor.weight_left() == 0 && !is_above(cursor, at)
+}
+
+/// How much of an input is left above a key, in bytes.
+pub fn left_above(cursor: &Cursor, at: &Option<Key>) -> u64
+    requires { left_in at.now cursor.now < 2 ^ 64 }
+    ensures { result ≡ left_in at.now cursor.now }
+{
+    let behind = cursor.weight_left();
+    match cursor.head() {
+        Some((key, rec)) if is_above(cursor, at) => weight(&key, &rec) + behind,
+        _ => behind,
+    }
 }
 
 /// Goes on to the first entry above the greatest key that was taken, or to the end. It makes one call of the disk at most, which

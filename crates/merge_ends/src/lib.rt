@@ -4,8 +4,11 @@
 
 mod input;
 mod laws;
+mod merge;
+mod newer;
 mod output;
 
 pub use input::{go_above, is_through};
-pub use laws::an_input_stays;
-pub use output::put;
+pub use laws::{an_input_stays, what_is_finished};
+pub use merge::Merge;
+pub use newer::Newer;

@@ -1,24 +1,43 @@
 //! The run that a merge writes.
-ghost use Rattle.std.specs.Prelude.{◌≡◌, ◌+◌, ◌≤◌, ◌∷◌, ◌++◌, [], ℕ, length, IsTrue, OnOk, OnErr};
+ghost use Rattle.std.specs.Prelude.{◌≡◌, ◌+◌, ◌≤◌, ◌∷◌, ◌++◌, [], ℕ, false, length, if◌then◌else◌, IsTrue, IfSome, OnOk, OnErr};
+ghost use Rattle.disk_trait.specs.Region.{IsWithin};
 ghost use Rattle.blsm_model.specs.Geometry.{page_count, file_length};
 ghost use Rattle.bloom_bits.specs.Guides.{KeepReserves};
 ghost use Rattle.record_delta.specs.Entries.{Entries};
+ghost use Rattle.blsm_model.specs.declared.key.Key.{Key};
+ghost use Rattle.record_delta.specs.declared.record.Rec.{Rec};
 ghost use Rattle.record_delta.specs.Records.{weight as weight_with};
 ghost use Rattle.page_space.specs.Space.{role_size};
 ghost use Rattle.page_file.specs.Entry.{AreRising};
 ghost use Rattle.page_file.specs.File.{Writes};
-ghost use Rattle.run_writer.specs.Writer.{role_region, HasPushed};
-ghost use Rattle.merge_ends.specs.Output.{TakesPages, HasFences, HasRoom};
+ghost use Rattle.run_writer.specs.Writer.{closed_entries, open_region, role_region, loose_region, HasPushed};
+ghost use Rattle.merge_ends.specs.Output.{TakesPages, HasFences, HasRoom, has_turned, kept, entry_of};
 
 use bloom_bits::{Fences, Filter};
 use blsm_model::{Geometry, Key};
 use disk_trait::Disk;
 use page_space::{Space, room_is_free};
-use record_delta::{Rec, weight};
+use record_delta::{Rec, settle, weight};
 use refusal::Failed;
-use run_writer::{Writer, a_run_has_fences, a_run_has_room, where_a_run_writes};
+use run_writer::{Writer, a_run_has_fences, a_run_has_room, what_is_closed, where_a_run_writes};
 
-/// Pushes an entry into a run that has room for it, and whose fences have; its filter and fences have it then. It makes one call of the disk at most, and takes a page where it does. After an
+// What a merge writes of a record, if it writes anything: the record, or, where it settles, a base.
+fn left_of(settles: bool, rec: Rec) -> Option<Rec>
+    ensures kept { (key : Key) → kept settles ((key, rec) ∷ []) ≡ entry_of key result }
+    ensures light { (key : Key) → IfSome result (λ left. weight_with key left ≤ weight_with key rec) }
+{
+    if settles {
+        match settle(rec) {
+            Some(value) => Some(Rec::Base(value)),
+            None => None,
+        }
+    } else {
+        Some(rec)
+    }
+}
+
+/// Pushes an entry, or what is left of it where nothing is older, into a run that has room for it, and whose fences have; its filter and fences have it then.
+/// It makes one call of the disk at most, and takes a page where it does. After an
 /// `Err` the writer is as it was; the page that was taken keeps its tag. A clause for each thing that it is lent: the run, its room, its fences, the
 /// map of pages, the disk.
 pub fn put<D: Disk>(
@@ -28,33 +47,47 @@ pub fn put<D: Disk>(
     space: &mut Space,
     filter: &mut Filter,
     fences: &mut Fences,
+    settles: bool,
     key: &Key,
-    rec: &Rec,
+    rec: Rec,
 ) -> Result<(), Failed>
     requires pages { space.old.pages ≡ page_count geo.now }
     requires length { IsTrue (D.state disk.old).tells_bytes → length (D.state disk.old).bytes ≡ file_length geo.now }
-    requires room { HasRoom space.old writer.old (weight_with key.now rec.now) }
-    requires fences { HasFences fences.old writer.old (weight_with key.now rec.now) }
-    requires run { (out : Entries) × HasPushed geo.now (D.state disk.old).is_honest (D.state disk.old).bytes space.old writer.old filter.old fences.old out × AreRising (out ++ (key.now, rec.now) ∷ []) }
-    ensures pushed { (out : Entries) → AreRising (out ++ (key.now, rec.now) ∷ [])
+    requires room { HasRoom space.old writer.old (weight_with key.now rec) }
+    requires fences { HasFences fences.old writer.old (weight_with key.now rec) }
+    requires run { (out : Entries) × HasPushed geo.now (D.state disk.old).is_honest (D.state disk.old).bytes space.old writer.old filter.old fences.old out
+        × ((any : Rec) → AreRising (out ++ (key.now, any) ∷ [])) }
+    ensures pushed { (out : Entries) → ((any : Rec) → AreRising (out ++ (key.now, any) ∷ []))
         → HasPushed geo.now (D.state disk.old).is_honest (D.state disk.old).bytes space.old writer.old filter.old fences.old out
-        → OnOk result (HasPushed geo.now (D.state disk.new).is_honest (D.state disk.new).bytes space.new writer.new filter.new fences.new (out ++ (key.now, rec.now) ∷ [])) }
-    ensures room { (left : ℕ) → HasRoom space.old writer.old (weight_with key.now rec.now + left) → OnOk result (HasRoom space.new writer.new left) }
-    ensures weight { OnOk result (writer.new.component.weight ≡ writer.old.component.weight + weight_with key.now rec.now) }
+        → OnOk result (HasPushed geo.now (D.state disk.new).is_honest (D.state disk.new).bytes space.new writer.new filter.new fences.new (out ++ kept settles ((key.now, rec) ∷ []))) }
+    // The closed pages stay as they are, or have all that was pushed before, where a page was taken.
+    ensures closed { (out : Entries) → HasPushed geo.now (D.state disk.old).is_honest (D.state disk.old).bytes space.old writer.old filter.old fences.old out
+        → OnOk result (closed_entries writer.new (out ++ kept settles ((key.now, rec) ∷ [])) ≡ (if has_turned writer.old writer.new then out else closed_entries writer.old out)) }
+    ensures here { settles ≡ false
+        → OnOk result (length writer.new.buffer.text ≡ (if has_turned writer.old writer.new then 0 else length writer.old.buffer.text) + weight_with key.now rec) }
+    ensures room { (left : ℕ) → HasRoom space.old writer.old (weight_with key.now rec + left) → OnOk result (HasRoom space.new writer.new left) }
+    ensures light { OnOk result (writer.new.component.weight ≤ writer.old.component.weight + weight_with key.now rec) }
     ensures size { OnOk result (role_size space.new writer.old.role + writer.old.component.pages ≡ role_size space.old writer.old.role + writer.new.component.pages) }
     ensures kept { OnErr result (writer.new ≡ writer.old) }
     ensures one_a_page { OnOk result ((D.state disk.new).clock + writer.old.component.pages ≤ (D.state disk.old).clock + writer.new.component.pages) }
     ensures reserves { KeepReserves filter.old filter.new fences.old fences.new }
     ensures role { writer.new.role ≡ writer.old.role }
     ensures takes { TakesPages writer.old.role space.old space.new }
-    ensures writes { Writes (role_region geo.now space.old writer.old.role) (file_length geo.now) result (D.state disk.old) (D.state disk.new) }
+    ensures writes { Writes (open_region geo.now writer.old) (file_length geo.now) result (D.state disk.old) (D.state disk.new) }
+    // The page that it writes has the run's tag; the one that is open then is the same or was free.
+    ensures tagged { IsWithin (open_region geo.now writer.old) (role_region geo.now space.old writer.old.role) }
+    ensures opens { IsWithin (open_region geo.now writer.new) (loose_region geo.now space.old writer.old) }
 {
+    where_a_run_writes();
+    what_is_closed();
+    let Some(rec) = left_of(settles, rec) else {
+        return Ok(());
+    };
     let _pages = space.pages();
     let _component = writer.component();
-    let _weight = weight(key, rec);
+    let _weight = weight(key, &rec);
     room_is_free();
     a_run_has_room();
     a_run_has_fences();
-    where_a_run_writes();
-    writer.push(disk, geo, space, filter, fences, key, rec)
+    writer.push(disk, geo, space, filter, fences, key, &rec)
 }

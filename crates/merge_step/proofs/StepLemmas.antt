@@ -1,5 +1,5 @@
 -- One step of a merge of two sorted lists.
-use Rattle.std.proofs.Common.{◌≡◌, ℕ, true, false, not, cond, T, ◌+◌, [], ◌∷◌, ◌++◌, Option, Some, None, refl, ap, sym, subst, ◌∙◌, arith}
+use Rattle.std.proofs.Common.{◌≡◌, ℕ, true, false, not, cond, T, ◌+◌, [], ◌∷◌, ◌++◌, Option, Some, None, refl, ap, sym, subst, ◌∙◌, inl, inr, arith}
 use Rattle.std.specs.declared.cmp.Ordering.{Ordering}
 use Rattle.std.specs.declared.cmp.Ordering.TheVariants.{Less, Equal, Greater}
 use Rattle.std.specs.FinMap.{is_sorted}
@@ -63,6 +63,7 @@ from_newer at newer older more e sorted is others =
       of_newer = weight e.0 e.1;
       of_older = 0;
       taken_is = omega arith;
+      newer_is = inr (e.1, ap first_of is, refl);
       newer_left = weight_less at newer more e is mine.0;
       older_left = omega (arith, ap entries_weight theirs.0);
     }
@@ -80,6 +81,7 @@ from_older at newer older more e sorted is others =
       of_newer = 0;
       of_older = weight e.0 e.1;
       taken_is = omega arith;
+      newer_is = inl refl;
       newer_left = omega (arith, ap entries_weight theirs.0);
       older_left = weight_less at older more e is mine.0;
     }
@@ -99,6 +101,7 @@ from_both at newer older more less_more e f sorted_newer sorted_older is is_olde
       of_newer = weight e.0 e.1;
       of_older = weight f.0 f.1;
       taken_is = refl;
+      newer_is = inr (e.1, ap first_of is, refl);
       newer_left = weight_less at newer more e is mine.0;
       older_left = subst (λ (k : Key). weight f.0 f.1 + entries_weight (above (Some k) older) ≡ entries_weight (above at older)) (sym keys) (weight_less at older less_more f is_older theirs.0);
     }

@@ -1,11 +1,12 @@
 -- How far a merge of two sorted lists has come.
-use Rattle.std.specs.Prelude.{◌≡◌, ◌+◌, ◌++◌, ◌∷◌, [], ℕ, true, Option, Some}
+use Rattle.std.specs.Prelude.{◌≡◌, ◌⊎◌, ◌+◌, ◌++◌, ◌∷◌, [], ℕ, true, Option, Some}
 use Rattle.std.specs.List.{AllByRecursion}
 use Rattle.std.specs.declared.cmp.Ordering.TheVariants.{Less}
 use Rattle.blsm_model.specs.declared.key.Key.{Key}
 use Rattle.blsm_model.specs.Keys.{key_cmp}
 use Rattle.record_delta.specs.declared.record.Rec.{Rec}
-use Rattle.record_delta.specs.Entries.{Entries, entries_weight, folded_over, is_above, above, up_to}
+use Rattle.record_delta.specs.Records.{weight}
+use Rattle.record_delta.specs.Entries.{Entries, entries_weight, first_of, folded_over, is_above, above, up_to}
 
 -- the key is above each of these entries
 abbrev pub IsPast : Entries → Key → Type 0
@@ -23,5 +24,7 @@ pub record IsTaken (at : Option Key) (newer older : Entries) (key : Key) (rec : 
   pub of_newer : ℕ
   pub of_older : ℕ
   pub taken_is : taken ≡ of_newer + of_older
+  -- the newer list gave its record of the key, or nothing
+  pub newer_is : (of_newer ≡ 0) ⊎ ((given : Rec) × (first_of (above at newer) ≡ Some (key, given)) × (of_newer ≡ weight key given))
   pub newer_left : of_newer + entries_weight (above (Some key) newer) ≡ entries_weight (above at newer)
   pub older_left : of_older + entries_weight (above (Some key) older) ≡ entries_weight (above at older)

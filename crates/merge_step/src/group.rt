@@ -1,8 +1,9 @@
 //! The least key of two runs.
-ghost use Rattle.std.specs.Prelude.{◌≡◌, ◌≤◌, ◌+◌, ◌*◌, IfSome, None};
+ghost use Rattle.std.specs.Prelude.{◌≡◌, ◌≤◌, ◌+◌, ◌*◌, IfSome, Some, None};
 ghost use Rattle.blsm_model.specs.Format.{least_weight, most_weight};
 ghost use Rattle.merge_step.specs.Group.{least_of, group_of};
 ghost use Rattle.blsm_model.specs.Keys.{key_cmp};
+ghost use Rattle.record_delta.specs.declared.record.Rec.{Rec};
 ghost use Rattle.record_delta.specs.Records.{weight as weight_with};
 
 use blsm_model::Key;
@@ -17,7 +18,21 @@ pub fn least_group<A: Stream, B: Stream>(newer: &A, older: &B) -> Option<(Key, R
     ensures some { IfSome result (λ g. least_weight ≤ g.2) }
     ensures light { IfSome result (λ g. (g.2 ≤ 2 * most_weight) × (weight_with g.0 g.1 ≤ g.2)) }
 {
-    match (newer.head(), older.head()) {
+    least_of_heads(newer.head(), older.head())
+}
+
+/// The same of the entries at which they stand.
+pub fn least_of_heads(
+    newer: Option<(Key, Rec)>,
+    older: Option<(Key, Rec)>,
+) -> Option<(Key, Rec, u64)>
+    ensures group { result ≡ group_of newer older }
+    ensures some { IfSome result (λ g. least_weight ≤ g.2) }
+    ensures light { IfSome result (λ g. (g.2 ≤ 2 * most_weight) × (weight_with g.0 g.1 ≤ g.2)) }
+    // It weighs no less than the newer one's record of the key.
+    ensures grows { IfSome result (λ g. (rec : Rec) → newer ≡ Some (g.0, rec) → weight_with g.0 rec ≤ weight_with g.0 g.1) }
+{
+    match (newer, older) {
         (None, None) => None,
         (Some(entry), None) | (None, Some(entry)) => Some(alone(entry)),
         (Some(newer), Some(older)) => Some(least(newer, older)),
@@ -40,6 +55,7 @@ fn least(newer: (Key, Rec), older: (Key, Rec)) -> (Key, Rec, u64)
     ensures entry { result ≡ least_of (key_cmp newer.0 older.0) newer older }
     ensures some { least_weight ≤ result.2 }
     ensures light { (result.2 ≤ 2 * most_weight) × (weight_with result.0 result.1 ≤ result.2) }
+    ensures grows { (rec : Rec) → newer ≡ (result.0, rec) → weight_with result.0 rec ≤ weight_with result.0 result.1 }
 {
     match newer.0.cmp(&older.0) {
         Ordering::Less => alone(newer),
@@ -54,6 +70,7 @@ fn both(newer: (Key, Rec), older: (Key, Rec)) -> (Key, Rec, u64)
     ensures entry { result ≡ least_of Ordering.Equal newer older }
     ensures some { least_weight ≤ result.2 }
     ensures light { (result.2 ≤ 2 * most_weight) × (weight_with result.0 result.1 ≤ result.2) }
+    ensures grows { weight_with newer.0 newer.1 ≤ weight_with result.0 result.1 }
 {
     let (key, rec) = newer;
     let (same, below) = older;

@@ -21,7 +21,7 @@ use Rattle.page_file.specs.Entry.{entries_bytes, keys_of, AreRising}
 use Rattle.blsm_model.specs.Components.{no_page}
 use Rattle.page_file.specs.Page.{page_number, IsPageOf}
 use Rattle.page_file.specs.File.{page_at, AreSamePages}
-use Rattle.page_file.specs.Component.{RunPage, numbers_of, entries_of, first_number, AreChained, ReadsAs, HasList}
+use Rattle.page_file.specs.Component.{RunPage, numbers_of, entries_of, first_number, AreChained, ReadsAs, ReadsOn, HasList}
 use Rattle.record_delta.specs.Records.{weight}
 use Rattle.entry_codec.proofs.SpellingLemmas.{length-spelling}
 use Rattle.page_file.proofs.PageLemmas.{page_same, number_same, IsNumber}
@@ -65,9 +65,13 @@ chain_kept sizes (p ∷ ps) end old new same c =
       chain_kept sizes ps end old new (λ n has. same n (Contains-append_right (p.number ∷ []) (numbers_of ps) n has)) c.2,
     )
 
+pub run_kept : (sizes : Sizes) (run : Component) (pages : List RunPage) (next : Option ℕ) (old new : List ℕ) → AreSamePages sizes (numbers_of pages) old new
+    → ReadsOn sizes run pages next old → ReadsOn sizes run pages next new
+run_kept sizes run pages next old new h1 h2 = grind (arith, common_steps, nat_tests, chain_kept)
+
 pub component_kept : (sizes : Sizes) (component : Component) (pages : List RunPage) (old new : List ℕ) → AreSamePages sizes (numbers_of pages) old new
     → ReadsAs sizes component pages old → ReadsAs sizes component pages new
-component_kept sizes component pages old new h1 h2 = grind (arith, common_steps, nat_tests, chain_kept)
+component_kept sizes component pages old new same reads = run_kept sizes component pages None old new same reads
 
 -- ---- a chain behind a chain
 

@@ -33,19 +33,23 @@ AreChained sizes [] end file = ⊤
 AreChained sizes (p ∷ ps) end file =
     (p.number < page_count sizes) × IsPageOf (page_count sizes) (first_number ps end) p.entries (page_at sizes p.number file) × AreChained sizes ps end file
 
--- In this file the component reads as the entries of these pages.
-pub record ReadsAs (sizes : Sizes) (component : Component) (pages : List RunPage) (file : List ℕ) : Type 0 where
-  -- from the first page on only the last has no next one
-  pub first_is : page_number (first_number pages None) ≡ component.first
-  pub chained : AreChained sizes pages None file
+-- In this file the run reads as the entries of these pages, of which the last one names this next page; where there are none, it is the run's first.
+pub record ReadsOn (sizes : Sizes) (run : Component) (pages : List RunPage) (next : Option ℕ) (file : List ℕ) : Type 0 where
+  -- from the first page on each names the one behind it
+  pub first_is : page_number (first_number pages next) ≡ run.first
+  pub chained : AreChained sizes pages next file
   -- the keys strictly rise, over the page ends too
   pub rise : AreRising (entries_of pages)
   -- no page is met twice
   pub apart : IsDistinct nat_eq (numbers_of pages)
   -- the numbers are those of the pages
-  pub pages_is : length pages ≡ component.pages
-  pub entries_is : length (entries_of pages) ≡ component.entries
-  pub weight_is : entries_weight (entries_of pages) ≡ component.weight
+  pub pages_is : length pages ≡ run.pages
+  pub entries_is : length (entries_of pages) ≡ run.entries
+  pub weight_is : entries_weight (entries_of pages) ≡ run.weight
+
+-- In this file the component reads as the entries of these pages: only the last one has no next one.
+abbrev pub ReadsAs : Sizes → Component → List RunPage → List ℕ → Type 0
+ReadsAs sizes component pages file = ReadsOn sizes component pages None file
 
 -- In this file the component reads as this list of keys with their records.
 pub record HasList (sizes : Sizes) (component : Component) (entries : Entries) (file : List ℕ) : Type 0 where

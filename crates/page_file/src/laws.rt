@@ -15,7 +15,7 @@ ghost use Rattle.page_file.specs.File.{page_start, page_region, pages_region, Ar
 ghost use Rattle.blsm_model.specs.declared.key.Key.{Key};
 ghost use Rattle.record_delta.specs.declared.record.Rec.{Rec};
 ghost use Rattle.record_delta.specs.Entries.{entries_weight, Entries};
-ghost use Rattle.page_file.specs.Component.{RunPage, numbers_of, entries_of, first_number, AreChained, ReadsAs, HasList};
+ghost use Rattle.page_file.specs.Component.{RunPage, numbers_of, entries_of, first_number, AreChained, ReadsAs, ReadsOn, HasList};
 
 /// Bytes are one page at most: they have one list of entries and one next page. Each content that a page may have is that of
 /// a valid page.
@@ -49,6 +49,8 @@ pub fn what_stays()
         → AreSamePages sizes numbers old new }
     ensures chain { (sizes : Sizes) (pages : List RunPage) (end : Option ℕ) (old new : List ℕ) → AreSamePages sizes (numbers_of pages) old new
         → AreChained sizes pages end old → AreChained sizes pages end new }
+    ensures run { (sizes : Sizes) (run : Component) (pages : List RunPage) (next : Option ℕ) (old new : List ℕ) → AreSamePages sizes (numbers_of pages) old new
+        → ReadsOn sizes run pages next old → ReadsOn sizes run pages next new }
     ensures component { (sizes : Sizes) (component : Component) (pages : List RunPage) (old new : List ℕ) → AreSamePages sizes (numbers_of pages) old new
         → ReadsAs sizes component pages old → ReadsAs sizes component pages new }
     ensures list { (sizes : Sizes) (component : Component) (es : Entries) (old new : List ℕ) (list : HasList sizes component es old)

@@ -1,7 +1,7 @@
 -- What some entries say of a key whose list they are part of: those that are left of a page, and those of the one page that its fences name.
 use Rattle.std.proofs.lemmas.Bool.Decides.{nat_tests}
 use Rattle.std.proofs.lemmas.Grind.{common_steps}
-use Rattle.std.proofs.Common.{◌≡◌, ◌≢◌, ℕ, ◌+◌, ◌<◌, ◌≤◌, Bool, true, false, List, [], ◌∷◌, ◌++◌, length, Option, Some, None, Result, Ok, Err, IfOk, refl, ap, sym, subst, ◌∙◌, length-append, arith}
+use Rattle.std.proofs.Common.{◌≡◌, ◌≢◌, ℕ, ◌+◌, ◌<◌, ◌≤◌, Bool, true, false, List, [], ◌∷◌, ◌++◌, length, Option, Some, None, Result, Ok, Err, IfOk, refl, ap, sym, subst, ◌∙◌, append_assoc, length-append, arith}
 use Rattle.std.specs.Prelude.{cond}
 use Rattle.std.specs.FinMap.{find as find_in, slice_cmp-IsAntisymmetric, nat_cmp-IsAntisymmetric}
 use Rattle.std.specs.List.{AllByRecursion, Contains, between}
@@ -11,7 +11,8 @@ use Rattle.std.specs.declared.cmp.Ordering.{Ordering}
 use Rattle.std.specs.declared.cmp.Ordering.TheVariants.{Less, Equal, Greater}
 use Rattle.std.proofs.lemmas.Bool.{false≢true}
 use Rattle.std.proofs.lemmas.Cmp.{nat_list_cmp_total}
-use Rattle.std.proofs.lemmas.List.Elements.{All-head, All-tail, Contains-append_left, Contains-append_right}
+use Rattle.std.proofs.lemmas.List.{map-append}
+use Rattle.std.proofs.lemmas.List.Elements.{All-cons, All-head, All-nil, All-tail, Contains-append_left, Contains-append_right}
 use Rattle.blsm_model.specs.declared.component.Component.{Component}
 use Rattle.blsm_model.specs.declared.key.Key.{Key}
 use Rattle.blsm_model.specs.Keys.{key_cmp}
@@ -32,6 +33,7 @@ use Rattle.page_file.specs.Page.{IsPageOf, used_by}
 use Rattle.page_file.proofs.PageLemmas.{page_same}
 use Rattle.page_file.specs.File.{page_at}
 use Rattle.page_file.specs.Component.{RunPage, AreChained, entries_of, first_number}
+use Rattle.page_file.proofs.ComponentLemmas.{entries_join}
 use Rattle.run_cursor.specs.Below.{BeginsBelow, NoneBelow}
 use Rattle.run_cursor.specs.Lookup.{IsAsked, IsDamaged, IsFoundBy, IsOnPage}
 use Rattle.run_cursor.proofs.CursorLemmas.{same_first, on_page}
@@ -152,7 +154,7 @@ keys_below : (low : Key) (es : Entries) → AllByRecursion (λ (k : Key). key_cm
 keys_below low [] all = tt
 keys_below low (e ∷ es) all = (all.0, keys_below low es all.1)
 
-rising_apart : (xs ys : Entries) → AreRising (xs ++ ys) → AllByRecursion (λ (x : Key × Rec). AllByRecursion (λ (y : Key × Rec). key_cmp x.0 y.0 ≡ Less) ys) xs
+pub rising_apart : (xs ys : Entries) → AreRising (xs ++ ys) → AllByRecursion (λ (x : Key × Rec). AllByRecursion (λ (y : Key × Rec). key_cmp x.0 y.0 ≡ Less) ys) xs
 unfolding IsStrictlySortedBy
 rising_apart [] ys rise = tt
 rising_apart (x ∷ xs) ys rise = (back_part (λ (y : Key × Rec). key_cmp x.0 y.0 ≡ Less) xs ys (keys_below x.0 (xs ++ ys) rise.0), rising_apart xs ys rise.1)
@@ -243,6 +245,60 @@ named sizes key n file (p ∷ ps) end chain rise place =
 pub on_page_of : (sizes : Sizes) (key : Key) (n : ℕ) (file : List ℕ) (pages : List RunPage) (end : Option ℕ) → AreChained sizes pages end file → AreRising (entries_of pages) → IsPlaceOf key n (fences_of pages)
     → OnPage sizes key n pages file
 on_page_of sizes key n file pages end chain rise place = (named sizes key n file pages end chain rise place).on
+
+-- ---- a front of the pages
+
+pub fences_join : (ps qs : List RunPage) → fences_of (ps ++ qs) ≡ fences_of ps ++ fences_of qs
+fences_join [] qs = refl
+fences_join (p ∷ ps) qs = ap (λ l. fence_of p.number p.entries ++ l) (fences_join ps qs) ∙ sym (append_assoc (fence_of p.number p.entries) (fences_of ps) (fences_of qs))
+
+below_front : (key : Key) (fs gs : List (Key × ℕ)) → IsBelowAll key (fs ++ gs) → IsBelowAll key fs
+below_front key [] gs below = All-nil (λ (f : Key × ℕ). key_cmp key f.0 ≡ Less)
+below_front key (f ∷ fs) gs below =
+    let P = λ (x : Key × ℕ). key_cmp key x.0 ≡ Less in
+    All-cons P f fs (All-head P f (fs ++ gs) below) (below_front key fs gs (All-tail P f (fs ++ gs) below))
+
+below_one : (key : Key) (before : List (Key × ℕ)) (f : Key × ℕ) (behind : List (Key × ℕ)) → IsBelowAll key (before ++ f ∷ behind) → key_cmp key f.0 ≡ Less
+below_one key [] f behind below = All-head (λ (x : Key × ℕ). key_cmp key x.0 ≡ Less) f behind below
+below_one key (b ∷ bs) f behind below = below_one key bs f behind (All-tail (λ (x : Key × ℕ). key_cmp key x.0 ≡ Less) b (bs ++ f ∷ behind) below)
+
+-- the page that is named for a key that is below those of the other pages is one of the front
+place_front : (key : Key) (n : ℕ) (fs gs before : List (Key × ℕ)) (first : Key) (behind : List (Key × ℕ)) → fs ++ gs ≡ before ++ (first, n) ∷ behind → key_cmp key first ≢ Less → IsBelowAll key behind → IsBelowAll key gs
+    → IsPlaceOf key n fs
+place_front key n [] gs before first behind parts not_below below below_gs = absurd (not_below (below_one key before (first, n) behind (subst (IsBelowAll key) parts below_gs)))
+place_front key n (f ∷ fs) gs [] first behind parts not_below below below_gs =
+    let f_is : f ≡ (first, n) = cc in
+    let rest_is : fs ++ gs ≡ behind = cc in
+    record { before = []; first = first; behind = fs; parts = ap (λ (x : Key × ℕ). x ∷ fs) f_is; not_below = not_below; below_others = below_front key fs gs (subst (IsBelowAll key) (sym rest_is) below) }
+place_front key n (f ∷ fs) gs (b ∷ bs) first behind parts not_below below below_gs =
+    let f_is : f ≡ b = cc in
+    let rest_is : fs ++ gs ≡ bs ++ (first, n) ∷ behind = cc in
+    let place = place_front key n fs gs bs first behind rest_is not_below below below_gs in
+    record {
+      before = b ∷ place.before;
+      first = place.first;
+      behind = place.behind;
+      parts = ap (λ (x : Key × ℕ). x ∷ fs) f_is ∙ ap (λ (l : List (Key × ℕ)). b ∷ l) place.parts;
+      not_below = place.not_below;
+      below_others = place.below_others;
+    }
+
+pub place_in_front : (key : Key) (n : ℕ) (pages behind : List RunPage) → IsPlaceOf key n (fences_of (pages ++ behind)) → IsBelowAll key (fences_of behind) → IsPlaceOf key n (fences_of pages)
+place_in_front key n pages behind place below =
+    place_front key n (fences_of pages) (fences_of behind) place.before place.first place.behind (sym (fences_join pages behind) ∙ place.parts) place.not_below place.below_others below
+
+pub none_in_front : (key : Key) (pages behind : List RunPage) → IsBelowAll key (fences_of (pages ++ behind)) → IsBelowAll key (fences_of pages)
+none_in_front key pages behind below = below_front key (fences_of pages) (fences_of behind) (subst (IsBelowAll key) (fences_join pages behind) below)
+
+pub keys_in_front : (key : Key) (pages behind : List RunPage) → Contains (keys_of (entries_of pages)) key → Contains (keys_of (entries_of (pages ++ behind))) key
+keys_in_front key pages behind has =
+    subst (λ (es : Entries). Contains (keys_of es) key) (sym (entries_join pages behind))
+    (subst (λ (ks : List Key). Contains ks key) (sym (map-append (λ (e : Key × Rec). e.0) (entries_of pages) (entries_of behind)))
+    (Contains-append_left (keys_of (entries_of pages)) (keys_of (entries_of behind)) key has))
+
+pub some_front : (pages behind : List RunPage) → (pages ≡ [] → ⊥) → pages ++ behind ≡ [] → ⊥
+some_front [] behind some none = some refl
+some_front (p ∷ ps) behind some none = cc
 
 -- ---- what a lookup answers
 

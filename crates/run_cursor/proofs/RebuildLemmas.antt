@@ -1,12 +1,11 @@
--- How filter and fences grow with a cursor that walks over a component.
+-- How filter and fences grow with the pages of a run that are read.
 use Rattle.std.proofs.lemmas.Bool.Decides.{nat_tests}
 use Rattle.std.proofs.lemmas.Grind.{common_steps}
-use Rattle.std.proofs.Common.{◌≡◌, ◌≢◌, ◌⊎◌, ℕ, zero, suc, ◌+◌, ◌≤◌, List, [], ◌∷◌, ◌++◌, length, Option, Some, None, refl, ap, sym, subst, ◌∙◌, inl, append_assoc, length-append, arith}
-use Rattle.std.specs.List.{All, Contains}
+use Rattle.std.proofs.Common.{◌≡◌, ◌≢◌, ℕ, ◌+◌, ◌<◌, ◌≤◌, List, [], ◌∷◌, ◌++◌, length, drop, Option, Some, None, Result, Ok, Err, refl, ap, sym, subst, ◌∙◌, append_assoc, length-append, arith}
+use Rattle.std.specs.List.{All, AllByRecursion}
 use Rattle.std.specs.declared.cmp.Ordering.TheVariants.{Less}
-use Rattle.std.proofs.lemmas.Cmp.{nat_list_cmp_total}
-use Rattle.std.proofs.lemmas.List.{append-nil, append_cancel_right, map-append}
-use Rattle.blsm_model.specs.Components.{no_page}
+use Rattle.std.proofs.lemmas.List.{append-nil, drop_at, map-append}
+use Rattle.std.proofs.lemmas.List.Elements.{All-append, All-cons, All-head, All-nil, All-tail}
 use Rattle.blsm_model.specs.Geometry.{page_count}
 use Rattle.blsm_model.specs.Keys.{key_cmp}
 use Rattle.blsm_model.specs.Sizes.{Sizes}
@@ -16,183 +15,228 @@ use Rattle.bloom_bits.specs.BitSet.{BitState}
 use Rattle.bloom_bits.specs.Fences.{FencesState, IsAboveAll}
 use Rattle.bloom_bits.specs.Filter.{HasKeys}
 use Rattle.bloom_bits.specs.Guides.{fence_of, fences_of, Guide}
+use Rattle.entry_codec.specs.Spelling.{spelling, BeginsWith}
+use Rattle.entry_codec.proofs.SpellingLemmas.{length-spelling}
 use Rattle.record_delta.specs.declared.record.Rec.{Rec}
 use Rattle.record_delta.specs.Entries.{Entries}
-use Rattle.page_file.specs.Component.{RunPage, AreChained, ReadsAs, entries_of, first_number, numbers_of, HasList}
-use Rattle.page_file.specs.Entry.{keys_of}
-use Rattle.page_file.specs.Page.{page_number}
-use Rattle.page_file.proofs.ComponentLemmas.{one_chain, entries_join}
-use Rattle.run_cursor.specs.Cursor.{CursorState, HasAhead, IsAdvanced, AreAmong, Rises, started}
-use Rattle.run_cursor.proofs.CursorLemmas.{none_in_none, started_ahead}
+use Rattle.record_delta.specs.Records.{weight}
+use Rattle.page_file.specs.Component.{RunPage, AreChained, ReadsOn, entries_of, first_number}
+use Rattle.page_file.specs.Entry.{IsPageEntry, entry_bytes, entries_bytes, keys_of, AreEntries, AreRising, HasFirstEntry}
+use Rattle.page_file.specs.declared.file.Broken.{Broken}
+use Rattle.page_file.specs.declared.file.Broken.TheVariants.{Fault, Damaged}
+use Rattle.page_file.specs.File.{page_at, TellsPage}
+use Rattle.page_file.specs.Page.{page_number, IsPageOf}
+use Rattle.page_file.proofs.ComponentLemmas.{entries_join}
+use Rattle.run_cursor.specs.Lookup.{IsFirstAbove}
+use Rattle.run_cursor.proofs.CursorLemmas.{same_first}
+use Rattle.run_cursor.proofs.FindLemmas.{fences_join, rising_apart}
 
--- ---- the order of the fences
+-- ---- the entry at the front of bytes
 
--- no fence is above the head; before the first one there is none
-abbrev pub UpTo : Option (Key × Rec) → List (Key × ℕ) → Type 0
-UpTo None fences = fences ≡ []
-UpTo (Some h) fences = All (λ f. (key_cmp f.0 h.0 ≡ Less) ⊎ (f.0 ≡ h.0)) fences
+pub is_first_entry : (bytes behind : List ℕ) (key : Key) (rec : Rec) (len : ℕ) → BeginsWith bytes key rec → len ≡ weight key rec → behind ≡ drop len bytes → HasFirstEntry bytes key behind
+is_first_entry bytes behind key rec len b len_is back =
+    let rest : behind ≡ b.rest = back ∙ ap (drop len) b.parts ∙ drop_at (spelling key rec) b.rest len (length-spelling key rec ∙ sym len_is) in
+    record { entry = (key, rec); right = b.entry; key_is = refl; parts = b.parts ∙ ap (λ (l : List ℕ). spelling key rec ++ l) (sym rest) }
 
-pub next_above : (old : Option (Key × Rec)) (e : Key × Rec) (fences : List (Key × ℕ)) → UpTo old fences → Rises old (Some e) → IsAboveAll e.0 fences
-next_above old e fences h1 h2 = grind (arith, common_steps, nat_tests, nat_list_cmp_total)
+pub fewer_left : (bytes key rest : List ℕ) → HasFirstEntry bytes key rest → length rest < length bytes
+fewer_left bytes key rest h = omega (arith, ap (length {A = ℕ}) h.parts, length-append (entry_bytes h.entry) rest, length-spelling h.entry.0 h.entry.1)
 
-pub up_still : (e : Key × Rec) (fences : List (Key × ℕ)) → IsAboveAll e.0 fences → UpTo (Some e) fences
-up_still e fences above = λ k d within. inl (above k d within)
+-- where these entries have the bytes it is the first of them
+pub first_of_all : (entries : Entries) (bytes key rest : List ℕ) → AreEntries entries → bytes ≡ entries_bytes entries → (h : HasFirstEntry bytes key rest) → (more : Entries) × (entries ≡ h.entry ∷ more)
+first_of_all entries bytes key rest each is h = let f = same_first entries h.entry rest each h.right (sym is ∙ h.parts) in (f.more, f.here_is)
 
-pub up_more : (e : Key × Rec) (page : ℕ) (fences : List (Key × ℕ)) → IsAboveAll e.0 fences → UpTo (Some e) (fences ++ (e.0, page) ∷ [])
-up_more e page fences h1 = grind (arith, common_steps, nat_tests)
+pub none_first : (entries : Entries) (bytes : List ℕ) → AreEntries entries → bytes ≡ entries_bytes entries → ((key : Key) (rec : Rec) → BeginsWith bytes key rec → ⊥) → entries ≡ []
+none_first [] bytes each is none = refl
+none_first (e ∷ es) bytes each is none = absurd (none e.0 e.1 (record { entry = All-head IsPageEntry e es each; rest = entries_bytes es; parts = is }))
 
--- ---- a chain that ends where another does is its end
+-- ---- the keys of a page
 
-ends_with : (sizes : Sizes) (file : List ℕ) → page_count sizes ≤ no_page → (ps : List RunPage) (q : RunPage) (qs : List RunPage) → AreChained sizes ps None file → AreChained sizes (q ∷ qs) None file
-    → Contains (numbers_of ps) q.number → (front : List RunPage) × (ps ≡ front ++ q ∷ qs)
-ends_with sizes file few [] q qs c d (k, within, is) = absurd (omega (arith, within))
-ends_with sizes file few (p ∷ ps) q qs c d (zero, within, is) = ([], one_chain sizes (p ∷ ps) (q ∷ qs) file few c d is)
-ends_with sizes file few (p ∷ ps) q qs c d (suc k, within, is) =
-    let rest = ends_with sizes file few ps q qs c.2 d (k, omega (arith, within), is) in
-    (p ∷ rest.0, ap (λ l. p ∷ l) rest.1)
-
-suffix : (sizes : Sizes) (file : List ℕ) → page_count sizes ≤ no_page → (ps qs : List RunPage) → AreChained sizes ps None file → AreChained sizes qs None file → AreAmong qs (numbers_of ps)
-    → (front : List RunPage) × (ps ≡ front ++ qs)
-suffix sizes file few ps [] c d among = (ps, sym (append-nil ps))
-suffix sizes file few ps (q ∷ qs) c d among = ends_with sizes file few ps q qs c d (among q.number (zero, omega arith, refl))
-
-same_by_length : (ps front qs : List RunPage) → ps ≡ front ++ qs → length ps ≡ length qs → ps ≡ qs
-same_by_length ps front qs h1 h2 = grind (arith, common_steps, nat_tests)
-
-one_more : (ps front qs : List RunPage) → ps ≡ front ++ qs → length ps ≡ length qs + 1 → (p : RunPage) × (ps ≡ p ∷ qs)
-one_more ps [] qs is long = absurd (omega (arith, ap (length {A = RunPage}) is, long))
-one_more ps (f ∷ []) qs is long = (f, is)
-one_more ps (f ∷ g ∷ fs) qs is long = absurd (omega (arith, ap (length {A = RunPage}) is, length-append fs qs, long))
-
--- ---- filter and fences so far
-
--- Of these pages some are read, and of their entries some were given: those are the filter's, and the fences are those of the former.
-pub record Building (sizes : Sizes) (cursor : CursorState) (filter : BitState) (fences : FencesState) (pages : List RunPage) (file : List ℕ) : Type 0 where
-  pub read : List RunPage
+-- Some of the entries were given, and the filter has their keys behind those that it had; the others are in the bytes.
+pub record Adding (keys : List Key) (entries : Entries) (filter : BitState) (rest : List ℕ) : Type 0 where
   pub given : Entries
-  pub rest : Entries
-  pub ahead : HasAhead sizes cursor rest file
-  pub pages_are : pages ≡ read ++ ahead.coming
-  pub given_are : entries_of read ≡ given ++ ahead.here
-  pub keys : HasKeys filter (keys_of given)
-  pub fences_are : fences.list ≡ fences_of read
+  pub left : Entries
+  pub parts : entries ≡ given ++ left
+  pub each : AreEntries left
+  pub rest_is : rest ≡ entries_bytes left
+  pub keys_are : HasKeys filter (keys ++ keys_of given)
 
-pub build_none : (sizes : Sizes) (run : Component) (cursor : CursorState) (filter : BitState) (fences : FencesState) (pages : List RunPage) (file : List ℕ) → cursor ≡ started run → ReadsAs sizes run pages file
-    → HasKeys filter [] → fences.list ≡ [] → Building sizes cursor filter fences pages file
-build_none sizes run cursor filter fences pages file is reads keys none =
-    let list : HasList sizes run (entries_of pages) file = record { pages = pages; reads = reads; entries_are = refl } in
-    let ahead = started_ahead sizes run (entries_of pages) file list in
-    let here : ahead.0.here ≡ [] = none_in_none ahead.0.here ahead.0.behind_is in
-    subst (λ (c : CursorState). Building sizes c filter fences pages file) (sym is)
-    (record {
-      read = [];
-      given = [];
-      rest = entries_of pages;
-      ahead = ahead.0;
-      pages_are = sym ahead.1;
-      given_are = sym here;
-      keys = keys;
-      fences_are = none;
-    })
-
--- what comes of the entries ahead
-record CameTo (sizes : Sizes) (new : CursorState) (pages : List ℕ) (rest : Entries) (e : Key × Rec) (file : List ℕ) : Type 0 where
-  pub more : Entries
-  pub rest_is : rest ≡ e ∷ more
-  pub after : HasAhead sizes new more file
-  pub among : AreAmong after.coming pages
-
-came_to : (sizes : Sizes) (new : CursorState) (pages : List ℕ) (rest : Entries) (e : Key × Rec) (file : List ℕ) → IsAdvanced sizes new pages rest file → new.head ≡ Some e → CameTo sizes new pages rest e file
-came_to sizes new pages [] e file advanced is = absurd (let none = advanced.0 in cc)
-came_to sizes new pages (f ∷ fs) e file advanced is =
-    let some = advanced.0 in
-    let same : f ≡ e = cc in
-    record { more = fs; rest_is = ap (λ (x : Key × Rec). x ∷ fs) same; after = advanced.1; among = advanced.2 }
+pub adding_none : (keys : List Key) (entries : Entries) (filter : BitState) (bytes : List ℕ) → HasKeys filter keys → AreEntries entries → bytes ≡ entries_bytes entries → Adding keys entries filter bytes
+adding_none keys entries filter bytes has each is = record { given = []; left = entries; parts = refl; each = each; rest_is = is; keys_are = subst (HasKeys filter) (sym (append-nil keys)) has }
 
 keys_push : (given : Entries) (e : Key × Rec) → keys_of given ++ e.0 ∷ [] ≡ keys_of (given ++ e ∷ [])
 keys_push given e = sym (map-append (λ (x : Key × Rec). x.0) given (e ∷ []))
 
-fences_join : (ps qs : List RunPage) → fences_of (ps ++ qs) ≡ fences_of ps ++ fences_of qs
-fences_join [] qs = refl
-fences_join (p ∷ ps) qs = ap (λ l. fence_of p.number p.entries ++ l) (fences_join ps qs) ∙ sym (append_assoc (fence_of p.number p.entries) (fences_of ps) (fences_of qs))
-
--- one entry more, of a page that was read before
-pub build_here : (sizes : Sizes) (old new : CursorState) (filter after : BitState) (fences : FencesState) (pages : List RunPage) (e : Key × Rec) (file : List ℕ) → page_count sizes ≤ no_page
-    → (b : Building sizes old filter fences pages file) → IsAdvanced sizes new (numbers_of b.ahead.coming) b.rest file → new.head ≡ Some e → new.pages ≡ old.pages
-    → ((keys : List Key) → HasKeys filter keys → HasKeys after (keys ++ e.0 ∷ [])) → Building sizes new after fences pages file
-build_here sizes old new filter after fences pages e file few b advanced head same adds =
-    let came = came_to sizes new (numbers_of b.ahead.coming) b.rest e file advanced head in
-    let end = suffix sizes file few b.ahead.coming came.after.coming b.ahead.chained came.after.chained came.among in
-    let coming_same = same_by_length b.ahead.coming end.0 came.after.coming end.1 (omega (arith, b.ahead.pages_is, came.after.pages_is, same)) in
-    let both : b.ahead.here ++ entries_of came.after.coming ≡ (e ∷ came.after.here) ++ entries_of came.after.coming =
-    ap (λ ps. b.ahead.here ++ entries_of ps) (sym coming_same) ∙ sym b.ahead.rest_is ∙ came.rest_is ∙ ap (λ (l : Entries). e ∷ l) came.after.rest_is in
-    let here_is = append_cancel_right b.ahead.here (e ∷ came.after.here) (entries_of came.after.coming) both in
+pub adding_more : (keys : List Key) (entries : Entries) (filter after : BitState) (rest key behind : List ℕ) → Adding keys entries filter rest → HasFirstEntry rest key behind
+    → ((ks : List Key) → HasKeys filter ks → HasKeys after (ks ++ key ∷ [])) → Adding keys entries after behind
+adding_more keys entries filter after rest key behind a h adds =
+    let f = same_first a.left h.entry behind a.each h.right (sym a.rest_is ∙ h.parts) in
+    let keys_are : (keys ++ keys_of a.given) ++ key ∷ [] ≡ keys ++ keys_of (a.given ++ h.entry ∷ []) =
+    append_assoc keys (keys_of a.given) (key ∷ []) ∙ ap (λ (l : List Key). keys ++ l) (ap (λ (k : Key). keys_of a.given ++ k ∷ []) (sym h.key_is) ∙ keys_push a.given h.entry) in
     record {
-      read = b.read;
-      given = b.given ++ e ∷ [];
-      rest = came.more;
-      ahead = came.after;
-      pages_are = b.pages_are ∙ ap (λ ps. b.read ++ ps) coming_same;
-      given_are = b.given_are ∙ ap (λ (l : Entries). b.given ++ l) here_is ∙ sym (append_assoc b.given (e ∷ []) came.after.here);
-      keys = subst (HasKeys after) (keys_push b.given e) (adds (keys_of b.given) b.keys);
-      fences_are = b.fences_are;
+      given = a.given ++ h.entry ∷ [];
+      left = f.more;
+      parts = a.parts ∙ ap (λ (l : Entries). a.given ++ l) f.here_is ∙ sym (append_assoc a.given (h.entry ∷ []) f.more);
+      each = All-tail IsPageEntry h.entry f.more (subst AreEntries f.here_is a.each);
+      rest_is = f.rest_is;
+      keys_are = subst (HasKeys after) keys_are (adds (keys ++ keys_of a.given) a.keys_are);
     }
 
-fence_first : (n : ℕ) (es : Entries) (e : Key × Rec) (more : Entries) → es ≡ e ∷ more → fence_of n es ++ [] ≡ (e.0, n) ∷ []
-fence_first n es e more is = ap (λ (l : Entries). fence_of n l ++ []) is
+pub adding_done : (keys : List Key) (entries : Entries) (filter : BitState) (rest : List ℕ) → Adding keys entries filter rest → ((key : Key) (rec : Rec) → BeginsWith rest key rec → ⊥) → HasKeys filter (keys ++ keys_of entries)
+adding_done keys entries filter rest a none =
+    let left = none_first a.left rest a.each a.rest_is none in
+    subst (λ (es : Entries). HasKeys filter (keys ++ keys_of es)) (sym (a.parts ∙ ap (λ (l : Entries). a.given ++ l) left ∙ append-nil a.given)) a.keys_are
 
--- one that is the first of a page
-pub build_on : (sizes : Sizes) (old new : CursorState) (filter after : BitState) (fences fences_after : FencesState) (pages : List RunPage) (e : Key × Rec) (n : ℕ) (file : List ℕ) → page_count sizes ≤ no_page
-    → (b : Building sizes old filter fences pages file) → IsAdvanced sizes new (numbers_of b.ahead.coming) b.rest file → new.head ≡ Some e → old.behind ≡ [] → n ≡ old.next → old.pages ≡ new.pages + 1
-    → ((keys : List Key) → HasKeys filter keys → HasKeys after (keys ++ e.0 ∷ [])) → fences_after.list ≡ fences.list ++ (e.0, n) ∷ [] → Building sizes new after fences_after pages file
-build_on sizes old new filter after fences fences_after pages e n file few b advanced head none is less adds fenced =
-    let came = came_to sizes new (numbers_of b.ahead.coming) b.rest e file advanced head in
-    let end = suffix sizes file few b.ahead.coming came.after.coming b.ahead.chained came.after.chained came.among in
-    let one = one_more b.ahead.coming end.0 came.after.coming end.1 (omega (arith, b.ahead.pages_is, came.after.pages_is, less)) in
-    let p : RunPage = one.0 in
-    let here_none : b.ahead.here ≡ [] = none_in_none b.ahead.here (sym none ∙ b.ahead.behind_is) in
-    let number_is : p.number ≡ n = ap (λ ps. page_number (first_number ps None)) (sym one.1) ∙ b.ahead.first_is ∙ sym is in
-    let both : p.entries ++ entries_of came.after.coming ≡ (e ∷ came.after.here) ++ entries_of came.after.coming =
-    ap entries_of (sym one.1) ∙ ap (λ (l : Entries). l ++ entries_of b.ahead.coming) (sym here_none) ∙ sym b.ahead.rest_is ∙ came.rest_is ∙ ap (λ (l : Entries). e ∷ l) came.after.rest_is in
-    let entries_are = append_cancel_right p.entries (e ∷ came.after.here) (entries_of came.after.coming) both in
-    let given : entries_of b.read ≡ b.given = b.given_are ∙ ap (λ (l : Entries). b.given ++ l) here_none ∙ append-nil b.given in
+-- ---- its fence
+
+pub above_first : (entries : Entries) (e : Key × Rec) (more : Entries) (fences : List (Key × ℕ)) → entries ≡ e ∷ more → IsFirstAbove entries fences → IsAboveAll e.0 fences
+above_first entries e more fences is above = subst (λ (es : Entries). IsFirstAbove es fences) is above
+
+pub above_key : (low key : Key) (fences : List (Key × ℕ)) → low ≡ key → IsAboveAll low fences → IsAboveAll key fences
+above_key low key fences is above = subst (λ (k : Key). IsAboveAll k fences) is above
+
+pub fence_first : (n : ℕ) (entries : Entries) (e : Key × Rec) (more : Entries) (key : Key) → entries ≡ e ∷ more → e.0 ≡ key → (key, n) ∷ [] ≡ fence_of n entries
+fence_first n entries e more key is key_is = ap (λ (k : Key). (k, n) ∷ []) (sym key_is) ∙ sym (ap (fence_of n) is)
+
+pub not_none : (entries : Entries) (fences : List (Key × ℕ)) → entries ≡ [] → IsFirstAbove entries fences → ⊥
+not_none entries fences is above = subst (λ (es : Entries). IsFirstAbove es fences) is above
+
+-- ---- filter and fences so far
+
+-- So many pages were read, the filter has their keys, and the fences are theirs. The page of this number comes next, if there is one more.
+pub record Building (sizes : Sizes) (count n : ℕ) (filter : BitState) (fences : FencesState) (pages : List RunPage) (next : Option ℕ) (file : List ℕ) : Type 0 where
+  pub read : List RunPage
+  pub coming : List RunPage
+  pub parts : pages ≡ read ++ coming
+  pub count_is : length read ≡ count
+  pub number_is : page_number (first_number coming next) ≡ n
+  pub chained : AreChained sizes coming next file
+  pub keys : HasKeys filter (keys_of (entries_of read))
+  pub fences_are : fences.list ≡ fences_of read
+
+pub build_none : (sizes : Sizes) (run : Component) (filter : BitState) (fences : FencesState) (pages : List RunPage) (next : Option ℕ) (file : List ℕ) → ReadsOn sizes run pages next file
+    → HasKeys filter [] → fences.list ≡ [] → Building sizes 0 run.first filter fences pages next file
+build_none sizes run filter fences pages next file reads keys none = record {
+  read = [];
+  coming = pages;
+  parts = refl;
+  count_is = refl;
+  number_is = reads.first_is;
+  chained = reads.chained;
+  keys = keys;
+  fences_are = none;
+}
+
+-- where a page is left to be read
+pub record Coming (sizes : Sizes) (n : ℕ) (fences : FencesState) (read coming : List RunPage) (next : Option ℕ) (file : List ℕ) : Type 0 where
+  pub page : RunPage
+  pub more : List RunPage
+  pub coming_is : coming ≡ page ∷ more
+  pub number_is : page.number ≡ n
+  pub inside : n < page_count sizes
+  pub valid : IsPageOf (page_count sizes) (first_number more next) page.entries (page_at sizes n file)
+  pub chained : AreChained sizes more next file
+  pub above : IsFirstAbove page.entries fences.list
+
+fence_below : (low : Key) (number : ℕ) (es : Entries) → AllByRecursion (λ (x : Key × Rec). key_cmp x.0 low ≡ Less) es → IsAboveAll low (fence_of number es)
+fence_below low number [] below = All-nil (λ (f : Key × ℕ). key_cmp f.0 low ≡ Less)
+fence_below low number (e ∷ es) below = All-cons (λ (f : Key × ℕ). key_cmp f.0 low ≡ Less) (e.0, number) [] below.0 (All-nil (λ (f : Key × ℕ). key_cmp f.0 low ≡ Less))
+
+front_all : {X : Type 0} (P : X → Type 0) (xs ys : List X) → AllByRecursion P (xs ++ ys) → AllByRecursion P xs × AllByRecursion P ys
+front_all P [] ys all = (tt, all)
+front_all P (x ∷ xs) ys all = let rest = front_all P xs ys all.1 in ((all.0, rest.0), rest.1)
+
+fences_below : (low : Key) (ps : List RunPage) → AllByRecursion (λ (x : Key × Rec). key_cmp x.0 low ≡ Less) (entries_of ps) → IsAboveAll low (fences_of ps)
+fences_below low [] below = All-nil (λ (f : Key × ℕ). key_cmp f.0 low ≡ Less)
+fences_below low (p ∷ ps) below =
+    let parts = front_all (λ (x : Key × Rec). key_cmp x.0 low ≡ Less) p.entries (entries_of ps) below in
+    All-append (λ (f : Key × ℕ). key_cmp f.0 low ≡ Less) (fence_of p.number p.entries) (fences_of ps) (fence_below low p.number p.entries parts.0) (fences_below low ps parts.1)
+
+all_below : (low : Key × Rec) (more : Entries) (xs : Entries) → AllByRecursion (λ (x : Key × Rec). AllByRecursion (λ (y : Key × Rec). key_cmp x.0 y.0 ≡ Less) (low ∷ more)) xs
+    → AllByRecursion (λ (x : Key × Rec). key_cmp x.0 low.0 ≡ Less) xs
+all_below low more [] all = tt
+all_below low more (x ∷ xs) all = (all.0.0, all_below low more xs all.1)
+
+first_is_above : (read : List RunPage) (entries rest : Entries) → 1 ≤ length entries → AreRising (entries_of read ++ (entries ++ rest)) → IsFirstAbove entries (fences_of read)
+first_is_above read [] rest some rise = absurd (omega (arith, some))
+first_is_above read (e ∷ es) rest some rise = fences_below e.0 read (all_below e (es ++ rest) (entries_of read) (rising_apart (entries_of read) ((e ∷ es) ++ rest) rise))
+
+pub comes : (sizes : Sizes) (run : Component) (count n : ℕ) (filter : BitState) (fences : FencesState) (pages : List RunPage) (next : Option ℕ) (file : List ℕ) → count < run.pages → ReadsOn sizes run pages next file
+    → (b : Building sizes count n filter fences pages next file) → Coming sizes n fences b.read b.coming next file
+comes sizes run count n filter fences pages next file below reads b = by_coming b.coming b.parts b.number_is b.chained
+  where
+    by_coming : (coming : List RunPage) → pages ≡ b.read ++ coming → page_number (first_number coming next) ≡ n → AreChained sizes coming next file → Coming sizes n fences b.read coming next file
+    by_coming [] parts number chained = absurd (omega (arith, below, reads.pages_is, ap (length {A = RunPage}) parts, length-append b.read [], b.count_is))
+    by_coming (p ∷ ps) parts number chained =
+        let some = chained.1.content.head.some in
+        let entries_are : entries_of pages ≡ entries_of b.read ++ (p.entries ++ entries_of ps) = ap entries_of parts ∙ entries_join b.read (p ∷ ps) in
+        record {
+          page = p;
+          more = ps;
+          coming_is = refl;
+          number_is = number;
+          inside = subst (λ (m : ℕ). m < page_count sizes) number chained.0;
+          valid = subst (λ (m : ℕ). IsPageOf (page_count sizes) (first_number ps next) p.entries (page_at sizes m file)) number chained.1;
+          chained = chained.2;
+          above = subst (IsFirstAbove p.entries) (sym b.fences_are) (first_is_above b.read p.entries (entries_of ps) some (subst AreRising entries_are reads.rise));
+        }
+
+fence_alone : (n : ℕ) (p : RunPage) → p.number ≡ n → fence_of n p.entries ≡ fences_of (p ∷ [])
+fence_alone n p is = sym (append-nil (fence_of n p.entries)) ∙ ap (λ (m : ℕ). fence_of m p.entries ++ []) (sym is)
+
+pub build_more : (sizes : Sizes) (count n after_n : ℕ) (filter after : BitState) (fences fences_after : FencesState) (pages : List RunPage) (next : Option ℕ) (file : List ℕ)
+    → (b : Building sizes count n filter fences pages next file) → (k : Coming sizes n fences b.read b.coming next file) → page_number (first_number k.more next) ≡ after_n
+    → fences_after.list ≡ fences.list ++ fence_of n k.page.entries → ((keys : List Key) → HasKeys filter keys → HasKeys after (keys ++ keys_of k.page.entries))
+    → Building sizes (count + 1) after_n after fences_after pages next file
+build_more sizes count n after_n filter after fences fences_after pages next file b k number fenced adds =
+    let entries_are : entries_of (b.read ++ k.page ∷ []) ≡ entries_of b.read ++ k.page.entries = entries_join b.read (k.page ∷ []) ∙ ap (λ (l : Entries). entries_of b.read ++ l) (append-nil k.page.entries) in
     record {
-      read = b.read ++ p ∷ [];
-      given = b.given ++ e ∷ [];
-      rest = came.more;
-      ahead = came.after;
-      pages_are = b.pages_are ∙ ap (λ ps. b.read ++ ps) one.1 ∙ sym (append_assoc b.read (p ∷ []) came.after.coming);
-      given_are =
-          entries_join b.read (p ∷ []) ∙ ap (λ (l : Entries). l ++ (p.entries ++ [])) given ∙ ap (λ (l : Entries). b.given ++ l) (append-nil p.entries ∙ entries_are)
-          ∙ sym (append_assoc b.given (e ∷ []) came.after.here);
-      keys = subst (HasKeys after) (keys_push b.given e) (adds (keys_of b.given) b.keys);
-      fences_are =
-          fenced ∙ ap (λ l. l ++ (e.0, n) ∷ []) b.fences_are ∙ ap (λ m. fences_of b.read ++ (e.0, m) ∷ []) (sym number_is)
-          ∙ ap (λ l. fences_of b.read ++ l) (sym (fence_first p.number p.entries e came.after.here entries_are)) ∙ sym (fences_join b.read (p ∷ []));
+      read = b.read ++ k.page ∷ [];
+      coming = k.more;
+      parts = b.parts ∙ ap (λ (l : List RunPage). b.read ++ l) k.coming_is ∙ sym (append_assoc b.read (k.page ∷ []) k.more);
+      count_is = omega (arith, length-append b.read (k.page ∷ []), b.count_is);
+      number_is = number;
+      chained = k.chained;
+      keys = subst (HasKeys after) (sym (map-append (λ (x : Key × Rec). x.0) (entries_of b.read) k.page.entries) ∙ ap (λ (l : Entries). keys_of l) (sym entries_are)) (adds (keys_of (entries_of b.read)) b.keys);
+      fences_are = fenced ∙ ap (λ (l : List (Key × ℕ)). l ++ fence_of n k.page.entries) b.fences_are ∙ ap (λ (l : List (Key × ℕ)). fences_of b.read ++ l) (fence_alone n k.page k.number_is)
+          ∙ sym (fences_join b.read (k.page ∷ []));
     }
 
--- ---- at the end
+no_more : (coming : List RunPage) → length coming ≡ 0 → coming ≡ []
+no_more [] none = refl
+no_more (p ∷ ps) none = absurd (omega (arith, none))
 
-no_entries : (sizes : Sizes) (file : List ℕ) (ps : List RunPage) → AreChained sizes ps None file → entries_of ps ≡ [] → ps ≡ []
-no_entries sizes file [] chain none = refl
-no_entries sizes file (p ∷ ps) chain none = let some = chain.1.content.head.some in absurd (omega (arith, some, ap (length {A = Key × Rec}) none, length-append p.entries (entries_of ps)))
+pub built : (sizes : Sizes) (run : Component) (count n : ℕ) (filter : BitState) (fences : FencesState) (pages : List RunPage) (next : Option ℕ) (file : List ℕ) → run.pages ≤ count → ReadsOn sizes run pages next file
+    → Building sizes count n filter fences pages next file → Guide filter fences pages
+built sizes run count n filter fences pages next file all reads b =
+    let none = no_more b.coming (omega (arith, all, reads.pages_is, ap (length {A = RunPage}) b.parts, length-append b.read b.coming, b.count_is)) in
+    let whole : b.read ≡ pages = sym (b.parts ∙ ap (λ (l : List RunPage). b.read ++ l) none ∙ append-nil b.read) in
+    subst (λ (ps : List RunPage). Guide filter fences ps) whole (record { keys = b.keys; fences_are = b.fences_are })
 
-none_left : (sizes : Sizes) (new : CursorState) (pages : List ℕ) (rest : Entries) (file : List ℕ) → IsAdvanced sizes new pages rest file → new.head ≡ None → rest ≡ []
-none_left sizes new pages rest file h1 h2 = grind (arith, common_steps, nat_tests)
+-- there are no more fences than pages
+pub few_fences : (ps : List RunPage) → length (fences_of ps) ≤ length ps
+few_fences [] = omega arith
+few_fences (p ∷ ps) = by_entries p.entries (few_fences ps)
+  where
+    by_entries : (es : Entries) → length (fences_of ps) ≤ length ps → length (fence_of p.number es ++ fences_of ps) ≤ length (p ∷ ps)
+    by_entries [] few = omega (arith, few)
+    by_entries (e ∷ es) few = omega (arith, few)
 
-pub built : (sizes : Sizes) (old new : CursorState) (filter : BitState) (fences : FencesState) (pages : List RunPage) (file : List ℕ) → (b : Building sizes old filter fences pages file)
-    → IsAdvanced sizes new (numbers_of b.ahead.coming) b.rest file → new.head ≡ None → Guide filter fences pages
-built sizes old new filter fences pages file b h1 h2 = grind (arith, common_steps, nat_tests)
+-- a page that is valid is read
+pub read_fails : (pages n : ℕ) (next : Option ℕ) (entries : Entries) (page : List ℕ) (result : Result (Unit {0}) Broken) (broken : Broken) → result ≡ Err broken → result ≢ Err Fault → TellsPage pages n page result
+    → IsPageOf pages next entries page → ⊥
+read_fails pages n next entries page result broken is other tells valid = by broken is (subst (TellsPage pages n page) is tells)
+  where
+    by : (b : Broken) → result ≡ Err b → TellsPage pages n page (Err b) → ⊥
+    by Fault same told = other same
+    by (Damaged m) same told = told.1 (next, entries, valid)
 
--- ---- pages that are left, and answers
+-- the page as another file has it, which is the same
+pub page_told : (sizes : Sizes) (n : ℕ) (entries : Entries) (next : Option ℕ) (file now : List ℕ) → now ≡ file → IsPageOf (page_count sizes) next entries (page_at sizes n file)
+    → IsPageOf (page_count sizes) next entries (page_at sizes n now)
+page_told sizes n entries next file now same valid = subst (λ (b : List ℕ). IsPageOf (page_count sizes) next entries (page_at sizes n b)) (sym same) valid
 
--- where no page is due, as many are left as before
-pub as_many : (behind : List ℕ) (old new before after : ℕ) → (behind ≡ [] → old ≡ 0) → (behind ≢ [] → new ≡ old) → (old ≡ 0 → after ≡ before) → after + new ≤ before + old → new ≡ old
-as_many behind old new before after h1 h2 h3 h4 = grind (arith, common_steps, nat_tests)
+pub same_error : (a b : Broken) → ◌≡◌ {A = Result (Unit {0}) Broken} (Err a) (Err b) → a ≡ b
+same_error a b same = cc
 
-pub none_of : (head found : Option (Key × Rec)) → found ≡ head → ((e : Key × Rec) → found ≡ Some e → ⊥) → head ≡ None
-none_of head found h1 h2 = grind (arith, common_steps, nat_tests)
-
--- one call for each page that isn't read yet
-pub few_calls : (pages all old mid new : ℕ) → mid + pages ≤ old + all → new ≤ mid + 1 → (pages ≡ 0 → new ≡ mid) → new ≤ old + all
-few_calls pages all old mid new h1 h2 h3 = grind (arith, common_steps, nat_tests)
+pub number_told : (a : Result ℕ Broken) (m n : ℕ) → a ≡ Ok m → a ≡ Ok n → m ≡ n
+number_told a m n first second = cc

@@ -1,5 +1,5 @@
 -- What one page of a component says of a key.
-use Rattle.std.specs.Prelude.{◌≡◌, ◌⊎◌, ℕ, ◌<◌, ◌≤◌, List, [], Option, None}
+use Rattle.std.specs.Prelude.{◌≡◌, ◌⊎◌, ℕ, ◌<◌, ◌≤◌, List, [], ◌∷◌, Option, None}
 use Rattle.std.specs.FinMap.{find}
 use Rattle.blsm_model.specs.declared.component.Component.{Component}
 use Rattle.blsm_model.specs.declared.key.Key.{Key}
@@ -7,7 +7,7 @@ use Rattle.blsm_model.specs.Keys.{key_cmp}
 use Rattle.blsm_model.specs.Sizes.{Sizes}
 use Rattle.blsm_model.specs.Geometry.{page_count}
 use Rattle.bloom_bits.specs.BitSet.{BitState}
-use Rattle.bloom_bits.specs.Fences.{FencesState, IsBelowAll, IsPlaceOf}
+use Rattle.bloom_bits.specs.Fences.{FencesState, IsAboveAll, IsBelowAll, IsPlaceOf}
 use Rattle.bloom_bits.specs.Filter.{MayHave}
 use Rattle.bloom_bits.specs.Guides.{Guide}
 use Rattle.record_delta.specs.declared.record.Rec.{Rec}
@@ -19,6 +19,11 @@ use Rattle.page_file.specs.File.{page_at}
 -- Filter and fences are those of these pages; where there are none, nobody asks them.
 abbrev pub IsGuided : BitState → FencesState → List RunPage → Type 0
 IsGuided filter fences pages = (pages ≡ [] → ⊥) → Guide filter fences pages
+
+-- there are entries, and the first one's key is above those of the fences
+abbrev pub IsFirstAbove : Entries → List (Key × ℕ) → Type 0
+IsFirstAbove [] fences = ⊥
+IsFirstAbove (e ∷ es) fences = IsAboveAll e.0 fences
 
 -- in this file the page is a valid one, and what was found is the record that its entries have of the key
 pub record IsOnPage (sizes : Sizes) (n : ℕ) (key : Key) (found : Option Rec) (file : List ℕ) : Type 0 where

@@ -1,12 +1,14 @@
 //! The record of a key among a component's entries.
-ghost use Rattle.std.specs.Prelude.{◌≡◌, ◌≢◌, ◌<◌, ◌≤◌, ◌-◌, ℕ, List, Option, Ok, Err, length, IsTrue, IfOk, OnOk};
+ghost use Rattle.std.specs.Prelude.{◌≡◌, ◌≢◌, ◌<◌, ◌≤◌, ◌-◌, ◌++◌, ℕ, List, Option, Ok, Err, length, IsTrue, IfOk, OnOk};
 ghost use Rattle.std.specs.FinMap.{find as find_in};
 ghost use Rattle.blsm_model.specs.declared.key.Key.{Key};
 ghost use Rattle.blsm_model.specs.Components.{no_page};
 ghost use Rattle.blsm_model.specs.Keys.{key_cmp};
 ghost use Rattle.blsm_model.specs.Geometry.{page_count, file_length};
 ghost use Rattle.bloom_bits.specs.Filter.{MayHave};
-ghost use Rattle.page_file.specs.Component.{RunPage, ReadsAs, entries_of};
+ghost use Rattle.bloom_bits.specs.Fences.{IsBelowAll};
+ghost use Rattle.bloom_bits.specs.Guides.{fences_of};
+ghost use Rattle.page_file.specs.Component.{RunPage, ReadsAs, ReadsOn, entries_of};
 ghost use Rattle.record_delta.specs.Entries.{Entries};
 ghost use Rattle.page_file.specs.File.{page_at, Reads};
 ghost use Rattle.page_file.specs.Page.{IsPageOf};
@@ -19,10 +21,10 @@ use disk_trait::Disk;
 use page_file::{Broken, PAGE_HEAD_LEN, PAGE_LEN, PageHead, read_page};
 use record_delta::Rec;
 
-/// The record of a key in a component, if it has one. The filter is asked first, then the fences, and then the one page that they
+/// The record of a key in a component, or in the pages of a run that goes on, if they have one. The filter is asked first, then the fences, and then the one page that they
 /// name is read: it makes one call of the disk at most, and none where the filter says no. It takes no memory.
 ///
-/// `Damaged` names that page, where it isn't a valid one; it never comes where the component reads as a list whose keys the filter has and
+/// `Damaged` names that page, where it isn't a valid one; it never comes where the run reads as a list whose keys the filter has and
 /// whose pages the fences name. `Fault` comes only where the disk's count of faults rose.
 pub fn find<D: Disk>(
     disk: &mut D,
@@ -37,6 +39,11 @@ pub fn find<D: Disk>(
     // Where filter and fences are those of the pages that the component reads as, or it has none, the answer is that of their list.
     ensures list { (pages : List RunPage) → IsTrue (D.state disk.old).is_honest → ReadsAs geo.now run.now pages (D.state disk.old).bytes
         → IsGuided filter.now fences.now pages → result ≢ Err Broken.Fault → result ≡ Ok (find_in key_cmp key.now (entries_of pages)) }
+    // So it is where the run goes on behind these pages, whose filter and fences may be those of the pages behind them too, for a key that is below
+    // the first ones of those.
+    ensures front { (pages behind : List RunPage) (next : Option ℕ) → IsTrue (D.state disk.old).is_honest → ReadsOn geo.now run.now pages next (D.state disk.old).bytes
+        → IsGuided filter.now fences.now (pages ++ behind) → IsBelowAll key.now (fences_of behind) → result ≢ Err Broken.Fault
+        → result ≡ Ok (find_in key_cmp key.now (entries_of pages)) }
     // Whatever they are, the answer is what the page says that the fences name, or, with no call, that there is none where no page is asked;
     // and where that page is damaged, its bytes show it.
     ensures told { IfOk result (λ found. IsTrue (D.state disk.old).is_honest

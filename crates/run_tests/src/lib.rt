@@ -11,6 +11,8 @@ mod drafts;
 #[cfg(test)]
 mod filters;
 #[cfg(test)]
+mod fronts;
+#[cfg(test)]
 mod pages;
 #[cfg(test)]
 mod samples;

@@ -1,6 +1,5 @@
 // The smallest store, disks in memory of its length, and runs on them.
 ghost use Rattle.std.specs.Prelude.{◌≡◌, length};
-ghost use Rattle.blsm_model.specs.Components.{empty_component};
 ghost use Rattle.blsm_model.specs.Geometry.{page_count, file_length};
 ghost use Rattle.disk_mem.specs.Recorded.{told};
 ghost use Rattle.run_writer.specs.Writer.{IsInside};
@@ -94,7 +93,7 @@ pub fn empty_guide(rt: &impl Abort, alloc: Global) -> Guide {
     }
 }
 
-/// The filter and the fences of a component, by one call of the disk for each of its pages.
+/// The filter and the fences of a component, or of the pages of a run that goes on, by one call of the disk for each of its pages.
 pub fn guide_of(
     rt: &impl Abort,
     alloc: Global,
@@ -102,15 +101,14 @@ pub fn guide_of(
     geo: &Geometry,
     run: &Component,
 ) -> Guide
-    requires empty { run.now.pages ≡ 0 → run.now ≡ empty_component }
-    requires length { length (told disk.old).bytes ≡ file_length geo.now }
+    requires { length (told disk.old).bytes ≡ file_length geo.now }
     ensures { length (told disk.new).bytes ≡ file_length geo.now }
 {
     let mut filter = Filter::with_bits(alloc, run.weight).expect(rt, "memory");
     let mut fences = Fences::reserve(alloc, run.pages).expect(rt, "memory");
     assert_same(
         rt,
-        rebuild(disk, geo, run, &mut filter, &mut fences),
+        rebuild(disk, geo, run, run.weight, &mut filter, &mut fences),
         Ok(()),
     );
     Guide { filter, fences }

@@ -73,8 +73,8 @@ fn walk(rt: &impl Abort, disk: &mut MemDisk, geo: &Geometry, run: &Component)
     assert_same(rt, cursor.head(), None);
 }
 
-// A lookup of the key of a number finds its entry, or none.
-fn finds(
+/// A lookup of the key of a number finds its entry, or none.
+pub fn finds(
     rt: &impl Abort,
     disk: &mut MemDisk,
     geo: &Geometry,

@@ -5,3 +5,4 @@ mod GuideLemmas
 mod GrowthLemmas
 mod RegionLemmas
 mod Examples
+pub mod ClosedLemmas

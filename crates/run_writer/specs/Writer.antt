@@ -1,5 +1,5 @@
 -- What contracts see of a writer, and which run it holds.
-use Rattle.std.specs.Prelude.{◌≡◌, ◌⊎◌, ℕ, ◌+◌, ◌-◌, ◌*◌, ◌<◌, ◌≤◌, Bool, ◌&&◌, nat_lt, nat_le, nat_eq, if◌then◌else◌, IsTrue, List, [], length, Some, None}
+use Rattle.std.specs.Prelude.{◌≡◌, ◌⊎◌, ℕ, ◌+◌, ◌-◌, ◌*◌, ◌<◌, ◌≤◌, Bool, ◌&&◌, nat_lt, nat_le, nat_eq, if◌then◌else◌, IsTrue, List, [], length, take, Some, None}
 use Rattle.disk_trait.specs.Region.{Region}
 use Rattle.blsm_model.specs.Format.{least_full}
 use Rattle.blsm_model.specs.declared.key.Key.{Key}
@@ -66,6 +66,23 @@ turned page writer = record writer {
   buffer = empty_buffer;
 }
 
+-- the closed pages as a run of their own, by its numbers, which goes on with the open page; where none is closed that page is its first
+abbrev pub closed_of : WriterState → Component
+closed_of writer = record {
+  first = if nat_lt 1 writer.component.pages then writer.component.first else writer.number;
+  pages = writer.component.pages - 1;
+  entries = writer.component.entries - writer.buffer.count;
+  weight = writer.component.weight - length writer.buffer.text;
+}
+
+-- what all pages are, as that run, once this page is taken behind them; where there are none it is the first
+abbrev pub whole_of : ℕ → Component → Component
+whole_of page component = record component { first = if nat_lt 0 component.pages then component.first else page }
+
+-- of the entries that were pushed, those on the closed pages
+abbrev pub closed_entries : WriterState → Entries → Entries
+closed_entries writer entries = take (writer.component.entries - writer.buffer.count) entries
+
 -- what always holds of a writer's numbers; on any disk each closed page has nearly as many bytes of entries as it may have
 pub record IsCounted (writer : WriterState) : Type 0 where
   pub role : writer.role < role_count
@@ -73,6 +90,7 @@ pub record IsCounted (writer : WriterState) : Type 0 where
   pub fits : length writer.buffer.text ≤ most_used
   pub weight : writer.component.weight ≤ most_used * (writer.component.pages - 1) + length writer.buffer.text
   pub entries : writer.component.entries ≤ writer.component.weight
+  pub here : writer.buffer.count ≤ writer.component.entries
   pub floor : least_full * (writer.component.pages - 1) + length writer.buffer.text ≤ writer.component.weight
 
 -- The writer holds this run: the open page's entries are in its buffer, and the component has the run's numbers.

@@ -62,6 +62,13 @@ impl PageBuffer {
         self.used
     }
 
+    /// How many entries there are.
+    pub fn count(&self) -> u16
+        ensures { result ≡ self.now.count }
+    {
+        self.count
+    }
+
     /// Takes one entry more, which must fit.
     pub fn put(&mut self, key: &Key, rec: &Rec)
         requires { length self.old.text + weight key.now rec.now ≤ most_used }

@@ -8,5 +8,5 @@ mod buffer;
 mod laws;
 mod writer;
 
-pub use laws::{a_run_has_fences, a_run_has_room, where_a_run_writes};
+pub use laws::{a_run_has_fences, a_run_has_room, what_is_closed, where_a_run_writes};
 pub use writer::Writer;

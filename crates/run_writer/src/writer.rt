@@ -15,7 +15,7 @@ ghost use Rattle.page_file.specs.Entry.{AreRising};
 ghost use Rattle.page_file.specs.File.{page_at, Writes};
 ghost use Rattle.page_file.specs.Component.{numbers_of, HasList};
 ghost use Rattle.run_writer.specs.Buffer.{sealed};
-ghost use Rattle.run_writer.specs.Writer.{started, has_place, open_region, IsInside, IsCounted, put_in, turned, HasPushed};
+ghost use Rattle.run_writer.specs.Writer.{started, closed_of, has_place, open_region, IsInside, IsCounted, put_in, turned, HasPushed};
 
 use crate::buffer::PageBuffer;
 use bloom_bits::{Fences, Filter};
@@ -84,6 +84,30 @@ impl Writer {
         ensures counted { IsCounted self.now }
     {
         self.component
+    }
+
+    /// The closed pages as a run of their own, which goes on with the page of `next`.
+    pub fn closed(&self) -> Component
+        ensures { result ≡ closed_of self.now }
+    {
+        let run = self.component;
+        Component {
+            first: if run.pages > 1 {
+                run.first
+            } else {
+                self.number
+            },
+            pages: run.pages.saturating_sub(1),
+            entries: run.entries - u64::from(self.buffer.count()),
+            weight: run.weight - u64::from(self.buffer.used()),
+        }
+    }
+
+    /// The number of the open page, which the last closed page names; no page's, where the run has none.
+    pub fn next(&self) -> u32
+        ensures { result ≡ self.now.number }
+    {
+        self.number
     }
 
     // Whether there is an open page, and this entry fits into it.

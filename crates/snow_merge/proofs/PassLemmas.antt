@@ -1,62 +1,23 @@
--- A pass that takes one key group.
+-- A pass that has taken all, and what a table weighs above a key.
 use Rattle.std.proofs.lemmas.List.Sums.{sum_by-cons}
-use Rattle.std.proofs.Common.{cond, false, ◌∷◌, ◌≡◌, ◌∙◌, ◌+◌, ◌≤◌, ℕ, true, List, [], Option, Some, None, ap, subst, arith}
+use Rattle.std.proofs.Common.{◌≡◌, ◌+◌, ◌≤◌, ℕ, cond, true, false, List, [], ◌∷◌, Option, arith}
 use Rattle.blsm_model.specs.declared.key.Key.{Key}
-use Rattle.record_delta.specs.declared.record.Rec.{Rec}
-use Rattle.record_delta.specs.Records.{weight}
-use Rattle.record_delta.specs.Entries.{is_above, Entries, AreSorted, entries_weight, folded_over, first_of, above, up_to}
-use Rattle.run_cursor.specs.Cursor.{CursorState, from_head}
 use Rattle.blsm_model.specs.Sizes.{Sizes}
 use Rattle.bloom_bits.specs.BitSet.{BitState}
 use Rattle.bloom_bits.specs.Fences.{FencesState}
+use Rattle.record_delta.specs.declared.record.Rec.{Rec}
+use Rattle.record_delta.specs.Records.{weight}
+use Rattle.record_delta.specs.Entries.{is_above, Entries, entries_weight, folded_over, above}
 use Rattle.page_space.specs.Space.{SpaceState}
-use Rattle.run_writer.specs.Writer.{WriterState, HasPushed}
-use Rattle.merge_step.specs.Group.{group_of}
-use Rattle.merge_step.specs.Merged.{IsTaken}
-use Rattle.merge_ends.specs.Input.{left_in, IsReady}
-use Rattle.merge_ends.proofs.GroupLemmas.{head_first, head_sorted, end_left, first_none, group_none, weightless, input_done, all_up_to}
-use Rattle.merge_ends.proofs.QuantumLemmas.{GoesOn}
-use Rattle.merge_ends.specs.Quantum.{NoneAbove}
+use Rattle.run_writer.specs.Writer.{HasPushed}
 use Rattle.merge_ends.specs.Progress.{left_to_take}
-use Rattle.snow_merge.specs.Pass.{SnowState, IsPass, progress_of_pass}
-
--- ---- nothing is left
-
-pub nothing_left : (writer : WriterState) (cursor : CursorState) (at : Option Key) (a : Entries) → IsReady at cursor → group_of (first_of (above at a)) cursor.head ≡ None
-    → left_to_take (progress_of_pass (record { writer = writer; c1 = cursor; at = at }) a) ≡ 0
-nothing_left writer cursor at a ready none =
-    let parts = group_none (first_of (above at a)) cursor.head none in
-    omega (arith, ap (λ (l : Entries). entries_weight l) (first_none (above at a) parts.0), end_left at cursor ready parts.1)
-
--- ---- a group
-
-pub group_taken : GoesOn → (cursor : CursorState) (at : Option Key) (a : Entries) (key : Key) (rec : Rec) (taken : ℕ) → AreSorted a → IsReady at cursor
-    → group_of (first_of (above at a)) cursor.head ≡ Some (key, rec, taken) → IsTaken at a (from_head cursor.head []) key rec taken
-group_taken goes_on cursor at a key rec taken sorted ready group =
-    goes_on at a (from_head cursor.head []) key rec taken sorted (head_sorted cursor.head) (ap (group_of (first_of (above at a))) (head_first at cursor ready) ∙ group)
-
--- ---- the end
-
-first_part : (m n : ℕ) → m + n ≡ 0 → m ≡ 0
-first_part m n is = omega arith
-
-last_part : (m n : ℕ) → m + n ≡ 0 → n ≡ 0
-last_part m n is = omega arith
-
--- Where nothing is left by the numbers, nothing is left of the lists.
-pub none_above : {pages : List ℕ} (sizes : Sizes) (file : List ℕ) (space : SpaceState) (snow : SnowState) (filter : BitState) (fences : FencesState) (a c1 : Entries) → left_to_take (progress_of_pass snow a) ≡ 0 → IsPass sizes file space snow filter fences pages a c1 → NoneAbove snow.at a c1
-none_above sizes file space snow filter fences a c1 done pass = (
-  weightless (above snow.at a) (first_part (entries_weight (above snow.at a)) (left_in snow.at snow.c1) done),
-  input_done sizes file space snow.writer.role snow.at snow.c1 c1 (last_part (entries_weight (above snow.at a)) (left_in snow.at snow.c1) done) pass.older,
-)
+use Rattle.merge_ends.proofs.MergeLemmas.{pushed_all as merge_pushed_all}
+use Rattle.snow_merge.specs.Pass.{SnowState, IsPass, merge_of, progress_of_pass}
 
 -- All was pushed.
 pub pushed_all : {pages : List ℕ} (sizes : Sizes) (file : List ℕ) (space : SpaceState) (snow : SnowState) (filter : BitState) (fences : FencesState) (a c1 : Entries) → left_to_take (progress_of_pass snow a) ≡ 0 → IsPass sizes file space snow filter fences pages a c1
     → HasPushed sizes true file space snow.writer filter fences (folded_over a c1)
-pushed_all sizes file space snow filter fences a c1 done pass =
-    let none = none_above sizes file space snow filter fences a c1 done pass in
-    subst (λ (l : Entries). HasPushed sizes true file space snow.writer filter fences (folded_over l c1)) (all_up_to snow.at a none.0)
-    (subst (λ (l : Entries). HasPushed sizes true file space snow.writer filter fences (folded_over (up_to snow.at a) l)) (all_up_to snow.at c1 none.1) pass.pushed)
+pushed_all sizes file space snow filter fences a c1 done pass = merge_pushed_all (merge_of snow) a c1 done pass
 
 -- what is above a key weighs no more than all
 pub above_light : (at : Option Key) (es : Entries) → entries_weight (above at es) ≤ entries_weight es

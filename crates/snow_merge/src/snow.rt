@@ -1,5 +1,5 @@
 //! A pass.
-ghost use Rattle.std.specs.Prelude.{◌≡◌, ◌≢◌, ◌↔◌, ◌⊎◌, ◌+◌, ◌/◌, ◌≤◌, [], ◌∷◌, ℕ, Bool, List, Option, Ok, Err, length, IsTrue, IsErr, IfOk};
+ghost use Rattle.std.specs.Prelude.{◌≡◌, ◌≢◌, ◌↔◌, ◌⊎◌, ◌+◌, ◌/◌, ◌≤◌, [], ◌∷◌, ℕ, Bool, List, Option, None, Ok, Err, length, IsTrue, IsErr, IfOk, OnOk};
 ghost use Rattle.std.specs.List.{Contains};
 ghost use Rattle.blsm_model.specs.Components.{empty_component};
 ghost use Rattle.blsm_model.specs.Sizes.{Sizes};
@@ -15,27 +15,24 @@ ghost use Rattle.page_file.specs.File.{Writes};
 ghost use Rattle.run_writer.specs.Writer.{IsInside, role_region};
 ghost use Rattle.merge_ends.specs.Quantum.{IsNext, NoneAbove, IsQuantum};
 ghost use Rattle.merge_ends.specs.Progress.{IsRunning, MayGoOn, MergesOn, TakesGroup, TakesQuantum, left_to_take, stage};
-ghost use Rattle.snow_merge.specs.Pass.{started, IsPass, progress_of_pass};
+ghost use Rattle.snow_merge.specs.Pass.{started, Covers, IsPass, progress_of_pass};
 
 use bloom_bits::{Fences, Filter};
 use blsm_model::{Component, Geometry, Key};
 use disk_trait::Disk;
-use mem_table::{Above, Table};
-use merge_ends::{an_input_stays, go_above, is_through, put};
-use merge_step::{a_merge_goes_on, least_group};
-use page_file::{Broken, one_order};
+use mem_table::Table;
+use merge_ends::{Merge, Newer};
+use page_file::Broken;
 use page_space::{Role, Space};
+use record_delta::Rec;
 use refusal::Failed;
-use run_cursor::Cursor;
-use run_writer::{Writer, where_a_run_writes};
 use std::marker::Model;
 
-/// A pass. Contracts see the run that it writes, its cursor over C1, and the greatest key that it took.
+/// A pass. Contracts see the run that it writes, its cursor over C1, the greatest key that it took, and the one up to which all is on closed pages
+/// of the run.
 #[derive(Debug, Drop)]
 pub struct Snow {
-    writer: Writer,
-    c1: Cursor,
-    at: Option<Key>,
+    merge: Merge,
 }
 
 impl Model for Snow {
@@ -43,7 +40,38 @@ impl Model for Snow {
 
     ghost Value = { SnowState };
 
-    ghost view = { λ s. record { writer = s.writer; c1 = s.c1; at = s.at } };
+    ghost view = { λ s. record { writer = s.merge.writer; c1 = s.merge.older; at = s.merge.at; closed = s.merge.closed; left = s.merge.left } };
+}
+
+// Table A as the newer input.
+#[derive(Drop)]
+struct InMemory<'a> {
+    table: &'a Table,
+}
+
+impl Newer for InMemory<'_> {
+    ghost run = { λ _. None };
+
+    ghost table = { λ it. it.table.now.entries };
+
+    fn go_above<D: Disk>(
+        &mut self,
+        _disk: &mut D,
+        _geo: &Geometry,
+        _at: &Option<Key>,
+    ) -> Result<(), Broken> {
+        Ok(())
+    }
+
+    fn first_above(&self, at: Option<Key>) -> Option<(Key, Rec)> {
+        // A table is sorted.
+        let _weight = self.table.weight();
+        self.table.least_above(at)
+    }
+
+    fn left_above(&self, _at: &Option<Key>) -> u64 {
+        0
+    }
 }
 
 impl Snow {
@@ -58,6 +86,7 @@ impl Snow {
         requires empty { c1.now.pages ≡ 0 → c1.now ≡ empty_component }
         requires bits { rounded bits ≤ filter.old.reserved }
         ensures started { result ≡ started role c1.now }
+        ensures covers { (a : Entries) → Covers result a }
         ensures running { (sizes : Sizes) (honest : Bool) (file : List ℕ) (space : SpaceState) → IsRunning sizes honest file space result.writer result.at (result.c1 ∷ []) filter.new fences.new }
         ensures reserves { KeepSized (rounded bits) filter.old filter.new fences.old fences.new }
         ensures filter { filter.new ≡ cleared filter.old.reserved (rounded bits) }
@@ -67,13 +96,8 @@ impl Snow {
             → ((n : ℕ) → Contains (numbers_of list.pages) n → (HasRole space role n → ⊥) × (IsFree space n → ⊥))
             → IsPass sizes file space result filter.new fences.new (numbers_of list.pages) a entries }
     {
-        one_order();
-        filter.reset(bits);
-        fences.clear();
         Snow {
-            writer: Writer::start(role),
-            c1: Cursor::start(c1),
-            at: None,
+            merge: Merge::begin(c1, role, bits, filter, fences),
         }
     }
 
@@ -81,61 +105,28 @@ impl Snow {
     pub fn cursor(&self) -> Option<Key>
         ensures { result ≡ self.now.at }
     {
-        match &self.at {
-            Some(key) => Some(key.copy()),
-            None => None,
-        }
+        self.merge.cursor()
+    }
+
+    /// The greatest key up to which all that was taken is on closed pages of the run, which stay as they are; `None` where none is closed.
+    pub fn closed(&self) -> Option<Key>
+        ensures { result ≡ self.now.closed }
+    {
+        self.merge.closed()
+    }
+
+    /// How much of C1 was left above that key when it was told, in bytes; 0 where no page is closed.
+    pub fn left(&self) -> u64
+        ensures { result ≡ self.now.left }
+    {
+        self.merge.left()
     }
 
     /// Whether table A, as it is now, and C1 are wholly taken. A record that comes into the table ahead of the cursor makes it false again.
     pub fn is_done(&self, a: &Table) -> bool
         ensures { IsTrue result ↔ (left_to_take (progress_of_pass self.now a.now.entries) ≡ 0) }
     {
-        is_through(&self.c1, &self.at) && has_none_above(a, self.cursor())
-    }
-
-    // Takes the next key group, and gives the weight of its records; 0 where nothing is left.
-    fn step<D: Disk>(
-        &mut self,
-        disk: &mut D,
-        geo: &Geometry,
-        a: &Table,
-        space: &mut Space,
-        filter: &mut Filter,
-        fences: &mut Fences,
-    ) -> Result<u64, Broken>
-        requires pages { space.old.pages ≡ page_count geo.now }
-        requires length { IsTrue (D.state disk.old).tells_bytes → length (D.state disk.old).bytes ≡ file_length geo.now }
-        requires runs { MayGoOn geo.now (stage (progress_of_pass self.old a.now.entries) space.old filter.old fences.old (D.state disk.old)) }
-        ensures pass { (pages : List ℕ) (c1 : Entries) → IsTrue (D.state disk.old).is_honest → IsPass geo.now (D.state disk.old).bytes space.old self.old filter.old fences.old pages a.now.entries c1
-            → result ≢ Err Broken.Fault
-            → (n : ℕ) × (result ≡ Ok n) × IsPass geo.now (D.state disk.new).bytes space.new self.new filter.new fences.new pages a.now.entries c1
-            × (IsNext self.old.at self.new.at a.now.entries c1 n ⊎ (NoneAbove self.old.at a.now.entries c1 × (self.new.at ≡ self.old.at) × (n ≡ 0))) }
-        ensures numbers { MergesOn geo.now 2 TakesGroup (stage (progress_of_pass self.old a.now.entries) space.old filter.old fences.old (D.state disk.old)) (stage (progress_of_pass self.new a.now.entries) space.new filter.new fences.new (D.state disk.new)) result }
-    {
-        let _weight = a.weight();
-        an_input_stays();
-        a_merge_goes_on();
-        go_above(&mut self.c1, disk, geo, &self.at)?;
-        let table = Above {
-            table: a,
-            key: self.cursor(),
-        };
-        let Some((key, rec, weight)) = least_group(&table, &self.c1) else {
-            return Ok(0);
-        };
-        put(
-            &mut self.writer,
-            disk,
-            geo,
-            space,
-            filter,
-            fences,
-            &key,
-            &rec,
-        )?;
-        self.at = Some(key);
-        Ok(weight)
+        self.merge.has_taken_older() && has_none_above(a, self.cursor())
     }
 
     /// Takes whole key groups, the least key first, until they weigh a quantum or nothing is left. Gives the weight that it took.
@@ -167,27 +158,13 @@ impl Snow {
         // On any disk what was taken and what is left add up, and it is a quantum or all that was left, and less than one group more. Each group
         // weighs 14 bytes at least, and makes two calls at most.
         ensures numbers { MergesOn geo.now (geo.now.quantum / 7 + 2) (TakesQuantum geo.now.quantum) (stage (progress_of_pass self.old a.now.entries) space.old filter.old fences.old (D.state disk.old)) (stage (progress_of_pass self.new a.now.entries) space.new filter.new fences.new (D.state disk.new)) result }
+        // What of the table was taken and isn't on closed pages yet weighs no more than a page.
+        ensures covers { Covers self.old a.now.entries → OnOk result (Covers self.new a.now.entries) }
         ensures kept { IsErr result → self.new.at ≡ self.old.at }
     {
-        let _weight = a.weight();
-        a_merge_goes_on();
-        let at = self.cursor();
-        let quantum = geo.quantum();
-        let mut taken = 0;
-        while taken < quantum {
-            let weight = match self.step(disk, geo, a, space, filter, fences) {
-                Ok(weight) => weight,
-                Err(broken) => {
-                    self.at = at;
-                    return Err(broken);
-                }
-            };
-            if weight == 0 {
-                return Ok(taken);
-            }
-            taken += weight;
-        }
-        Ok(taken)
+        let mut newer = InMemory { table: a };
+        self.merge
+            .quantum(disk, geo, &mut newer, false, space, filter, fences)
     }
 
     /// Writes the run's last page, and gives the new C1. The pass stays as it was. After an `Err`, whose cause is a fault of the
@@ -212,8 +189,7 @@ impl Snow {
         ensures writes { (space : SpaceState) (filter : BitState) (fences : FencesState) → IsRunning geo.now (D.state disk.old).is_honest (D.state disk.old).bytes space self.old.writer self.old.at (self.old.c1 ∷ []) filter fences
             → Writes (role_region geo.now space self.old.writer.role) (file_length geo.now) result (D.state disk.old) (D.state disk.new) }
     {
-        where_a_run_writes();
-        self.writer.end(disk, geo)
+        self.merge.finish(disk, geo)
     }
 }
 

@@ -7,10 +7,11 @@ use Rattle.disk_trait.specs.Region.{outside}
 use Rattle.record_delta.specs.Entries.{Entries, entries_weight, up_to, with_record}
 use Rattle.blsm_model.specs.Sizes.{Sizes}
 use Rattle.page_space.specs.Space.{SpaceState}
-use Rattle.page_file.specs.Component.{RunPage}
+use Rattle.page_file.specs.Component.{RunPage, entries_of}
+use Rattle.merge_ends.proofs.MergeLemmas.{grown_merge}
 use Rattle.page_file.proofs.PageLemmas.{before_apart}
 use Rattle.merge_step.proofs.MergedLemmas.{ahead as grown_ahead}
-use Rattle.snow_merge.specs.Pass.{SnowState}
+use Rattle.snow_merge.specs.Pass.{SnowState, merge_of}
 use Rattle.deep_merge.specs.Merge.{DeepState}
 use Rattle.tree_machine.proofs.QuantumLemmas.{weight_parts}
 use Rattle.tree_file.specs.Tree.{Tree, HoldsTree}
@@ -57,7 +58,8 @@ deep_has_it merge = grind (arith, common_steps, nat_tests)
 -- a pass over a table that grew ahead of its cursor
 grown_over : (sizes : Sizes) (file : List ℕ) (space : SpaceState) (guide : GuideState) (snow : Option SnowState) (a grown : Entries) (c1 : List RunPage) → up_to (cursor_of_pass snow) grown ≡ up_to (cursor_of_pass snow) a
     → IsPassOver sizes file space guide snow a c1 → IsPassOver sizes file space guide snow grown c1
-grown_over sizes file space guide snow a grown c1 h1 h2 = grind (arith, common_steps, nat_tests)
+grown_over sizes file space guide None a grown c1 same over = tt
+grown_over sizes file space guide (Some snow) a grown c1 same over = grown_merge (merge_of snow) a grown (entries_of c1) same over
 
 -- over the tree's lists and this table, where the file holds a tree of the same components
 over_tree : KeepsPushed → KeepsAhead → (runs : RunsState) (tree next : Tree) (a grown : Entries) (old new : List ℕ) → IsBesideRuns runs old new

@@ -91,10 +91,16 @@ module _ (pushed_kept : KeepsPushed) (ahead_kept : KeepsAhead) {sizes : Sizes} {
 
   pub pass_over_still : {tag of_c1 : ℕ} (guide : GuideState) (snow : Option SnowState) (a : Entries) (c1 : List RunPage) (keeps : KeepsRun sizes true region old new space after tag) → KeepsPages sizes space after region of_c1
       → PassHasTag tag snow → AreTagged space of_c1 c1 → IsPassOver sizes old space guide snow a c1 → IsPassOver sizes new after guide snow a c1
+  unfolding run_still
   pass_over_still guide None a c1 keeps stays role tagged over = tt
   pass_over_still guide (Some snow) a c1 keeps stays role tagged over = record {
-    older = input_still c1 keeps role stays tagged over.older;
-    pushed = pushed_still pushed_kept (folded_over (up_to snow.at a) (up_to snow.at (entries_of c1))) keeps role over.pushed;
+    newer_is = over.newer_is;
+    older_is = input_still c1 keeps role stays tagged over.older_is;
+    run = run_still pushed_kept keeps role over.run;
+    out_is = over.out_is;
+    closed_up = over.closed_up;
+    closed_is = over.closed_is;
+    left_is = over.left_is;
   }
 
   pub deep_over_still : {tag of_c1x of_c2 : ℕ} (guide : GuideState) (merge : Option DeepState) (c1x c2 : List RunPage) (keeps : KeepsRun sizes true region old new space after tag) → KeepsPages sizes space after region of_c1x
@@ -103,10 +109,13 @@ module _ (pushed_kept : KeepsPushed) (ahead_kept : KeepsAhead) {sizes : Sizes} {
   unfolding run_still
   deep_over_still guide None c1x c2 keeps newer older role tagged tagged_c2 over = over
   deep_over_still guide (Some merge) c1x c2 keeps newer older role tagged tagged_c2 over = record {
-    newer = input_still c1x keeps role newer tagged over.newer;
-    older = input_still c2 keeps role older tagged_c2 over.older;
+    newer_is = input_still c1x keeps role newer tagged over.newer_is;
+    older_is = input_still c2 keeps role older tagged_c2 over.older_is;
     run = run_still pushed_kept keeps role over.run;
     out_is = over.out_is;
+    closed_up = over.closed_up;
+    closed_is = over.closed_is;
+    left_is = over.left_is;
   }
 
 -- ---- where tags were released alone

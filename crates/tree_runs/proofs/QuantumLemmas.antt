@@ -13,6 +13,7 @@ use Rattle.page_file.specs.declared.file.Broken.{Broken}
 use Rattle.page_file.specs.declared.file.Broken.TheVariants.{Fault}
 use Rattle.page_file.specs.Component.{numbers_of, entries_of}
 use Rattle.merge_ends.specs.Output.{HasRoom, TakesPages}
+use Rattle.merge_ends.proofs.WorkLemmas.{works_of}
 use Rattle.merge_ends.specs.Quantum.{IsQuantum, Works}
 use Rattle.merge_ends.specs.Progress.{MergesOn, TakesQuantum, stage}
 use Rattle.snow_merge.specs.Pass.{SnowState, IsPass, progress_of_pass}
@@ -98,7 +99,8 @@ pass_role runs snow is are = subst (λ (p : Option SnowState). PassHasTag runs.t
 
 pub pass_works : (runs : RunsState) (after : SpaceState) (guide guide_after : GuideState) (snow next : SnowState) (a : Entries) (result : Result ℕ Broken) (old new : DiskState) → runs.pass ≡ Some snow → AreRuns runs
     → PassQuantum runs.sizes runs.space after guide guide_after snow next a result old new → Works runs.sizes runs.tags.pass (runs.sizes.quantum / 7 + 2) runs.space after old new
-pass_works runs after guide guide_after snow next a result old new is are quantum = grind (arith, common_steps, nat_tests)
+pass_works runs after guide guide_after snow next a result old new is are quantum =
+    subst (λ (r : ℕ). Works runs.sizes r (runs.sizes.quantum / 7 + 2) runs.space after old new) (pass_role runs snow is are) (works_of quantum.on.works)
 
 pass_in_order : (runs : RunsState) (after : SpaceState) (guides : List GuideState) (snow next : SnowState) → runs.pass ≡ Some snow → AreRuns runs → IsSpace after
     → TakesPages runs.tags.pass runs.space after → role_size after runs.tags.pass + snow.writer.component.pages ≡ role_size runs.space runs.tags.pass + next.writer.component.pages
@@ -205,7 +207,8 @@ deep_role runs merge is are = subst (λ (d : Option DeepState). DeepHasTag runs.
 
 pub deep_works : (runs : RunsState) (after : SpaceState) (guide guide_after : GuideState) (merge next : DeepState) (result : Result ℕ Broken) (old new : DiskState) → runs.deep ≡ Some merge → AreRuns runs
     → DeepQuantum runs.sizes runs.space after guide guide_after merge next result old new → Works runs.sizes runs.tags.deep (runs.sizes.quantum / 4 + 3) runs.space after old new
-deep_works runs after guide guide_after merge next result old new is are quantum = grind (arith, common_steps, nat_tests)
+deep_works runs after guide guide_after merge next result old new is are quantum =
+    subst (λ (r : ℕ). Works runs.sizes r (runs.sizes.quantum / 4 + 3) runs.space after old new) (deep_role runs merge is are) (works_of quantum.on.works)
 
 deep_in_order : (runs : RunsState) (after : SpaceState) (guides : List GuideState) (merge next : DeepState) → runs.deep ≡ Some merge → AreRuns runs → IsSpace after → TakesPages runs.tags.deep runs.space after
     → role_size after runs.tags.deep + merge.writer.component.pages ≡ role_size runs.space runs.tags.deep + next.writer.component.pages

@@ -141,7 +141,14 @@ fn rebuild_at<D: Disk>(
     ensures reads { Reads (file_length geo.now) run.now.pages result (D.state disk.old) (D.state disk.new) }
 {
     let guide = &mut guides[role.number() as usize];
-    rebuild(disk, geo, run, &mut guide.filter, &mut guide.fences)
+    rebuild(
+        disk,
+        geo,
+        run,
+        run.weight,
+        &mut guide.filter,
+        &mut guide.fences,
+    )
 }
 
 // A pass over C1 that has taken nothing, and whose run's filter and fences are empty.

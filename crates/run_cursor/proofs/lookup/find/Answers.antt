@@ -1,10 +1,10 @@
-use Rattle.std.proofs.Common.{◌∙◌, Ok, arith, inl, inr, refl, ap, sym, subst}
+use Rattle.std.proofs.Common.{◌∙◌, ◌++◌, Ok, arith, inl, inr, refl, ap, sym, subst}
 use Rattle.std.specs.Prelude.{IsTrue}
 use Rattle.std.proofs.lemmas.Bool.{false≢true}
 use Rattle.bloom_bits.specs.Fences.{IsBelowAll, IsPlaceOf}
 use Rattle.page_file.specs.Entry.{keys_of}
 use Rattle.page_file.specs.Component.{entries_of}
-use Rattle.run_cursor.proofs.FindLemmas.{no_pages, some_pages, not_found, none_on, on_page_of, listed, asked_on, asked_told, asked_damaged}
+use Rattle.run_cursor.proofs.FindLemmas.{no_pages, some_pages, not_found, none_on, on_page_of, listed, keys_in_front, none_in_front, place_in_front, some_front, asked_on, asked_told, asked_damaged}
 use Rattle.run_cursor.proofs.lookup.find.Goals as goal
 use Rattle.run_cursor.proofs.lookup.find.Goals.{then-run-eq0-via-then-run-eq0, then-run-eq0-via-else-run-eq0+then-not-may}
 
@@ -58,3 +58,32 @@ returns-in-Some-clause-damaged g c = λ n is honest.
 
 pub returns-in-None-clause-told : goal.returns-in-None-clause-told
 returns-in-None-clause-told g c = λ honest. inl (inr (inr (c.in-None.ensures.none.0 refl)), refl, omega arith)
+
+-- ---- where the run goes on
+
+pub returns-then-run-eq0-clause-front : goal.returns-then-run-eq0-clause-front
+returns-then-run-eq0-clause-front g c = λ pages behind next honest reads guide below other.
+    elim c.then-run-eq0.branch [
+      | then-run-eq0-via-then-run-eq0 w ↦ ap Ok (sym (no_pages c.args.key.now pages c.args.run.now.pages reads.pages_is w.if-run-eq0.true))
+      | then-run-eq0-via-else-run-eq0+then-not-may w ↦
+          let some = some_front pages behind (some_pages pages c.args.run.now.pages reads.pages_is w.if-run-eq0.false) in
+          ap Ok (sym (not_found c.args.key.now (entries_of pages)
+          (λ has. false≢true (sym w.if-not-may.true ∙ w.may.ensures.added (keys_of (entries_of (pages ++ behind))) (guide some).keys (keys_in_front c.args.key.now pages behind has)))))
+    ]
+
+pub returns-in-Some-clause-front : goal.returns-in-Some-clause-front
+returns-in-Some-clause-front g c = λ pages behind next honest reads guided below other.
+    let sizes = c.args.geo.now in
+    let key = c.args.key.now in
+    let file = (g.D.Disk.state c.args.disk.now).bytes in
+    let guide = guided (some_front pages behind (some_pages pages c.args.run.now.pages reads.pages_is c.if-run-eq0.false)) in
+    let place = place_in_front key c.in-Some.page pages behind (subst (IsPlaceOf key c.in-Some.page) guide.fences_are c.in-Some.ensures.some) below in
+    let on = on_page_of sizes key c.in-Some.page file pages next reads.chained reads.rise place in
+    listed (IsTrue (g.D.Disk.state c.args.disk.now).is_honest) sizes key c.in-Some.page pages file c.find_on.result honest c.find_on.ensures.few on c.find_on.ensures.page c.find_on.ensures.damaged other
+
+pub returns-in-None-clause-front : goal.returns-in-None-clause-front
+returns-in-None-clause-front g c = λ pages behind next honest reads guided below other.
+    let key = c.args.key.now in
+    let guide = guided (some_front pages behind (some_pages pages c.args.run.now.pages reads.pages_is c.if-run-eq0.false)) in
+    let none = none_in_front key pages behind (subst (IsBelowAll key) guide.fences_are (c.in-None.ensures.none.0 refl)) in
+    ap Ok (sym (none_on c.args.geo.now key (g.D.Disk.state c.args.disk.now).bytes pages next reads.chained reads.rise none))

@@ -14,6 +14,7 @@ returns-clause-pushed c = λ sizes honest file space filter fences guide.
       weight = omega arith;
       entries = omega arith;
       floor = omega arith;
+      here = omega arith;
     } in
     let empty = holds_none c.args.role in
     subst (λ (w : WriterState). HasPushed sizes honest file space w filter fences []) (sym is) (nothing_pushed sizes honest file space (started c.args.role) filter fences empty.0 empty.1 counted guide)

@@ -1,81 +1,38 @@
-use Rattle.std.proofs.Common.{◌+◌, ◌/◌, ◌<◌, ℕ, Err, IsTrue, refl, sym, subst, inl, inr, arith}
-use Rattle.merge_ends.specs.Quantum.{HasTaken}
-use Rattle.merge_ends.specs.Progress.{MergesOn, TakesQuantum, stage}
-use Rattle.merge_ends.proofs.QuantumLemmas.{some_weight, no_weight}
-use Rattle.merge_ends.proofs.ProgressLemmas.{merged_start, merged_ok, merged_more, merged_failed, merged_none, lists_more, ok_not_fault, err_not_ok}
-use Rattle.snow_merge.specs.Pass.{SnowState, progress_of_pass}
-use Rattle.snow_merge.proofs.PassLemmas.{none_above}
+use Rattle.std.proofs.Common.{◌≡◌, ◌+◌, ◌/◌, [], false, None, sym, subst}
+use Rattle.std.specs.Prelude.{OnOk}
+use Rattle.record_delta.specs.Entries.{Entries}
+use Rattle.merge_ends.specs.Merge.{Covers as MergeCovers, IsMerging, progress}
+use Rattle.merge_ends.specs.Progress.{MayGoOn, MergesOn, TakesQuantum, stage}
+use Rattle.merge_ends.specs.Quantum.{IsQuantum}
+use Rattle.snow_merge.specs.Pass.{SnowState, Covers, IsPass, progress_of_pass}
 use Rattle.snow_merge.proofs.snow.Snow.quantum.Goals as goal
 
-pub loop-taken-init : goal.loop-taken-init
-loop-taken-init g c = record {
-  quantum = c.quantum-quantum.ensures.value;
-  calls = omega arith;
-  numbers =
-      merged_start c.args.geo.now (c.args.geo.now.quantum / 7 + 2) (stage (progress_of_pass c.args.self.now c.args.a.now.entries) c.args.space.now c.args.filter.now c.args.fences.now (g.D.Disk.state c.args.disk.now)) (g.met.D.Disk.timed c.args.disk.now)
-      c.requires.pages c.requires.length c.requires.runs;
-  pass = λ pages c1 honest pass. (pass, record { taken_is = omega arith; last = inl refl });
-}
-
--- ---- after a step
-
-pub returns-in-Err-clause-numbers : goal.returns-in-Err-clause-numbers
-returns-in-Err-clause-numbers g c =
-    let inv = c.loop-taken.invariant in
-    let on = c.in-Err.ensures.numbers in
-    subst (λ (s : SnowState). MergesOn c.args.geo.now (c.args.geo.now.quantum / 7 + 2) (TakesQuantum c.args.geo.now.quantum) (stage (progress_of_pass c.args.self.now c.args.a.now.entries) c.args.space.now c.args.filter.now c.args.fences.now (g.D.Disk.state c.args.disk.now)) (stage (progress_of_pass (record s { at = c.cursor-at.result }) c.args.a.now.entries) c.step.new.space c.step.new.filter c.step.new.fences (g.D.Disk.state c.step.new.disk)) (Err c.in-Err.broken))
-    (sym c.self.view_is) (merged_failed inv.numbers (g.met.D.Disk.timed c.loop-taken.disk) (omega (arith, inv.calls, inv.quantum, on.works.effect.calls)) _ _ _ on)
-
-pub returns-in-Err-clause-pass : goal.returns-in-Err-clause-pass
-returns-in-Err-clause-pass g c = λ pages c1 honest pass other.
-    let inv = c.loop-taken.invariant in
-    let went = c.in-Err.ensures.pass pages c1 (subst IsTrue (sym inv.numbers.works.effect.goes_on.is_honest) honest) (inv.pass pages c1 honest pass).0 other in
-    absurd (err_not_ok c.in-Err.broken went.0 went.1)
-
-pub returns-then-weight-eq0-clause-numbers : goal.returns-then-weight-eq0-clause-numbers
-returns-then-weight-eq0-clause-numbers g c =
-    let inv = c.loop-taken.invariant in
-    let on = c.in-Ok.ensures.numbers in
-    merged_none inv.numbers (g.met.D.Disk.timed c.loop-taken.disk) (omega (arith, inv.calls, inv.quantum, on.works.effect.calls)) (omega (arith, inv.quantum)) c.if-weight-eq0.true on
-
-pub returns-then-weight-eq0-clause-pass : goal.returns-then-weight-eq0-clause-pass
-returns-then-weight-eq0-clause-pass g c = λ pages c1 honest pass other.
-    let inv = c.loop-taken.invariant in
-    let least = c.args.geo.now.quantum in
-    let was = inv.pass pages c1 honest pass in
-    let went = lists_more c.a_merge_goes_on.ensures least c.args.self.now.at c.loop-taken.self.at c.step.new.self.at c.args.a.now.entries c1 c.loop-taken.taken c.in-Ok.weight (omega (arith, inv.quantum)) c.weight-weight.ensures.sorted was.0.older.sorted was.1
-    (c.in-Ok.ensures.pass pages c1 (subst IsTrue (sym inv.numbers.works.effect.goes_on.is_honest) honest) was.0 (ok_not_fault c.in-Ok.weight)) in (
-      c.loop-taken.taken,
-      refl,
-      went.0,
-      record {
-        has_taken = subst (λ (n : ℕ). HasTaken least c.args.self.now.at c.step.new.self.at c.args.a.now.entries c1 n) (omega (arith, c.if-weight-eq0.true)) went.1;
-        enough = inr (none_above c.args.geo.now (g.D.Disk.state c.step.new.disk).bytes c.step.new.space c.step.new.self c.step.new.filter c.step.new.fences c.args.a.now.entries c1
-            (no_weight c.in-Ok.weight c.in-Ok.ensures.numbers.takes.some c.if-weight-eq0.true) went.0);
-      },
-    )
-
-pub loop-taken-preserved : goal.loop-taken-preserved
-loop-taken-preserved g c =
-    let inv = c.loop-taken.invariant in
-    let on = c.in-Ok.ensures.numbers in
-    let few : c.loop-taken.taken < c.args.geo.now.quantum = omega (arith, inv.quantum) in
-    record {
-      quantum = inv.quantum;
-      calls = omega (arith, inv.calls, on.works.effect.calls, some_weight c.in-Ok.weight on.takes.some c.if-weight-eq0.false);
-      numbers = merged_more inv.numbers (g.met.D.Disk.timed c.loop-taken.disk) (omega (arith, inv.calls, inv.quantum, on.works.effect.calls)) few on;
-      pass = λ pages c1 honest pass.
-          let was = inv.pass pages c1 honest pass in
-          lists_more c.a_merge_goes_on.ensures c.args.geo.now.quantum c.args.self.now.at c.loop-taken.self.at c.step.new.self.at c.args.a.now.entries c1 c.loop-taken.taken c.in-Ok.weight few c.weight-weight.ensures.sorted was.0.older.sorted was.1
-          (c.in-Ok.ensures.pass pages c1 (subst IsTrue (sym inv.numbers.works.effect.goes_on.is_honest) honest) was.0 (ok_not_fault c.in-Ok.weight));
-    }
-
--- ---- enough is taken
-
 pub returns-clause-numbers : goal.returns-clause-numbers
-returns-clause-numbers g c = merged_ok c.loop-taken.invariant.numbers (inl (omega (arith, c.loop-taken.invariant.quantum)))
+returns-clause-numbers g c =
+    let a = c.args.a.now.entries in
+    let new = c.quantum.new.self in
+    let before = g.D.Disk.state c.args.disk.now in
+    let after = g.D.Disk.state c.quantum.new.disk in
+    let least = c.args.geo.now.quantum in
+    subst (λ (s : SnowState). MergesOn c.args.geo.now (least / 7 + 2) (TakesQuantum least) (stage (progress_of_pass s a) c.args.space.now c.args.filter.now c.args.fences.now before)
+    (stage (progress new None a) c.quantum.new.space c.quantum.new.filter c.quantum.new.fences after) c.quantum.result) c.self.view_is
+    (subst (λ (t : Entries). MergesOn c.args.geo.now (least / 7 + 2) (TakesQuantum least) (stage (progress c.self.inside.merge None a) c.args.space.now c.args.filter.now c.args.fences.now before)
+    (stage (progress new None t) c.quantum.new.space c.quantum.new.filter c.quantum.new.fences after) c.quantum.result) c.quantum.ensures.same_table c.quantum.ensures.numbers)
 
 pub returns-clause-pass : goal.returns-clause-pass
 returns-clause-pass g c = λ pages c1 honest pass other.
-    let was = c.loop-taken.invariant.pass pages c1 honest pass in
-    (c.loop-taken.taken, refl, was.0, record { has_taken = was.1; enough = inl (omega (arith, c.loop-taken.invariant.quantum)) })
+    let a = c.args.a.now.entries in
+    let sizes = c.args.geo.now in
+    let d = g.D.Disk.state c.args.disk.now in
+    let after = (g.D.Disk.state c.quantum.new.disk).bytes in
+    let new = c.quantum.new.self in
+    let old = subst (λ (s : SnowState). IsPass sizes d.bytes c.args.space.now s c.args.filter.now c.args.fences.now pages a c1) (sym c.self.view_is) pass in
+    let went = c.quantum.ensures.lists [] pages a c1 honest old other in
+    let merging = subst (λ (t : Entries). IsMerging false sizes after c.quantum.new.space new None t c.quantum.new.filter c.quantum.new.fences [] pages a c1) c.quantum.ensures.same_table went.2 in
+    (went.0, went.1, merging, subst (λ (s : SnowState). IsQuantum sizes.quantum s.at new.at a c1 went.0) c.self.view_is went.3)
+
+pub returns-clause-covers : goal.returns-clause-covers
+returns-clause-covers g c = λ covers.
+    let a = c.args.a.now.entries in
+    let old = subst (λ (s : SnowState). Covers s a) (sym c.self.view_is) covers in
+    subst (λ (t : Entries). OnOk c.quantum.result (MergeCovers false c.quantum.new.self None t)) c.quantum.ensures.same_table (c.quantum.ensures.covers old)

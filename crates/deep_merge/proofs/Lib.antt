@@ -1,2 +1,0 @@
-pub mod SettledLemmas
-pub mod MergeLemmas

@@ -1,0 +1,74 @@
+-- What contracts see of a merge of two inputs, and where it stands between them. Weights are in bytes.
+use Rattle.std.specs.Prelude.{◌≡◌, ℕ, ◌+◌, ◌/◌, ◌≤◌, Bool, true, false, List, [], ◌∷◌, ◌++◌, length, Option, Some, None, IsSome}
+use Rattle.blsm_model.specs.declared.component.Component.{Component}
+use Rattle.blsm_model.specs.declared.key.Key.{Key}
+use Rattle.blsm_model.specs.Sizes.{Sizes}
+use Rattle.bloom_bits.specs.BitSet.{BitState}
+use Rattle.bloom_bits.specs.Fences.{FencesState}
+use Rattle.bloom_bits.specs.Guides.{Guide}
+use Rattle.page_file.specs.Component.{RunPage, ReadsOn, entries_of}
+use Rattle.record_delta.specs.Entries.{Entries, above, entries_weight, folded_over, up_to}
+use Rattle.page_space.specs.Space.{SpaceState}
+use Rattle.run_cursor.specs.Cursor.{CursorState, started as cursor_started}
+use Rattle.run_writer.specs.Writer.{WriterState, closed_entries, closed_of, started as writer_started}
+use Rattle.merge_ends.specs.Input.{left_in, IsInput}
+use Rattle.merge_ends.specs.Newer.{IsNewer, component_left, components_above, cursors_with, newer_left}
+use Rattle.merge_ends.specs.Output.{HasRun, IsUpTo, kept}
+use Rattle.merge_ends.specs.Progress.{Progress}
+
+-- The run that is written, the cursor over the older input, the greatest key that was taken, the one up to which all is on closed pages of the run, and
+-- how much was left of the components above that one. The newer input is lent at each call.
+pub record MergeState : Type 0 where
+  pub writer : WriterState
+  pub older : CursorState
+  pub at : Option Key
+  pub closed : Option Key
+  pub left : ℕ
+
+-- a merge that has taken nothing
+abbrev pub started : ℕ → Component → MergeState
+started role older = record { writer = writer_started role; older = cursor_started older; at = None; closed = None; left = 0 }
+
+-- where it stands by its numbers, with a newer input that has this cursor, or is this table
+abbrev pub progress : MergeState → Option CursorState → Entries → Progress
+progress merge newer table =
+    record { writer = merge.writer; at = merge.at; newer = newer_left merge.at newer table; older = left_in merge.at merge.older; cursors = cursors_with newer merge.older }
+
+-- how much of the components among the inputs is left
+abbrev pub components_left : MergeState → Option CursorState → ℕ
+components_left merge input = component_left merge.at input + left_in merge.at merge.older
+
+-- how many calls of the disk a group makes at most, and a quantum, since each group weighs 14 bytes at least
+abbrev pub group_calls : Option CursorState → ℕ
+group_calls None = 2
+group_calls (Some cursor) = 3
+
+abbrev pub quantum_calls : Option CursorState → ℕ → ℕ
+quantum_calls None quantum = quantum / 7 + 2
+quantum_calls (Some cursor) quantum = quantum / 4 + 3
+
+-- On any disk: what of a table was taken and isn't on closed pages weighs no more than the open page has, where the merge doesn't settle.
+pub record Covers (settles : Bool) (merge : MergeState) (input : Option CursorState) (table : Entries) : Type 0 where
+  pub up : IsUpTo merge.closed merge.at
+  pub light : settles ≡ false → input ≡ None → entries_weight (above merge.closed table) ≤ entries_weight (above merge.at table) + length merge.writer.buffer.text
+  pub left : IsSome merge.closed → components_left merge input ≤ merge.left
+
+-- Of both lists, what is up to the greatest key taken was taken, folded key by key, settled where the merge settles, and pushed. What is above it is
+-- left. The closed
+-- pages have what comes of both up to a key that isn't above that one.
+pub record IsMerging (settles : Bool) (sizes : Sizes) (file : List ℕ) (space : SpaceState) (merge : MergeState) (input : Option CursorState) (table : Entries) (filter : BitState) (fences : FencesState) (newer_pages older_pages : List ℕ) (newer older : Entries) : Type 0 where
+  pub newer_is : IsNewer sizes file space merge.writer.role merge.at input table newer_pages newer
+  pub older_is : IsInput sizes file space merge.writer.role merge.at merge.older older_pages older
+  pub run : HasRun sizes true file space merge.writer filter fences merge.at
+  pub out_is : run.out ≡ kept settles (folded_over (up_to merge.at newer) (up_to merge.at older))
+  pub closed_up : IsUpTo merge.closed merge.at
+  pub closed_is : closed_entries merge.writer run.out ≡ kept settles (folded_over (up_to merge.closed newer) (up_to merge.closed older))
+  pub left_is : IsSome merge.closed → merge.left ≡ components_above merge.closed input newer older
+
+-- In this file the run's closed pages read as these entries, and go on with the open page; filter and fences are those of them and of pages behind.
+pub record HasClosed (sizes : Sizes) (file : List ℕ) (writer : WriterState) (filter : BitState) (fences : FencesState) (entries : Entries) : Type 0 where
+  pub pages : List RunPage
+  pub behind : List RunPage
+  pub reads : ReadsOn sizes (closed_of writer) pages (Some writer.number) file
+  pub entries_are : entries_of pages ≡ entries
+  pub guide : Guide filter fences (pages ++ behind)
