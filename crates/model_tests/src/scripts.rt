@@ -6,9 +6,13 @@ use crate::asserts::{assert_same, assert_that};
 use crate::samples::{key, sink, value};
 use blsm_model::{Annals, Entry, Line, Op, Reply, Room, Row, RowList, Totals, Value, Why};
 use refusal::Failed;
-use script_text::{MOST_LINES, MOST_ROWS_ASKED, Script, ScriptFault, print_history, read_script};
+use script_text::{
+    LONGEST_LINE, MOST_LINES, MOST_ROWS_ASKED, Piece, Script, ScriptFault, print_charge, print_end,
+    print_entry, print_history, read_line, read_script,
+};
 use std::alloc::Global;
 use std::process::Abort;
+use text_io::MemSink;
 
 const SCRIPT: &[u8] = b"1 put a 5 hi
 16 add n 18446744073709551615
@@ -132,6 +136,36 @@ fn the_first_bad_line_is_named(rt: HostRuntime) {
     for &(text, wanted) in &CASES {
         assert_same(&rt, count_lines(rt.alloc(), text), wanted);
     }
+}
+
+#[test]
+fn a_line_is_read_without_its_end(rt: HostRuntime) {
+    let get = Line {
+        seat: 15,
+        op: Op::Get(key(&rt, b"a")),
+    };
+    assert_that(&rt, read_line(b"16 get a") == Some(get));
+    for bytes in [b"16 get a\n".as_slice(), b"17 get a", b"0 get a", b""] {
+        assert_that(&rt, read_line(bytes).is_none());
+    }
+}
+
+// A put by caller 16 of a key of 64 bytes, a count of 20 digits and a text of so many.
+fn longest_put(rt: &impl Abort, alloc: Global, text: u32) -> Vec<u8> {
+    let mut line = repeated(rt, alloc, b"16 put ", 1);
+    add_text(rt, &mut line, repeated(rt, alloc, b"k", 64).as_slice());
+    add_text(rt, &mut line, b" 18446744073709551615 ");
+    add_text(rt, &mut line, repeated(rt, alloc, b"t", text).as_slice());
+    line
+}
+
+#[test]
+fn the_longest_line_has_its_length(rt: HostRuntime) {
+    let longest = longest_put(&rt, rt.alloc(), 435);
+    assert_same(&rt, longest.len(), LONGEST_LINE);
+    assert_that(&rt, read_line(longest.as_slice()).is_some());
+    let longer = longest_put(&rt, rt.alloc(), 436);
+    assert_that(&rt, read_line(longer.as_slice()).is_none());
 }
 
 #[test]
@@ -371,6 +405,25 @@ fn a_line_is_one_call_of_the_sink(rt: HostRuntime) {
         b"end c0 16 of 65536 callers 0 workers 0 swaps 0 0\n",
     ];
     is_printed_in(&rt, rt.alloc(), &annals, &lines);
+}
+
+// Printed line by line, the first four entries are the whole text.
+fn print_lines(rt: &impl Abort, sink: &mut MemSink, annals: &Annals) {
+    assert_same(rt, print_charge(sink, 0), Ok(()));
+    let mut piece = Piece::new();
+    for place in 0..4u32 {
+        assert!(rt; (place as usize) < annals.len());
+        assert_same(rt, print_entry(sink, &mut piece, annals, place), Ok(()));
+    }
+    assert_same(rt, print_end(sink, &totals(16)), Ok(()));
+}
+
+#[test]
+fn a_history_is_its_lines(rt: HostRuntime) {
+    let annals = four_entries(&rt, rt.alloc());
+    let mut sink = sink(&rt, rt.alloc(), 1000, &[]);
+    print_lines(&rt, &mut sink, &annals);
+    is_printed(&rt, rt.alloc(), 0, &annals, &totals(16), sink.bytes());
 }
 
 #[test]

@@ -5,7 +5,8 @@ use refusal::Failed;
 use std::alloc::Global;
 use std::process::Abort;
 use text_io::{
-    FaultlessSink, FaultlessSource, MemSource, ReadFault, Sink, Source, read_all, write_all,
+    FaultlessSink, FaultlessSource, LineFault, Lines, MemSource, ReadFault, Sink, Source, read_all,
+    write_all,
 };
 
 fn source(rt: &impl Abort, alloc: Global, bytes: &[u8], fails: &[u64]) -> MemSource {
@@ -121,4 +122,91 @@ fn a_source_is_read_in_one_piece_or_several(rt: HostRuntime) {
     is_read_whole(&rt, rt.alloc(), b"abcde");
     let long = vec![in rt.alloc(); 7u8; 10000].expect(&rt, "memory");
     is_read_whole(&rt, rt.alloc(), long.as_slice());
+}
+
+// A source that gives at most so many bytes a call.
+fn pieces(rt: &impl Abort, alloc: Global, bytes: &[u8], most: usize, fails: &[u64]) -> MemSource {
+    assert!(rt; 0 < most);
+    MemSource::in_pieces(alloc, bytes, most, fails).expect(rt, "memory")
+}
+
+#[test]
+fn a_call_gives_a_piece_at_most(rt: HostRuntime) {
+    let mut source = pieces(&rt, rt.alloc(), b"abc", 2, &[2]);
+    gives(&rt, &mut source, b"ab");
+    read_fails(&rt, &mut source);
+    gives(&rt, &mut source, b"c");
+    gives(&rt, &mut source, b"");
+}
+
+// The next line is this one.
+fn goes_to(rt: &impl Abort, lines: &mut Lines, source: &mut MemSource, line: &[u8]) {
+    assert_same(rt, lines.next(source), Ok(true));
+    assert_same(rt, lines.line(), line);
+}
+
+fn no_line(
+    rt: &impl Abort,
+    lines: &mut Lines,
+    source: &mut MemSource,
+    why: Result<bool, LineFault>,
+) {
+    assert_same(rt, lines.next(source), why);
+}
+
+#[test]
+fn lines_come_whole_in_pieces_of_any_length(rt: HostRuntime) {
+    for most in 1..18usize {
+        let mut source = pieces(&rt, rt.alloc(), b"one\n\nthree\n", most, &[]);
+        let mut lines = Lines::new(5);
+        goes_to(&rt, &mut lines, &mut source, b"one");
+        goes_to(&rt, &mut lines, &mut source, b"");
+        goes_to(&rt, &mut lines, &mut source, b"three");
+        no_line(&rt, &mut lines, &mut source, Ok(false));
+    }
+}
+
+#[test]
+fn a_line_without_its_end_is_none(rt: HostRuntime) {
+    for most in 1..18usize {
+        let mut source = pieces(&rt, rt.alloc(), b"one\ntwo", most, &[]);
+        let mut lines = Lines::new(3);
+        goes_to(&rt, &mut lines, &mut source, b"one");
+        no_line(&rt, &mut lines, &mut source, Err(LineFault::CutOff));
+    }
+}
+
+#[test]
+fn a_line_that_is_too_long_is_none(rt: HostRuntime) {
+    for most in 1..18usize {
+        let mut source = pieces(&rt, rt.alloc(), b"one\nfour\n", most, &[]);
+        let mut lines = Lines::new(3);
+        goes_to(&rt, &mut lines, &mut source, b"one");
+        no_line(&rt, &mut lines, &mut source, Err(LineFault::TooLong));
+    }
+}
+
+#[test]
+fn a_line_that_waits_asks_no_source(rt: HostRuntime) {
+    let mut source = pieces(&rt, rt.alloc(), b"a\nb\nc\n", 5, &[2]);
+    let mut lines = Lines::new(3);
+    goes_to(&rt, &mut lines, &mut source, b"a");
+    goes_to(&rt, &mut lines, &mut source, b"b");
+    no_line(&rt, &mut lines, &mut source, Err(LineFault::Failed));
+    goes_to(&rt, &mut lines, &mut source, b"c");
+}
+
+// As many lines as fill more than two pieces of the reader.
+#[test]
+fn lines_come_whole_over_the_ends_of_pieces(rt: HostRuntime) {
+    let mut text = Vec::new(rt.alloc());
+    for _ in 0..1500 {
+        text.extend_from_slice(b"abcdef\n").expect(&rt, "memory");
+    }
+    let mut source = source(&rt, rt.alloc(), text.as_slice(), &[]);
+    let mut lines = Lines::new(528);
+    for _ in 0..1500 {
+        goes_to(&rt, &mut lines, &mut source, b"abcdef");
+    }
+    no_line(&rt, &mut lines, &mut source, Ok(false));
 }

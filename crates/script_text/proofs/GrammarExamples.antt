@@ -10,7 +10,8 @@ use Rattle.blsm_model.specs.declared.op.Op.TheVariants.{Put, Del, Get, Hold, Nex
 use Rattle.blsm_model.specs.declared.history.Line.{Line}
 use Rattle.blsm_model.specs.Printed.{command_text}
 use Rattle.script_text.specs.Grammar.{IsAllowed, IsBadLine, IsCommand, IsKey, IsLine, IsScript, IsText, IsVisible, all_rows_asked, lines_text}
-use Rattle.script_text.specs.Reading.{BeginsAsNumber, Lacks}
+use Rattle.script_text.specs.Reading.{BeginsAsNumber}
+use Rattle.text_io.specs.Lines.{Lacks}
 use Rattle.script_text.proofs.GrammarLaws.{line_some}
 use Rattle.script_text.proofs.ReadLemmas.{decimal_begins, decimal_lacks, heads, one_cut}
 use Rattle.blsm_model.specs.Scripts.{rows_of}

@@ -5,18 +5,19 @@ use Rattle.std.proofs.Common.{◌≡◌, ◌≢◌, ℕ, ◌+◌, ◌^◌, ◌<�
 use Rattle.std.specs.List.{All}
 use Rattle.std.proofs.lemmas.List.Elements.{All-head, All-tail, All-cons, All-append, All-drop, All-from_recursion}
 use Rattle.std.proofs.lemmas.List.Sums.{sum_by-append, sum_by-cons}
-use Rattle.std.proofs.lemmas.Fmt.{decimal_injective, decimal_nonempty}
+use Rattle.std.proofs.lemmas.Fmt.{decimal_injective, decimal_nonempty, length-decimal-le}
 use Rattle.std.proofs.Math.Seq.{drop-append_seam}
 use Rattle.blsm_model.specs.declared.row.Value.{Value}
 use Rattle.blsm_model.specs.declared.op.Op.{Op}
 use Rattle.blsm_model.specs.declared.op.Op.TheVariants.{Put, Add, Tail, Del, Get, Hold, Next, Release, Work}
 use Rattle.blsm_model.specs.declared.history.Line.{Line}
 use Rattle.blsm_model.specs.Printed.{and_number, and_value, and_word, command_text, spelled}
-use Rattle.script_text.specs.Grammar.{IsAllowed, IsBadLine, IsCommand, IsKey, IsLine, IsOnlyBadLine, IsOnlyReading, IsScript, IsText, all_rows_asked, first_line, line_text, lines_text}
+use Rattle.script_text.specs.Grammar.{IsAllowed, IsBadLine, IsCommand, IsKey, IsLine, IsOnlyBadLine, IsOnlyReading, IsScript, IsText, all_rows_asked, first_line, line_text, lines_text, longest_line}
+use Rattle.blsm_model.specs.Format.{most_text}
 use Rattle.script_text.specs.declared.script.ScriptFault.{ScriptFault}
 use Rattle.script_text.specs.declared.script.ScriptFault.TheVariants.{Bad, NoMemory}
 use Rattle.script_text.specs.Script.{IfBad}
-use Rattle.script_text.specs.Reading.{Lacks}
+use Rattle.text_io.specs.Lines.{Lacks}
 use Rattle.script_text.proofs.ReadLemmas.{one_cut, decimal_lacks, visible_lacks, heads}
 use Rattle.script_text.proofs.ScriptLemmas.{first_line_is}
 use Rattle.blsm_model.specs.Scripts.{rows_of}
@@ -113,6 +114,30 @@ line_lacks line allowed =
 
 pub line_some : (line : Line) → IsAllowed line → 0 < length (line_text line)
 line_some line allowed = omega (arith, decimal_nonempty (line.seat + 1) (seat_small line allowed), length-append (decimal (line.seat + 1)) (and_word (command_text line.op)))
+
+-- no line is longer than the longest
+spelled_fits : (text : List ℕ) → length text ≤ most_text → length (spelled text) ≤ most_text
+spelled_fits [] fits = omega arith
+spelled_fits (byte ∷ bytes) fits = fits
+
+number_fits : (n : ℕ) → n < 2 ^ 64 → length (and_number n) ≤ 21
+number_fits n small = omega (arith, length-decimal-le 20 n (omega arith) (omega arith) small)
+
+command_fits : (op : Op) → IsCommand op → length (command_text op) ≤ 525
+command_fits (Put key value) (is_key, small, is_text) =
+    omega (arith, length-append (codes "put" ++ and_word key) (and_value value), length-append (codes "put") (and_word key), length-append (and_number value.count) (and_word (spelled value.text)), number_fits value.count small, spelled_fits value.text is_text.fits, is_key.fits)
+command_fits (Add key count) (is_key, small) = omega (arith, length-append (codes "add" ++ and_word key) (and_number count), length-append (codes "add") (and_word key), number_fits count small, is_key.fits)
+command_fits (Tail key tail) (is_key, is_tail) = omega (arith, length-append (codes "tail" ++ and_word key) (and_word tail), length-append (codes "tail") (and_word key), is_key.fits, is_tail.fits)
+command_fits (Del key) is_key = omega (arith, length-append (codes "del") (and_word key), is_key.fits)
+command_fits (Get key) is_key = omega (arith, length-append (codes "get") (and_word key), is_key.fits)
+command_fits (Hold low high) (is_low, is_high) = omega (arith, length-append (codes "hold" ++ and_word low) (and_word high), length-append (codes "hold") (and_word low), is_low.fits, is_high.fits)
+command_fits (Next n) allowed = omega (arith, length-append (codes "next") (and_number n), number_fits n (omega (arith, allowed.1)))
+command_fits Release allowed = omega arith
+command_fits (Work n) allowed = omega (arith, length-append (codes "work") (and_number n), number_fits n (omega (arith, allowed.1)))
+
+pub line_fits : (bytes : List ℕ) (line : Line) → IsLine bytes line → length bytes ≤ longest_line
+line_fits bytes line is =
+    omega (arith, ap length is.spelled, length-append (decimal (line.seat + 1)) (and_word (command_text line.op)), length-decimal-le 2 (line.seat + 1) (omega arith) (omega (arith, is.allowed.seat)) (seat_small line is.allowed), command_fits line.op is.allowed.command)
 
 -- the first line, its end, and the rest
 opened : (x : Line) (xs : List Line) (r : List ℕ) → lines_text (x ∷ xs) ++ r ≡ line_text x ++ 10 ∷ (lines_text xs ++ r)

@@ -36,6 +36,11 @@ entries_joined : (place : ℕ) (es fs : List Entry) (qs rs : List ℕ) (e : Entr
     → entries_text place (es ++ e ∷ fs) (qs ++ q ∷ rs) ≡ (entries_text place es qs ++ entry_text n e q) ++ entries_text (n + 1) fs rs
 entries_joined place es fs qs rs e q n h1 h2 = grind (arith, common_steps, nat_tests, entries_text-append, append_assoc)
 
+-- a text with one entry more
+pub entries_and_one : (place : ℕ) (es : List Entry) (qs : List ℕ) (e : Entry) (q n : ℕ) → length qs ≡ length es → place + length es ≡ n
+    → entries_text place (es ++ e ∷ []) (qs ++ q ∷ []) ≡ entries_text place es qs ++ entry_text n e q
+entries_and_one place es qs e q n same here = entries_joined place es [] qs [] e q n same here ∙ append-nil (entries_text place es qs ++ entry_text n e q)
+
 pub as_long : (es : List Entry) (qs : List ℕ) (i : ℕ) → length qs ≡ length es → i < length es → length (take i qs) ≡ length (take i es)
 as_long es qs i same within = length-take-le i qs (omega arith) ∙ sym (length-take-le i es (omega arith))
 

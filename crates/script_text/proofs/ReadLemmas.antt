@@ -18,11 +18,12 @@ use Rattle.blsm_model.specs.declared.row.Value.{Value}
 use Rattle.blsm_model.specs.declared.op.Op.{Op}
 use Rattle.blsm_model.specs.declared.op.Op.TheVariants.{Put, Add, Tail, Del, Get, Hold, Next, Release, Work}
 use Rattle.blsm_model.specs.Printed.{command_text, and_value, and_number, and_word}
-use Rattle.script_text.specs.declared.read_line.Verb.{Verb}
-use Rattle.script_text.specs.declared.read_line.Verb.TheVariants as verb
+use Rattle.script_text.specs.declared.line.Verb.{Verb}
+use Rattle.script_text.specs.declared.line.Verb.TheVariants as verb
 use Rattle.blsm_model.specs.Format.{callers}
 use Rattle.script_text.specs.Grammar.{IsVisible, IsCommand, IsKey, IsTail, IsText}
-use Rattle.script_text.specs.Reading.{Reads, Lacks, IsJoined, BeginsAsNumber, Spells, SpellsArguments, verb_text}
+use Rattle.script_text.specs.Reading.{Reads, IsJoined, BeginsAsNumber, Spells, SpellsArguments, verb_text}
+use Rattle.text_io.specs.Lines.{Lacks}
 
 -- an answer of none
 pub reads_nothing : {X : Type 0} {P : X → Type 0} {result : Option X} → result ≡ None → ((x : X) → P x → ⊥) → MatchOption result ((x : X) → P x → ⊥) (λ x. P x)

@@ -9,7 +9,8 @@ use Rattle.std.proofs.lemmas.Bool.Decides.{eqb_tells, nat_tests}
 use Rattle.std.proofs.Math.Seq.{take-append_seam, take-length}
 use Rattle.blsm_model.specs.declared.history.Line.{Line}
 use Rattle.script_text.specs.Grammar.{AsksTooMuch, IsAllowed, IsBadLine, IsLine, all_rows_asked, first_line, line_text, lines_text}
-use Rattle.script_text.specs.Reading.{IsJoined, Lacks}
+use Rattle.script_text.specs.Reading.{IsJoined}
+use Rattle.text_io.specs.Lines.{Lacks}
 
 -- the lines are what was read, and the rest is still to be read; a last line without an end leaves nothing
 pub data SoFar (text : List ℕ) (lines : List Line) (rest : List ℕ) : Type 0 where

@@ -55,6 +55,10 @@ pub record IsLine (bytes : List ℕ) (line : Line) : Type 0 where
   pub allowed : IsAllowed line
   pub spelled : bytes ≡ line_text line
 
+-- how many bytes the longest line has, without its end: a put by a caller of two digits, of a count of twenty
+abbrev pub longest_line : ℕ
+longest_line = 2 + 1 + 3 + (1 + most_key) + (1 + 20) + (1 + most_text)
+
 -- how many rows these lines ask for together
 abbrev pub all_rows_asked : List Line → ℕ
 all_rows_asked lines = sum_by (λ line. rows_of line.op) lines

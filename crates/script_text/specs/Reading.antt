@@ -1,9 +1,8 @@
 -- What the parts of a line spell, and what a reader of one answers.
-use Rattle.std.specs.Prelude.{◌≡◌, ◌≢◌, ℕ, ◌<◌, ◌≤◌, List, ◌∷◌, ◌++◌, codes, length, slice_index, Option, Some, None, MatchOption}
-use Rattle.std.specs.List.{All}
+use Rattle.std.specs.Prelude.{◌≡◌, ℕ, ◌<◌, ◌≤◌, List, ◌∷◌, ◌++◌, codes, length, slice_index, Option, Some, None, MatchOption}
 use Rattle.blsm_model.specs.declared.op.Op.{Op}
-use Rattle.script_text.specs.declared.read_line.Verb.{Verb}
-use Rattle.script_text.specs.declared.read_line.Verb.TheVariants as verb
+use Rattle.script_text.specs.declared.line.Verb.{Verb}
+use Rattle.script_text.specs.declared.line.Verb.TheVariants as verb
 use Rattle.blsm_model.specs.Printed.{command_text}
 use Rattle.script_text.specs.Grammar.{IsCommand}
 
@@ -14,10 +13,6 @@ Spells text IsAllowed bytes x = (bytes ≡ text x) × IsAllowed x
 -- the answer is what the bytes spell, and there is none only where they spell nothing
 abbrev pub Reads : {X : Type 0} → (List ℕ → X → Type 0) → List ℕ → Option X → Type 0
 Reads {X} P bytes result = MatchOption result ((x : X) → P bytes x → ⊥) (λ x. P bytes x)
-
--- the byte isn't among these
-abbrev pub Lacks : ℕ → List ℕ → Type 0
-Lacks mark bytes = All (λ byte. byte ≢ mark) bytes
 
 -- the bytes are the front, and behind a mark the rest, if there is one
 abbrev pub IsJoined : ℕ → List ℕ → List ℕ → Option (List ℕ) → Type 0

@@ -4,16 +4,17 @@
 
 mod command;
 mod generator;
+mod line;
 mod piece;
 mod print;
-mod read_line;
 mod read_word;
 mod reply;
 mod script;
 mod summary;
 
 pub use generator::{MADE_KEYS, generate, made_histories};
+pub use line::{LONGEST_LINE, read_line};
 pub use piece::{LONGEST, Piece};
-pub use print::print_history;
+pub use print::{print_charge, print_end, print_entry, print_history};
 pub use script::{MOST_LINES, MOST_ROWS_ASKED, Script, ScriptFault, read_script};
 pub use summary::print_summary;

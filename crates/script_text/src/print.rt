@@ -91,8 +91,9 @@ fn print_rows_line<K: Sink>(
     print_end_of_line(sink, piece, quanta)
 }
 
-// The entry at a place, which is counted from 0. What the piece had is gone.
-fn print_entry<K: Sink>(
+/// Prints the entry at a place, which is counted from 0, as one line of a history. What the piece had is gone.
+/// Where the sink fails, a front of the line was written, and not the whole. It takes no memory.
+pub fn print_entry<K: Sink>(
     sink: &mut K,
     piece: &mut Piece,
     annals: &Annals,
@@ -121,8 +122,9 @@ fn print_entries<K: Sink>(sink: &mut K, annals: &Annals) -> Result<(), Failed>
     Ok(())
 }
 
-// The last line.
-fn print_end<K: Sink>(sink: &mut K, totals: &Totals) -> Result<(), Failed>
+/// Prints the last line of a history: the totals.
+/// Where the sink fails, a front of the line was written, and not the whole.
+pub fn print_end<K: Sink>(sink: &mut K, totals: &Totals) -> Result<(), Failed>
     ensures { Writes (end_text totals.now) result (K.state sink.old) (K.state sink.new) }
 {
     let mut piece = Piece::new();
@@ -136,8 +138,9 @@ fn print_end<K: Sink>(sink: &mut K, totals: &Totals) -> Result<(), Failed>
     write_all(sink, piece.as_slice())
 }
 
-// The first line.
-fn print_charge<K: Sink>(sink: &mut K, charge: u64) -> Result<(), Failed>
+/// Prints the first line of a history: the charge at the opening, in bytes.
+/// Where the sink fails, a front of the line was written, and not the whole.
+pub fn print_charge<K: Sink>(sink: &mut K, charge: u64) -> Result<(), Failed>
     ensures { Writes (codes "open charge" ++ and_number charge ++ 10 ∷ []) result (K.state sink.old) (K.state sink.new) }
 {
     let mut piece = Piece::new();

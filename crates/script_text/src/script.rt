@@ -8,7 +8,7 @@ ghost use Rattle.script_text.specs.Grammar.{AreLines, IsAllowed, IsBadLine, IsOn
 ghost use Rattle.script_text.specs.Script.{IfBad};
 ghost use Rattle.script_text.specs.declared.script.ScriptFault.TheVariants.{NoMemory};
 
-use crate::read_line::{cut, read_line};
+use crate::line::{cut, read_line};
 use blsm_model::{CALLERS, Line, Op, Room};
 use std::alloc::{AllocFailed, Global};
 use std::marker::Model;

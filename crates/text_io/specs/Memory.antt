@@ -4,6 +4,8 @@ use Rattle.std.specs.Prelude.{ℕ, List}
 -- a text of which so much is left, whose listed calls fail
 pub record ListedSource : Type 0 where
   pub left : List ℕ
+  -- how many bytes a call gives at most
+  pub most : ℕ
   pub fails : List ℕ
   -- how many calls there were
   pub calls : ℕ

@@ -3,10 +3,12 @@
 //! The crates that read a script, print a history or run a program may use it.
 #![tactic(auto)]
 
+mod lines;
 mod sink;
 mod source;
 mod whole;
 
+pub use lines::{LineFault, Lines};
 pub use sink::{FaultlessSink, MemSink, Sink};
 pub use source::{FaultlessSource, MemSource, Source};
 pub use whole::{ReadFault, read_all, write_all};

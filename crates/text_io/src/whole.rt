@@ -51,7 +51,7 @@ impl From<AllocError> for ReadFault {
 }
 
 // How many bytes one call reads at most.
-const PIECE: usize = 4096;
+pub(crate) const PIECE: usize = 4096;
 
 /// Reads to the end, at most `limit` bytes. An answer that isn't `Ok` leaves the source behind the bytes that were read, of which
 /// there are at most 4,096 more than the limit.

@@ -6,10 +6,15 @@ ghost use Rattle.blsm_model.specs.declared.op.Op.TheVariants.{Release};
 ghost use Rattle.blsm_model.specs.declared.row.Value.{Value};
 ghost use Rattle.blsm_model.specs.Printed.{and_number, and_value, and_word, command_text, spelled};
 ghost use Rattle.script_text.specs.Grammar.{IsCommand, IsKey, IsLine, IsTail, IsText};
-ghost use Rattle.script_text.specs.Reading.{IsJoined, Lacks, Reads, Spells, SpellsArguments, verb_text};
+ghost use Rattle.script_text.specs.Reading.{IsJoined, Reads, Spells, SpellsArguments, verb_text};
+ghost use Rattle.text_io.specs.Lines.{Lacks};
 
+use crate::piece::COMMAND;
 use crate::read_word::{read_count, read_key, read_number, read_seat, read_tail, read_text};
 use blsm_model::{Key, Line, Op, RowList, Text, Value};
+
+/// How many bytes the longest line has, without its end: the caller's number, and the longest command.
+pub const LONGEST_LINE: usize = 2 + 1 + COMMAND;
 
 // How many turns of merging a line may ask for.
 const MOST_TURNS: u32 = 100_000;
@@ -154,7 +159,7 @@ fn read_command(bytes: &[u8]) -> Option<Op>
     }
 }
 
-/// The line that the bytes spell, without its end.
+/// The line that the bytes spell, without its end, if they spell one. It takes no memory.
 pub fn read_line(bytes: &[u8]) -> Option<Line>
     ensures { Reads IsLine bytes.now result }
 {

@@ -1,7 +1,7 @@
 use Rattle.std.proofs.Common.{◌+◌, arith, decimal}
 use Rattle.blsm_model.specs.Printed.{command_text}
 use Rattle.script_text.proofs.ReadLemmas.{reads_nothing, no_rest, cut_is, decimal_lacks}
-use Rattle.script_text.proofs.read_line.read_line.Goals as goal
+use Rattle.script_text.proofs.line.read_line.Goals as goal
 
 pub returns-in_err-rest : goal.returns-in_err-rest
 returns-in_err-rest c =

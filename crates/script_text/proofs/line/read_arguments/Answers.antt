@@ -1,5 +1,5 @@
 use Rattle.script_text.proofs.ReadLemmas.{reads_nothing, no_put, no_add, no_hold, no_next, no_tail, no_work}
-use Rattle.script_text.proofs.read_line.read_arguments.Goals as goal
+use Rattle.script_text.proofs.line.read_arguments.Goals as goal
 
 pub returns-in_err-key-in-Put : goal.returns-in_err-key-in-Put
 returns-in_err-key-in-Put c =

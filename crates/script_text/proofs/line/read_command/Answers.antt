@@ -1,5 +1,5 @@
 use Rattle.script_text.proofs.ReadLemmas.{reads_nothing, reads_bare, worded_is}
-use Rattle.script_text.proofs.read_line.read_command.Goals as goal
+use Rattle.script_text.proofs.line.read_command.Goals as goal
 
 pub returns-in_err-read_verb-in-Some : goal.returns-in_err-read_verb-in-Some
 returns-in_err-read_verb-in-Some c =

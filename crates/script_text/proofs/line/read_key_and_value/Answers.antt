@@ -2,7 +2,7 @@ use Rattle.std.proofs.Common.{arith, decimal}
 use Rattle.blsm_model.specs.Printed.{spelled, and_word}
 use Rattle.std.proofs.Common.{◌++◌}
 use Rattle.script_text.proofs.ReadLemmas.{reads_nothing, no_rest, cut_is, visible_lacks}
-use Rattle.script_text.proofs.read_line.read_key_and_value.Goals as goal
+use Rattle.script_text.proofs.line.read_key_and_value.Goals as goal
 
 pub returns-in_err-rest : goal.returns-in_err-rest
 returns-in_err-rest c =
