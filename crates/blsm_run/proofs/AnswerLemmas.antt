@@ -27,7 +27,7 @@ use Rattle.blsm_run.specs.declared.status.Status.{Status}
 use Rattle.blsm_run.specs.declared.status.Status.TheVariants.{Done, NoMemory}
 use Rattle.blsm_run.specs.Outside.{IsQuietCount, OfTheDisk, Outside}
 use Rattle.blsm_run.specs.Outcome.{Outcome, refused, made, ran, checked, tried, Tells, status_of}
-use Rattle.blsm_run.specs.Stores.{WasCalm, WasRefused, WasLookedAt, HasRunOn}
+use Rattle.blsm_run.specs.Stores.{WasCalm, WasRefused, WasLookedAt}
 use Rattle.blsm_run.specs.Cause.{Cause, WasAsked, AsksToRun}
 use Rattle.blsm_run.specs.Answer.{Answers, IsGranted, IsOpenable, HasDisk, CanBeDone}
 use Rattle.blsm_run.proofs.TrialLemmas.{ends_trial}
@@ -106,11 +106,15 @@ module _ {D : Type 0} (state : D → DiskState) (honest_tells : (d : D) → IsTr
     completes (refused refusal.NoMemory) status cause is = inr is
     completes (made length) status cause is = inl is
     completes (ran history ending.Well) status cause is = inl is
-    completes (ran history ending.Faulted) status (lines, a, runs) is = absurd (omega (arith, granted.shelf_quiet.0, granted.shelf_quiet.1, runs.ended, runs.rose))
+    completes (ran history ending.Faulted) status (lines, a, runs) is = absurd (omega (arith, granted.shelf_quiet.0, granted.shelf_quiet.1, runs.ran.ended, runs.rose))
     completes (ran history ending.Damaged) status (lines, a, runs) is =
-        let s = said a.name IsOpenable (HasRunOn state runs.sizes lines a.workers a.turns history ending.Damaged) (can (run a.name a.workers a.turns) a.asked).0 runs.disk in
-        let whole = s.5.headline s.2 in
-        let never : true ≡ false = sym s.5.ended.1 ∙ whole.4.served.no_page in
+        let has = (can (run a.name a.workers a.turns) a.asked).0 in
+        let disk = runs.disk has.tells in
+        let same : Some disk.stood ≡ Some has.disk = sym disk.was ∙ has.stands in
+        let is_that : disk.stood ≡ has.disk = cc in
+        let honest = disk.fresh.is_honest ∙ subst (λ (d : D). IsTrue (state d).is_honest) (sym is_that) has.honest in
+        let whole = runs.ran.headline honest in
+        let never : true ≡ false = sym runs.ran.ended.1 ∙ whole.2.served.no_page in
         absurd (cc)
     completes (checked report) status cause is = inl is
     completes (tried seed count history) status cause is = inl is

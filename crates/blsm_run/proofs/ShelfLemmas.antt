@@ -119,8 +119,8 @@ module _ {D E : Type 0} {state : D → DiskState} {name : List ℕ} {old mid new
   pub runs : (lines : List Line) (workers turns : ℕ) (room : Room) (result : Result Finished Unreadable) → IsRoomOf room lines
       → IfOk result (λ finished. (sizes : Sizes) × HasLengthOf sizes (state disk) × IsRunOf sizes lines workers turns (run_of finished)) → IfOk result (λ finished. CameToEnd workers turns (run_of finished))
       → IfOk result (λ finished. AreCounted (run_of finished) (state disk) (state last)) → IfOk result (λ finished. IsEnding finished.ending (run_of finished) (state last).faults)
-      → IfOk result (λ finished. HasCauses state (run_of finished) last) → StaysWithin (state disk) (state last)
-      → (IsTrue (state disk).is_honest → IfOk result (λ finished. (sizes : Sizes) × IsRunOf sizes lines workers turns (run_of finished) × Headline state sizes lines workers turns (run_of finished) room (state disk) (state last)))
+      → IfOk result (λ finished. HasCauses state room (run_of finished) disk last) → StaysWithin (state disk) (state last)
+      → (IsTrue (state disk).is_honest → IfOk result (λ finished. (sizes : Sizes) × IsRunOf sizes lines workers turns (run_of finished) × Headline state sizes lines workers turns (run_of finished) room disk last))
       → (IsTrue (state disk).is_honest → IfErr result (λ why. IsWhy why (state disk).bytes))
       → ((sizes : Sizes) (pairs : List (Key × Value)) → IsTrue (state disk).is_honest → ReadsAsMap sizes pairs (state disk).bytes → IfErr result (λ why. KeepsMapOf sizes pairs (state disk) (state last)))
       → (IsTrue (state disk).is_honest → ReadsAsNone (state disk).bytes → LeavesOnly (state disk) (state last) (state disk).images)
@@ -132,19 +132,20 @@ module _ {D E : Type 0} {state : D → DiskState} {name : List ℕ} {old mid new
     printed = printed.2;
     came = came;
     fetched = fetched f b;
-    disk =
-        of_the_disk f b (HasRunOn state printed.0 lines workers turns (run_of finished) finished.ending) (record {
-          counted = counted;
-          ended = ended;
-          within = inside;
-          long = printed.1;
-          headline = λ honest. let said = headline honest in (said.0, room, has_room, said.1, said.2);
-        });
+    first = disk;
     last = last;
-    back = given_back f b;
-    causes = causes;
-    count = (state last).faults;
-    ended = ended;
+    disk = λ tells_disks. let stood = (f.taken tells_disks).stood in record { stood = stood.0; was = stood.1; fresh = stood.2; back = given_back f b tells_disks };
+    ran = record {
+      counted = counted;
+      ended = ended;
+      within = inside;
+      long = printed.1;
+      room = room;
+      room_is = has_room;
+      causes = causes;
+      headline = headline;
+    };
+    fresh = f.count;
     rose = grind (arith, stands f b, b.faults);
     faults = grind (arith, stands f b, b.faults, f.count, counted.risen);
   }

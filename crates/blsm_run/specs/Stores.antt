@@ -6,7 +6,7 @@ use Rattle.disk_trait.specs.Effects.{Affects}
 use Rattle.disk_trait.specs.Moments.{IsUnwritten, LeavesOnly}
 use Rattle.disk_trait.specs.Reads.{OnlyReads}
 use Rattle.disk_trait.specs.Region.{span}
-use Rattle.disk_trait.specs.Shelf.{ShelfState, KeepsDisks}
+use Rattle.disk_trait.specs.Shelf.{IsFreshCount, ShelfState, KeepsDisks}
 use Rattle.blsm_model.specs.Geometry.{file_length}
 use Rattle.blsm_model.specs.Sizes.{Sizes}
 use Rattle.blsm_model.specs.declared.history.Line.{Line}
@@ -88,15 +88,26 @@ pub record WasRefused (why : Unreadable) (first last : DiskState) : Type 0 where
   -- where the file is why, each image of each moment is one from before
   pub spares : IsTrue first.is_honest → IsOfFile why → LeavesOnly first last first.images
 
--- A script was run over the disk, beside so many merge workers with so many turns each, with these sizes. On an honest one the headline holds, from a
--- state with room for just each caller's lines.
-pub record HasRunOn {D : Type 0} (state : D → DiskState) (sizes : Sizes) (lines : List Line) (workers turns : ℕ) (run : Run) (ending : Ending) (first last : DiskState) : Type 0 where
-  pub counted : AreCounted run first last
-  pub ended : IsEnding ending run last.faults
-  pub within : StaysWithin first last
+-- A script was run over the disk, beside so many merge workers with so many turns each, with these sizes, from a state with room for just each caller's
+-- lines. On an honest one the headline holds.
+pub record HasRunOn {D : Type 0} (state : D → DiskState) (sizes : Sizes) (lines : List Line) (workers turns : ℕ) (run : Run) (ending : Ending) (first last : D) : Type 0 where
+  pub counted : AreCounted run (state first) (state last)
+  pub ended : IsEnding ending run (state last).faults
+  pub within : StaysWithin (state first) (state last)
   -- the file was as long as a store of these sizes is
-  pub long : HasLengthOf sizes first
-  pub headline : IsTrue first.is_honest → (sizes : Sizes) × (room : Room) × IsRoomOf room lines × IsRunOf sizes lines workers turns run × Headline state sizes lines workers turns run room first last
+  pub long : HasLengthOf sizes (state first)
+  pub room : Room
+  pub room_is : IsRoomOf room lines
+  -- why each reply is so, and what stopped the store, by the calls that led to this disk
+  pub causes : HasCauses state room run first last
+  pub headline : IsTrue (state first).is_honest → (sizes : Sizes) × IsRunOf sizes lines workers turns run × Headline state sizes lines workers turns run room first last
+
+-- The disk of the name was fetched as this one, its count of faults at 0 and all else as it stood, and that one stands there again.
+pub record IsDiskOf {D : Type 0} (state : D → DiskState) (name : List ℕ) (first last : D) (old new : ShelfState D) : Type 0 where
+  pub stood : D
+  pub was : old.disk_at name ≡ Some stood
+  pub fresh : IsFreshCount (state stood) (state first)
+  pub back : new.disk_at name ≡ Some last
 
 -- A script was run over the disk of this name of a shelf.
 pub record IsRunOnShelf {D : Type 0} (state : D → DiskState) (name : List ℕ) (lines : List Line) (workers turns : ℕ) (run : Run) (ending : Ending) (old new : ShelfState D) : Type 0 where
@@ -106,15 +117,14 @@ pub record IsRunOnShelf {D : Type 0} (state : D → DiskState) (name : List ℕ)
   -- how callers and workers ended
   pub came : CameToEnd workers turns run
   pub fetched : HasFetched name false old new
-  pub disk : OfTheDisk state name old new (HasRunOn state sizes lines workers turns run ending)
-  -- why each reply is so, and what stopped the store, by the calls that led to the disk that was given back
+  -- the disk as it was fetched, and as it was given back, and what was done to it in between
+  pub first : D
   pub last : D
-  pub back : IsTrue old.tells_disks → new.disk_at name ≡ Some last
-  pub causes : HasCauses state run last
-  -- it ended by the disk's own count of faults, by which the shelf's rose, and by what was found
-  pub count : ℕ
-  pub ended : IsEnding ending run count
-  pub rose : new.faults ≡ min (old.faults + count) (2 ^ 64 - 1)
+  pub disk : IsTrue old.tells_disks → IsDiskOf state name first last old new
+  pub ran : HasRunOn state sizes lines workers turns run ending first last
+  -- its count of faults began at 0, and the shelf's rose by it
+  pub fresh : (state first).faults ≡ 0
+  pub rose : new.faults ≡ min (old.faults + (state last).faults) (2 ^ 64 - 1)
   -- faults are told only as often as the shelf's count rose
   pub faults : HasRisenBy (faults_told run.entries) old.faults new.faults
 

@@ -4,6 +4,8 @@ pub mod FaultLemmas
 pub mod TellLemmas
 pub mod QuantaLemmas
 pub mod HelpLemmas
+pub mod RestLemmas
+pub mod SyncLemmas
 pub mod StepLemmas
 pub mod RowLemmas
 pub mod DamageLemmas

@@ -1,5 +1,5 @@
 -- On an honest disk each call is a step of the machine, and so a chain of them is a list of steps.
-use Rattle.std.proofs.Common.{◌≡◌, ◌∙◌, ⊎_elim, ℕ, ◌+◌, ◌≤◌, Bool, true, cond, List, [], ◌∷◌, None, Some, length, refl, ap, sym, subst, arith}
+use Rattle.std.proofs.Common.{◌≡◌, ◌∙◌, ℕ, ◌+◌, ◌≤◌, Bool, true, false, cond, List, [], ◌∷◌, ◌++◌, None, Some, length, length-append, refl, ap, sym, subst, arith}
 use Rattle.std.proofs.lemmas.Grind.{common_steps}
 use Rattle.std.proofs.lemmas.Bool.Decides.{nat_tests}
 use Rattle.std.specs.Prelude.{IsSome, IsTrue, Option, map, suc, take, zero}
@@ -7,12 +7,14 @@ use Rattle.std.proofs.lemmas.Bool.{false≢true}
 use mathlib.Core.List.{IsPrefix}
 use Rattle.blsm_model.specs.Sizes.{Sizes}
 use Rattle.blsm_model.specs.declared.history.Entry.{Entry}
+use Rattle.blsm_model.specs.Legal.{is_write}
+use Rattle.blsm_model.specs.declared.history.Reply.TheVariants.{Done}
 use Rattle.blsm_model.specs.declared.history.Why.{Why}
 use Rattle.blsm_model.specs.declared.key.Key.{Key}
 use Rattle.blsm_model.specs.declared.row.Value.{Value}
 use Rattle.disk_trait.specs.Disk.{DiskState}
 use Rattle.disk_trait.specs.Moments.{IsTimed, LeavesOnly}
-use Rattle.disk_trait.proofs.MomentLemmas.{leaves_only_run, leaves_only_weaken}
+use Rattle.disk_trait.proofs.MomentLemmas.{goes_on_run, leaves_only_run, leaves_only_weaken}
 use Rattle.seat_book.specs.State.{BookState}
 use Rattle.tree_machine.specs.Machine as machine
 use Rattle.tree_machine.specs.Machine.{Machine, Turned, is_closed}
@@ -32,17 +34,19 @@ use Rattle.tree_core.specs.Holds.{StandsWhole}
 use Rattle.tree_core.specs.Steps.{IsPlayed, IsWholeStep}
 use Rattle.tree_core.proofs.BegunLemmas.{due_agree}
 use Rattle.tree_core.proofs.PlayLemmas.{history_grows, may_agrees, none_is_played, prefix_length}
-use Rattle.core_chain.specs.Steps.{AllMay, AreTimed, ChainIsSteps, IsOver, RestOnceOver, clock_after, outcomes_in}
+use Rattle.core_chain.specs.Steps.{Acknowledges, AllMay, AreTimed, ChainIsSteps, HasOwnSync, after_steps, calls_at, clock_after, most_calls_at, noted_after, outcomes_in}
 use Rattle.core_chain.specs.Tells.{calls_of}
 use Rattle.core_chain.proofs.LinkLemmas.{goes_of, link_keeps, link_rests}
-use Rattle.core_chain.proofs.TellLemmas.{link_reaches}
+use Rattle.core_chain.proofs.RestLemmas.{link_quiet}
+use Rattle.core_chain.proofs.SyncLemmas.{link_acknowledges}
+use Rattle.core_chain.proofs.TellLemmas.{chain_reaches, link_reaches}
 
 -- ---- how it calls the disk
 
--- no more often than the step may where the machine stands
-few_calls : {D : Type 0} (state : D → DiskState) (opening : List (Key × Value)) (seat : ℕ) (k : Kind) (old new : CoreState D) (m : Machine) → IsCall state seat k old new → IsCore old.held (state old.disk) → IsTrue (state old.disk).is_honest
+-- no more often than its kind may where the machine stands
+calls_of_kind : {D : Type 0} (state : D → DiskState) (opening : List (Key × Value)) (seat : ℕ) (k : Kind) (old new : CoreState D) (m : Machine) → IsCall state seat k old new → IsCore old.held (state old.disk) → IsTrue (state old.disk).is_honest
     → StandsWhole state opening old m → (state new.disk).clock ≤ (state old.disk).clock + calls_of m.gears.sizes (swaps_due m) k
-few_calls {D} state opening seat k old new m call keeps honest whole =
+calls_of_kind {D} state opening seat k old new m call keeps honest whole =
     subst (λ (s : Sizes). (state new.disk).clock ≤ (state old.disk).clock + calls_of s (swaps_due m) k) (sym whole.sizes) (by old.held.book.stopped refl)
   where
     by : (o : Option Why) → old.held.book.stopped ≡ o → (state new.disk).clock ≤ (state old.disk).clock + calls_of old.held.runs.sizes (swaps_due m) k
@@ -50,29 +54,16 @@ few_calls {D} state opening seat k old new m call keeps honest whole =
         subst (λ (n : ℕ). (state new.disk).clock ≤ (state old.disk).clock + calls_of old.held.runs.sizes n k) (sym (due_agree opening old.held m (state old.disk) whole keeps runs)) (link_reaches state seat k old new call).calls
     by (Some why) is = let same = ap (λ (d : D). (state d).clock) (link_rests state seat k old new call (subst (λ (o : Option Why). IsSome o) (sym is) refl)) in omega (arith, same)
 
-abbrev turned_in : Answer → Turned
-turned_in (Turn turned) = turned
-turned_in _ = machine.Idle
-
--- a worker's turn is told that all callers left, or what stopped the store
-closed_ends : (stopped : Option Why) (m : Machine) (seat : ℕ) (outcome : Outcome) → TurnsNone (worker_turning stopped true m seat outcome).ended
-closed_ends stopped m seat outcome = grind (arith, common_steps, nat_tests)
-
-closed_rests : {D : Type 0} (state : D → DiskState) (opening : List (Key × Value)) (seat : ℕ) (k : Kind) (old new : CoreState D) (m : Machine) → IsCall state seat k old new → IsTrue (state old.disk).is_honest
-    → StandsWhole state opening old m → is_closed m ≡ true → is_help k ≡ true → new.disk ≡ old.disk
-closed_rests state opening seat kind.WorkerTurn old new m call honest whole closed helps =
-    let step = call.1.goes.steps opening m honest whole in
-    let ended : call.0 ≡ (worker_turning m.stopped (is_closed m) m seat step.outcome).ended = ap turned_in step.answers in
-    call.1.untouched (subst (λ (t : Turned). TurnsNone t) (sym ended) (subst (λ (b : Bool). TurnsNone (worker_turning m.stopped b m seat step.outcome).ended) (sym closed) (closed_ends m.stopped m seat step.outcome)))
-closed_rests state opening seat k old new m call honest whole closed helps = absurd (false≢true helps)
-
--- and not at all where nothing is left to do
-over_rests : {D : Type 0} (state : D → DiskState) (opening : List (Key × Value)) (seat : ℕ) (k : Kind) (old new : CoreState D) (m : Machine) → IsCall state seat k old new → IsTrue (state old.disk).is_honest
-    → StandsWhole state opening old m → IsOver m k → new.disk ≡ old.disk
-over_rests state opening seat k old new m call honest whole over = ⊎_elim
-    (λ (stopped : IsSome m.stopped). link_rests state seat k old new call (subst (λ (b : BookState). IsSome b.stopped) whole.book stopped))
-    (λ (closed : IsTrue (is_closed m) × IsTrue (is_help k)). closed_rests state opening seat k old new m call honest whole closed.0 closed.1)
-    over
+-- and not at all where it calls none
+few_calls : {D : Type 0} (state : D → DiskState) (opening : List (Key × Value)) (seat : ℕ) (k : Kind) (old new : CoreState D) (m : Machine) → IsCall state seat k old new → IsCore old.held (state old.disk) → IsTrue (state old.disk).is_honest
+    → StandsWhole state opening old m → (state new.disk).clock ≤ (state old.disk).clock + most_calls_at m seat k
+few_calls {D} state opening seat k old new m call keeps honest whole = by (calls_at m seat k) refl
+  where
+    by : (b : Bool) → calls_at m seat k ≡ b → (state new.disk).clock ≤ (state old.disk).clock + most_calls_at m seat k
+    by true is = subst (λ (n : ℕ). (state new.disk).clock ≤ (state old.disk).clock + n) (sym (ap (λ (b : Bool). cond b (calls_of m.gears.sizes (swaps_due m) k) 0) is)) (calls_of_kind state opening seat k old new m call keeps honest whole)
+    by false is =
+        subst (λ (n : ℕ). (state new.disk).clock ≤ (state old.disk).clock + n) (sym (ap (λ (b : Bool). cond b (calls_of m.gears.sizes (swaps_due m) k) 0) is))
+        (let same = ap (λ (d : D). (state d).clock) (link_quiet state opening seat k old new m call keeps honest whole is) in omega (arith, same))
 
 -- ---- the chain
 
@@ -88,7 +79,6 @@ module _ {D : Type 0} (state : D → DiskState) (opening : List (Key × Value)) 
     steps_are = refl;
     clocks_are = refl;
     timed = refl;
-    rests = tt;
     may = tt;
     told = omega arith;
     whole = tt;
@@ -99,6 +89,9 @@ module _ {D : Type 0} (state : D → DiskState) (opening : List (Key × Value)) 
         subst (λ (es : List Entry). ShowsHistory m.gears.sizes opening start.held.book.book.entries (length es) c) (sym (same k))
         (subst (λ (es : List Entry). ShowsHistory m.gears.sizes opening es (length m.book.entries) c) (ap (λ (b : BookState). b.book.entries) whole.book)
         (shows.each c (timed.since_earlier (state start.disk).clock t c (early k late) left)));
+    acknowledged = λ k noted.
+        let longer = ap (λ (es : List Entry). length es) (sym (same (suc k)) ∙ noted.noted ∙ ap (λ (es : List Entry). es ++ noted.entry ∷ []) (same k)) in
+        absurd (omega (arith, longer, length-append m.book.entries (noted.entry ∷ [])));
   }
     where
       none : IsPlayed state opening [] start start m
@@ -117,7 +110,10 @@ module _ {D : Type 0} (state : D → DiskState) (opening : List (Key × Value)) 
 
 -- one call, and then the others
 module _ {D : Type 0} (state : D → DiskState) (opening : List (Key × Value)) (first : Step × CoreState D) (calls : List (Step × CoreState D)) (start end : CoreState D) (m : Machine) (timed : IsTimed (state end.disk))
-    (rises : (state start.disk).clock ≤ (state first.1.disk).clock) (few : (state first.1.disk).clock ≤ (state start.disk).clock + calls_of m.gears.sizes (swaps_due m) first.0.kind) (faults : (state start.disk).faults ≤ (state first.1.disk).faults) (quiet : IsOver m first.0.kind → (state first.1.disk).clock ≡ (state start.disk).clock)
+    (rises : (state start.disk).clock ≤ (state first.1.disk).clock) (few : (state first.1.disk).clock ≤ (state start.disk).clock + most_calls_at m first.0.seat first.0.kind) (faults : (state start.disk).faults ≤ (state first.1.disk).faults)
+    (book : m.book.entries ≡ start.held.book.book.entries)
+    (ends : (e : Entry) → first.1.held.book.book.entries ≡ start.held.book.book.entries ++ e ∷ [] → is_write e.op ≡ true → e.reply ≡ Done
+    → HasOwnSync (swaps_due m) (state start.disk).clock (state first.1.disk).clock (state end.disk))
     (answer : Answer) (can : may m first.0.seat first.0.kind ≡ true) (one : IsWholeStep state opening first.0.seat first.0.kind answer start first.1 m)
     (rest : ChainIsSteps state opening calls first.1 end (stepped_as m first.0.seat first.0.kind one.outcome).state) where
   abbrev next : Machine
@@ -162,12 +158,23 @@ module _ {D : Type 0} (state : D → DiskState) (opening : List (Key × Value)) 
       (subst (λ (s : Sizes). ShowsHistory s opening last (length next.book.entries) file) same_sizes shows)) rest.images)
 
   moments_all : (k t : ℕ) (c : List ℕ) → clock_after (state start.disk).clock k made ≤ t → (state end.disk).images_since t c
-      → ShowsHistory m.gears.sizes opening end.held.book.book.entries (length (played m (take k (outcomes_in made))).book.entries) c
+      → ShowsHistory m.gears.sizes opening end.held.book.book.entries (length (noted_after m k made)) c
   moments_all zero t c late left =
       subst (λ (es : List Entry). ShowsHistory m.gears.sizes opening es (length m.book.entries) c) entries_are (images_all.each c (timed.since_earlier (state start.disk).clock t c late left))
   moments_all (suc k) t c late left =
       subst (λ (x : Machine). ShowsHistory m.gears.sizes opening end.held.book.book.entries (length (played x (take k (outcomes_in rest.made))).book.entries) c) (sym played_is)
       (subst (λ (s : Sizes). ShowsHistory s opening end.held.book.book.entries (length (played next (take k (outcomes_in rest.made))).book.entries) c) same_sizes (rest.moments k t c late left))
+
+  -- the first step may have noted it, or one of the others
+  acknowledged_all : (k : ℕ) → Acknowledges m k made
+      → HasOwnSync (swaps_due (after_steps m k made)) (clock_after (state start.disk).clock k made) (clock_after (state start.disk).clock (suc k) made) (state end.disk)
+  acknowledged_all zero noted =
+      let entries : next.book.entries ≡ first.1.held.book.book.entries = ap (λ (b : BookState). b.book.entries) one.stands.book in
+      ends noted.entry (sym entries ∙ ap (λ (x : Machine). x.book.entries) (sym played_is) ∙ noted.noted ∙ ap (λ (es : List Entry). es ++ noted.entry ∷ []) book) noted.write noted.ok
+  acknowledged_all (suc k) noted =
+      let later : Acknowledges (played_one m (first.0, one.outcome)) k rest.made = record { entry = noted.entry; noted = noted.noted; write = noted.write; ok = noted.ok } in
+      subst (λ (x : Machine). HasOwnSync (swaps_due (after_steps x k rest.made)) (clock_after (state first.1.disk).clock k rest.made) (clock_after (state first.1.disk).clock (suc k) rest.made) (state end.disk)) (sym played_is)
+      (rest.acknowledged k (subst (λ (x : Machine). Acknowledges x k rest.made) played_is later))
 
   pub one_step : ChainIsSteps state opening (first ∷ calls) start end m
   one_step = record {
@@ -175,7 +182,6 @@ module _ {D : Type 0} (state : D → DiskState) (opening : List (Key × Value)) 
     steps_are = ap (λ (xs : List Step). first.0 ∷ xs) rest.steps_are;
     clocks_are = ap (λ (xs : List ℕ). (state first.1.disk).clock ∷ xs) rest.clocks_are;
     timed = (rises, few, subst (λ (x : Machine). AreTimed x (state first.1.disk).clock rest.made (state end.disk).clock) (sym played_is) rest.timed);
-    rests = (quiet, subst (λ (x : Machine). RestOnceOver x (state first.1.disk).clock rest.made) (sym played_is) rest.rests);
     may = (can, rest_may);
     told = ((state first.1.disk).faults, faults, λ can. one.possible, rest_told);
     whole = (one.whole, rest.whole);
@@ -183,6 +189,7 @@ module _ {D : Type 0} (state : D → DiskState) (opening : List (Key × Value)) 
     grows = subst (λ (x : Machine). IsPrefix m.book.entries x.book.entries) (sym all_played) grows_all;
     images = subst (λ (x : Machine). LeavesOnly (state start.disk) (state end.disk) (ShowsHistory m.gears.sizes opening x.book.entries (length m.book.entries))) (sym all_played) images_all;
     moments = moments_all;
+    acknowledged = acknowledged_all;
   }
 
 -- Each call of the chain is a step.
@@ -199,7 +206,9 @@ chain_is_steps {D} state opening (one ∷ calls) start end m timed keeps are hon
     let can : may m step.seat step.kind ≡ true = may_agrees step.seat step.kind start.held m whole.book whole.gears ∙ goes_as.1.may in
     let reaches = link_reaches state step.seat step.kind start mid are.0 in
     let goes = reaches.goes_on in
-    one_step state opening one calls start end m timed goes.clock (few_calls state opening step.seat step.kind start mid m are.0 keeps honest whole) goes.faults
-    (λ over. ap (λ (d : D). (state d).clock) (over_rests state opening step.seat step.kind start mid m are.0 honest whole over)) goes_as.0 can link
-    (chain_is_steps state opening calls mid end (stepped_as m step.seat step.kind link.outcome).state timed (link_keeps state step.seat step.kind start mid are.0 keeps) are.1
+    let kept = link_keeps state step.seat step.kind start mid are.0 keeps in
+    let behind = chain_reaches state calls mid end are.1 kept in
+    one_step state opening one calls start end m timed goes.clock (few_calls state opening step.seat step.kind start mid m are.0 keeps honest whole) goes.faults (ap (λ (b : BookState). b.book.entries) whole.book)
+    (link_acknowledges state opening step.seat step.kind start mid m (state end.disk) are.0 keeps whole (goes_on_run goes behind.goes_on) behind.syncs) goes_as.0 can link
+    (chain_is_steps state opening calls mid end (stepped_as m step.seat step.kind link.outcome).state timed kept are.1
     (subst IsTrue (sym goes.is_honest) honest) link.stands)

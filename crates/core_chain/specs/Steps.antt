@@ -1,15 +1,24 @@
 -- On an honest disk a chain of calls is a list of steps of the machine, one for each call, and each is timed by the disk's clock.
-use Rattle.std.specs.Prelude.{◌≡◌, ◌⊎◌, ⊤, ℕ, zero, suc, ◌+◌, ◌≤◌, IsSome, IsTrue, List, [], ◌∷◌, length, map, take}
+use Rattle.std.specs.Prelude.{◌≡◌, ⊤, ℕ, zero, suc, ◌+◌, ◌<◌, ◌≤◌, ◌^◌, Bool, true, false, not, ◌&&◌, if◌then◌else◌, is_some, IsTrue, Option, None, Some, List, [], ◌∷◌, ◌++◌, length, map, take}
 use mathlib.Core.List.{IsPrefix}
+use Rattle.blsm_model.specs.Legal.{is_write}
+use Rattle.blsm_model.specs.declared.history.Entry.{Entry}
+use Rattle.blsm_model.specs.declared.history.Reply.TheVariants.{Done}
 use Rattle.blsm_model.specs.declared.key.Key.{Key}
+use Rattle.blsm_model.specs.declared.op.Op.TheVariants.{Get}
 use Rattle.blsm_model.specs.declared.row.Value.{Value}
 use Rattle.disk_trait.specs.Disk.{DiskState}
 use Rattle.disk_trait.specs.Moments.{LeavesOnly}
-use Rattle.tree_machine.specs.Machine.{Machine, is_closed}
-use Rattle.tree_machine.specs.Outcomes.{AreTold, NoneBroken}
-use Rattle.tree_machine.specs.Plays.{is_help, may_step, played, played_one}
+use Rattle.record_delta.specs.Entries.{over_any, record_of_key}
+use Rattle.record_delta.specs.declared.record.Rec.{Rec}
+use Rattle.record_delta.specs.declared.record.Rec.TheVariants.{Base, Delta, Tomb}
+use Rattle.tree_machine.specs.Lists.{Lists}
+use Rattle.tree_machine.specs.Machine.{Machine}
+use Rattle.tree_machine.specs.Outcomes.{AreTold, NoneBroken, calls}
+use Rattle.tree_machine.specs.Plays.{may_step, played, played_one}
 use Rattle.tree_machine.specs.Steps.{Outcome, swaps_due}
 use Rattle.tree_machine.specs.declared.step.Kind.{Kind}
+use Rattle.tree_machine.specs.declared.step.Kind.TheVariants.{Look}
 use Rattle.tree_machine.specs.declared.step.Step.{Step}
 use Rattle.core_lists.specs.Shown.{ShowsHistory}
 use Rattle.tree_core.specs.Core.{CoreState}
@@ -31,25 +40,58 @@ clock_after before zero made = before
 clock_after before (suc k) [] = before
 clock_after before (suc k) (one ∷ more) = clock_after one.2 k more
 
--- Clocks rise, each by no more than its step may call the disk where the machine stands: with the swaps that are due there.
+-- a record that hides all that is older: a base or a tombstone
+abbrev pub hides_older : Option Rec → Bool
+hides_older None = false
+hides_older (Some (Base value)) = true
+hides_older (Some (Delta count)) = false
+hides_older (Some Tomb) = true
+
+-- a lookup that the memory table answers
+abbrev pub is_in_memory : Lists → Kind → Bool
+is_in_memory lists (Look (Get key)) = hides_older (over_any (record_of_key key lists.b) (record_of_key key lists.a))
+is_in_memory lists _ = false
+
+-- A step calls no disk where the store is stopped, where it is none that does, and where it is a lookup that is answered in memory.
+abbrev pub calls_at : Machine → ℕ → Kind → Bool
+calls_at m seat k = not (is_some m.stopped) && (calls m seat k && not (is_in_memory m.lists k))
+
+-- how often a step calls it at most where the machine stands: with the swaps that are due there, or not at all
+abbrev pub most_calls_at : Machine → ℕ → Kind → ℕ
+most_calls_at m seat k = if calls_at m seat k then calls_of m.gears.sizes (swaps_due m) k else 0
+
+-- Clocks rise, each by no more than its step may call the disk, so each stands that calls none.
 abbrev pub AreTimed : Machine → ℕ → List (Step × Outcome × ℕ) → ℕ → Type 0
 AreTimed m before [] after = after ≡ before
 AreTimed m before (one ∷ more) after =
-    (before ≤ one.2) × (one.2 ≤ before + calls_of m.gears.sizes (swaps_due m) one.0.kind) × AreTimed (played_one m (one.0, one.1)) one.2 more after
-
--- Nothing is left to do for this step: the store is stopped, or all callers left and it is a worker's.
-abbrev pub IsOver : Machine → Kind → Type 0
-IsOver m k = IsSome m.stopped ⊎ (IsTrue (is_closed m) × IsTrue (is_help k))
-
--- Such a step calls no disk, so the clock stands.
-abbrev pub RestOnceOver : Machine → ℕ → List (Step × Outcome × ℕ) → Type 0
-RestOnceOver m before [] = ⊤
-RestOnceOver m before (one ∷ more) = (IsOver m one.0.kind → one.2 ≡ before) × RestOnceOver (played_one m (one.0, one.1)) one.2 more
+    (before ≤ one.2) × (one.2 ≤ before + most_calls_at m one.0.seat one.0.kind) × AreTimed (played_one m (one.0, one.1)) one.2 more after
 
 -- each of them might be made where it stands
 abbrev pub AllMay : Machine → List (Step × Outcome) → Type 0
 AllMay m [] = ⊤
 AllMay m (made ∷ steps) = IsTrue (may_step m made.0) × AllMay (played_one m made) steps
+
+-- ---- writes that were acknowledged
+
+-- the machine once the first k of them were made, and the entries that are noted then
+abbrev pub after_steps : Machine → ℕ → List (Step × Outcome × ℕ) → Machine
+after_steps m k made = played m (take k (outcomes_in made))
+
+abbrev pub noted_after : Machine → ℕ → List (Step × Outcome × ℕ) → List Entry
+noted_after m k made = (after_steps m k made).book.entries
+
+-- The step behind the first k noted a write with `ok`.
+pub record Acknowledges (m : Machine) (k : ℕ) (made : List (Step × Outcome × ℕ)) : Type 0 where
+  pub entry : Entry
+  pub noted : noted_after m (suc k) made ≡ noted_after m k made ++ entry ∷ []
+  pub write : is_write entry.op ≡ true
+  pub ok : entry.reply ≡ Done
+
+-- A step that the clock says began here and ended there: at its end a sync of its own had ended well, which is marked still. Where no swap was due it made four calls.
+pub record HasOwnSync (due before after : ℕ) (last : DiskState) : Type 0 where
+  pub later : IsTrue last.tells_images → before < after
+  pub synced : IsTrue last.tells_images → last.synced_at after
+  pub exact : due ≡ 0 → before + 4 < 2 ^ 64 → after ≡ before + 4
 
 -- ---- the whole
 
@@ -60,7 +102,6 @@ pub record ChainIsSteps {D : Type 0} (state : D → DiskState) (opening : List (
   pub steps_are : map (λ one. one.0) made ≡ steps_of calls
   pub clocks_are : clocks_in made ≡ map (λ one. (state one.1.disk).clock) calls
   pub timed : AreTimed m (state start.disk).clock made (state end.disk).clock
-  pub rests : RestOnceOver m (state start.disk).clock made
   -- none was passed over, the disk's count of faults tells the outcomes, and no page was found damaged
   pub may : AllMay m (outcomes_in made)
   pub told : AreTold m (state start.disk).faults (outcomes_in made) (state end.disk).faults
@@ -72,4 +113,7 @@ pub record ChainIsSteps {D : Type 0} (state : D → DiskState) (opening : List (
   pub images : LeavesOnly (state start.disk) (state end.disk) (ShowsHistory m.gears.sizes opening (played m (outcomes_in made)).book.entries (length m.book.entries))
   -- each image of a moment not before the end of the first k steps shows it with all entries that these noted
   pub moments : (k t : ℕ) (c : List ℕ) → clock_after (state start.disk).clock k made ≤ t → (state end.disk).images_since t c
-      → ShowsHistory m.gears.sizes opening end.held.book.book.entries (length (played m (take k (outcomes_in made))).book.entries) c
+      → ShowsHistory m.gears.sizes opening end.held.book.book.entries (length (noted_after m k made)) c
+  -- each write that was acknowledged has a sync of its own
+  pub acknowledged : (k : ℕ) → Acknowledges m k made
+      → HasOwnSync (swaps_due (after_steps m k made)) (clock_after (state start.disk).clock k made) (clock_after (state start.disk).clock (suc k) made) (state end.disk)

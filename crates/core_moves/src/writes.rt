@@ -7,6 +7,7 @@ ghost use Rattle.blsm_model.specs.Geometry.{file_length};
 ghost use Rattle.record_delta.specs.Records.{weight};
 ghost use Rattle.record_delta.specs.Entries.{is_above};
 ghost use Rattle.gear_sched.specs.Gears.{first_debt, second_debt};
+ghost use Rattle.gated_write.specs.Ends.{EndsSynced};
 ghost use Rattle.tree_file.specs.Tree.{Tree};
 ghost use Rattle.tree_file.specs.Places.{Becomes};
 ghost use Rattle.tree_log.specs.Log.{IsLogOf, appended};
@@ -73,6 +74,7 @@ impl Held {
             × OnOk result (StandOver self.new.runs (appended (goes_ahead key.now self.old) (key.now, rec.now) tree) self.new.log.a.entries (D.state disk.new)) }
         ensures on { OnOk result (IsOn self.new (D.state disk.new)) }
         ensures kept { OnErr result (self.new ≡ self.old) }
+        ensures ends { OnOk result (EndsSynced 4 (D.state disk.old) (D.state disk.new)) }
         ensures effect { Affects (beside_pins self.old.runs.sizes self.old.runs.space.pins) (file_length self.old.runs.sizes) 4 (D.state disk.old) (D.state disk.new) }
         ensures faults { TellsFaults result (D.state disk.old) (D.state disk.new) }
     {

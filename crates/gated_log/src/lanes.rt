@@ -6,6 +6,7 @@ ghost use Rattle.blsm_model.specs.Geometry.{file_length};
 ghost use Rattle.blsm_model.specs.Lanes.{region_length, a_of, b_of, spare_of, AreRoles};
 ghost use Rattle.record_delta.specs.Records.{weight};
 ghost use Rattle.entry_codec.specs.Spelling.{spelling, IsEntry};
+ghost use Rattle.gated_write.specs.Ends.{EndsSynced};
 ghost use Rattle.gated_log.specs.Lane.{lane_region, Appends};
 ghost use Rattle.gated_log.specs.Lanes.{LanesState, end_of, moved, turned};
 
@@ -133,7 +134,8 @@ impl Lanes {
         ensures appends { Appends self.old.sizes lane (end_of self.old lane) (key.now, rec.now) (is_ok result) (D.state disk.old) (D.state disk.new) }
         ensures durable { OnOk result (IsTrue (D.state disk.old).is_honest → Only (D.state disk.new).bytes (D.state disk.new).images) }
 
-        // Four calls of the disk at most. Whatever the images have, no byte outside the region changes, in none of any moment.
+        // Four calls of the disk, or fewer where one fails; the last is a sync. Whatever the images have, no byte outside the region changes, in none of any moment.
+        ensures ends { OnOk result (EndsSynced 4 (D.state disk.old) (D.state disk.new)) }
         ensures effect { Affects (lane_region self.old.sizes lane) (file_length self.old.sizes) 4 (D.state disk.old) (D.state disk.new) }
         ensures faults { TellsFaults result (D.state disk.old) (D.state disk.new) }
     {

@@ -6,6 +6,7 @@ ghost use Rattle.std.specs.Prelude.{◌≤◌, ◌<◌, ◌+◌, ◌^◌, ◌∷
 ghost use Rattle.disk_trait.specs.Disk.{HasWritten, TellsFaults};
 ghost use Rattle.disk_trait.specs.Effects.{Affects};
 ghost use Rattle.disk_trait.specs.Region.{span};
+ghost use Rattle.gated_write.specs.Ends.{EndsSynced};
 ghost use Rattle.gated_write.specs.Gated.{LeavesGated, open_byte};
 
 use disk_trait::Disk;
@@ -23,6 +24,7 @@ pub fn write_through<D: Disk>(disk: &mut D, at: u64, bytes: &[u8]) -> Result<(),
     requires offsets { at + length bytes.now < 2 ^ 64 }
     requires inside { IsTrue (D.state disk.old).tells_bytes → at ≤ length (D.state disk.old).bytes }
     ensures written { OnOk result (HasWritten at bytes.now (D.state disk.old) (D.state disk.new)) }
+    ensures ends { OnOk result (EndsSynced 2 (D.state disk.old) (D.state disk.new)) }
     ensures effect { Affects (span at (length bytes.now)) (at + length bytes.now) 2 (D.state disk.old) (D.state disk.new) }
     ensures faults { TellsFaults result (D.state disk.old) (D.state disk.new) }
 {
@@ -42,6 +44,7 @@ pub fn write_gated<D: Disk>(disk: &mut D, at: u64, text: &[u8]) -> Result<(), Fa
     requires gate_inside { IsTrue (D.state disk.old).tells_bytes → at < length (D.state disk.old).bytes }
     ensures gated { IsTrue (D.state disk.old).is_honest → LeavesGated at text.now (D.state disk.old) (D.state disk.new) }
     ensures written { OnOk result (HasWritten at (open_byte ∷ text.now) (D.state disk.old) (D.state disk.new)) }
+    ensures ends { OnOk result (EndsSynced 4 (D.state disk.old) (D.state disk.new)) }
     ensures effect { Affects (span at (1 + length text.now)) (at + 1 + length text.now) 4 (D.state disk.old) (D.state disk.new) }
     ensures faults { TellsFaults result (D.state disk.old) (D.state disk.new) }
 {

@@ -1,5 +1,5 @@
 -- What a crash leaves while a script is run: a front of its history, which has the entries of the steps that had ended.
-use Rattle.std.proofs.Common.{◌≡◌, ◌∙◌, ℕ, Option, List, [], ◌++◌, inl, inr, ⊎_elim, take, length, refl, ap, sym, subst, arith}
+use Rattle.std.proofs.Common.{◌≡◌, ◌∙◌, ℕ, Option, List, [], ◌++◌, inl, inr, ⊎_elim, length, refl, ap, sym, subst, arith}
 use mathlib.Core.List.{IsPrefix}
 use Rattle.blsm_model.specs.Images.{Shows}
 use Rattle.blsm_model.specs.Sizes.{Sizes}
@@ -16,7 +16,7 @@ use Rattle.tree_machine.specs.Plays.{played}
 use Rattle.tree_machine.specs.declared.step.Step.{Step}
 use Rattle.tree_file.specs.Tree.{ReadsAsMap}
 use Rattle.tree_file.proofs.OneTree.{one_map}
-use Rattle.core_chain.specs.Steps.{ChainIsSteps, outcomes_in}
+use Rattle.core_chain.specs.Steps.{ChainIsSteps, noted_after, outcomes_in}
 use Rattle.core_moves.specs.declared.held.Held.{Held}
 use Rattle.core_lists.specs.Shown.{ShowsHistory, ShowsWhole}
 use Rattle.core_lists.proofs.ShowingLemmas.{showing_is_kept}
@@ -88,19 +88,20 @@ module _ {D : Type 0} (state : D → DiskState) (timed : (d : D) → IsTimed (st
       shows_opening sizes opening entries 0 (state old.disk).bytes c
       (showing_is_kept sizes opening old.held.book.book.entries entries (length old.held.book.book.entries) 0 (state old.disk).bytes grows (omega arith) shows.reads) keeps.reads reads
 
-  moments : (run : Run) → run.entries ≡ entries → HaveMoments sizes opening run m (outcomes_in steps.made) (state old.disk) (state new.disk)
+  moments : (run : Run) → run.entries ≡ entries → HaveMoments state calls sizes opening run m (outcomes_in steps.made) (state old.disk) (state new.disk)
   moments run is = record {
     steps = steps.made;
     same = refl;
+    clocks_are = steps.clocks_are;
     may = steps.may;
     timed = steps.timed;
-    rests = steps.rests;
     shows = λ n t c late left.
-        subst (λ (z : Sizes). ShowsHistory z opening run.entries (length (played m (take n (outcomes_in steps.made))).book.entries) c) whole.sizes
-        (subst (λ (es : List Entry). ShowsHistory m.gears.sizes opening es (length (played m (take n (outcomes_in steps.made))).book.entries) c) (sym is) (steps.moments n t c late left));
+        subst (λ (z : Sizes). ShowsHistory z opening run.entries (length (noted_after m n steps.made)) c) whole.sizes
+        (subst (λ (es : List Entry). ShowsHistory m.gears.sizes opening es (length (noted_after m n steps.made)) c) (sym is) (steps.moments n t c late left));
+    acknowledged = steps.acknowledged;
   }
 
-  pub leaves_history : (run : Run) → run.entries ≡ entries → LeavesHistory sizes opening run m (outcomes_in steps.made) first (state old.disk) (state new.disk)
+  pub leaves_history : (run : Run) → run.entries ≡ entries → LeavesHistory state calls sizes opening run m (outcomes_in steps.made) first (state old.disk) (state new.disk)
   leaves_history run is = record {
     begins = keeps;
     each = subst (λ (es : List Entry). LeavesOnly first (state new.disk) (IsOldOr first.images (ShowsHistory sizes opening es 0))) (sym is)

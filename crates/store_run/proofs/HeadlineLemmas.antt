@@ -1,5 +1,5 @@
 -- The headline, from what opening a store says and what a run from there on keeps.
-use Rattle.std.specs.Prelude.{◌≡◌, ◌<◌, ◌≤◌, ◌+◌, ◌*◌, ℕ, Bool, true, false, ◌||◌, List, [], ◌∷◌, None, IsTrue, drop, map, sum, take}
+use Rattle.std.specs.Prelude.{◌≡◌, ◌<◌, ◌≤◌, ◌+◌, ◌*◌, ℕ, Bool, true, false, ◌||◌, List, [], ◌∷◌, Option, None, IsTrue, drop, map, sum, take}
 use Rattle.std.proofs.lemmas.Grind.{common_steps}
 use Rattle.std.proofs.lemmas.Bool.Decides.{nat_tests}
 use Rattle.std.specs.List.{AllByRecursion, list_any}
@@ -17,6 +17,7 @@ use Rattle.blsm_model.specs.declared.history.Line.{Line}
 use Rattle.blsm_model.specs.declared.key.Key.{Key}
 use Rattle.blsm_model.specs.declared.room.Room.{Room}
 use Rattle.blsm_model.specs.declared.op.Write.{Write}
+use Rattle.blsm_model.specs.declared.row.Row.{Row}
 use Rattle.blsm_model.specs.declared.row.Value.{Value}
 use Rattle.core_moves.specs.declared.held.Held.{Held}
 use Rattle.core_moves.specs.Held.{charge_in}
@@ -40,16 +41,18 @@ use Rattle.tree_file.specs.Tree.{HoldsTree, components_weight}
 use Rattle.tree_machine.specs.declared.step.Step.{Step}
 use Rattle.tree_machine.specs.Machine.{Catalogue, Machine, WorkSoFar, charge, no_work, opened, seats, totals}
 use Rattle.tree_machine.specs.Outcomes.{AreTold, is_damaged}
-use Rattle.tree_machine.specs.Plays.{may_step, played, played_one, stepped}
-use Rattle.tree_machine.specs.Steps.{Outcome}
+use Rattle.tree_machine.specs.Plays.{is_help, may_step, played, played_one, stepped}
+use Rattle.tree_machine.specs.Steps.{Outcome, one_if}
 use Rattle.tree_machine.proofs.PlayLemmas.{of_replicate}
+use Rattle.tree_session.specs.Lines.{Rests}
 use Rattle.tree_shared.specs.Runs.{RunsAll}
 use Rattle.core_chain.specs.Quanta.{helps_in}
 use Rattle.core_chain.specs.Start.{steps_of}
 use Rattle.core_chain.specs.Steps.{ChainIsSteps, outcomes_in}
 use Rattle.gear_sched.specs.Gears.{GearState}
-use Rattle.store_run.specs.Headline.{EndsWithin, Headline, HoldsState, IsReached, IsServed}
-use Rattle.store_run.specs.Run.{HaveEnded, IsRunInOrder, IsRunOf, Run, finds_damage, run_at}
+use Rattle.store_run.specs.Headline.{EndsWithin, Headline, HoldsState, IsReached, IsServed, IsServedInOrder}
+use Rattle.store_run.specs.Run.{HaveEnded, HaveRested, IsRunInOrder, IsRunOf, Run, WasOpened, finds_damage, run_at}
+use Rattle.store_run.proofs.CauseLemmas.{AreCaused, causes_of}
 use Rattle.store_run.proofs.CrashLemmas.{leaves_history}
 use Rattle.tree_machine.proofs.FrameLemmas.{step_fixed}
 use Rattle.tree_machine.proofs.TellLemmas.{none_damaged}
@@ -230,29 +233,7 @@ served_from {D} state room lines first old new c1 c2 catalogue session whole ste
       stands = λ runs. stands_of opens.pairs new.held machine _ after sizes since.sizes ends runs;
     }
 
--- ---- on one thread
-
--- what is printed, and what it was served
-abbrev pub RunInOrder : {D : Type 0} → (D → DiskState) → List Line → Room → Run → DiskState → DiskState → Type 0
-RunInOrder state lines room run first last = (sizes : Sizes) × IsRunInOrder sizes lines run × IsServed state sizes run room first last
-
--- what lasts has lasted, by some steps
-pub served_in_order : {D : Type 0} (state : D → DiskState) (room : Room) (lines : List Line) (first : DiskState) (old new : CoreState D) → IsTrue first.is_honest
-    → (session : Session state room lines first old new) → asked_in new.held.book.book.entries ≡ asked lines → sum (drop callers new.held.book.seats.quanta) ≡ 0
-    → (disk : D) → disk ≡ new.disk → (run : Run) → run ≡ run_at (charge_in old.held) new.held → RunInOrder state lines room run first (state disk)
-served_in_order {D} state room lines first old new honest session in_order alone disk same run is =
-    let opens = session.opens in
-    let honest_then = subst IsTrue (sym session.goes_on.is_honest) honest in
-    let come = session.run.since.come opens.pairs _ honest_then opens.stands in
-    let served = served_from state room lines first old new _ _ _ session opens.stands come.0 come.1 in
-    let printed : IsRunInOrder old.held.runs.sizes lines (run_at (charge_in old.held) new.held) = record {
-      printed = is_run_of state lines 0 0 old new session.run (omega (arith, alone));
-      in_order = in_order;
-    } in
-    subst (λ (r : Run). RunInOrder state lines room r first (state disk)) (sym is)
-    (subst (λ (d : D). RunInOrder state lines room (run_at (charge_in old.held) new.held) first (state d)) (sym same) (old.held.runs.sizes, printed, served))
-
--- ---- on threads
+-- ---- the calls of a chain
 
 -- the calls of a chain are steps that were played
 abbrev as_played : {D : Type 0} (state : D → DiskState) (opening : List (Key × Value)) (calls : List (Step × CoreState D)) (old new : CoreState D) (m : Machine)
@@ -271,6 +252,58 @@ its_steps : (made : List (Step × Outcome × ℕ)) → map (λ one. one.0) (outc
 its_steps [] = refl
 its_steps (one ∷ made) = ap (λ (ss : List Step). one.0 ∷ ss) (its_steps made)
 
+-- ---- on one thread
+
+-- none of these calls is a worker's turn
+none_helped : {D : Type 0} (calls : List (Step × CoreState D)) → AllByRecursion (λ one. is_help one.0.kind ≡ false) calls → helps_in (steps_of calls) ≡ 0
+none_helped [] none = refl
+none_helped (one ∷ calls) none = omega (arith, ap one_if none.0, none_helped calls none.1)
+
+rested_as : {Rows : List (Option (List Row)) → Type 0} (opening : List (Key × Value)) (held : Held) (m : Machine) (d : DiskState) → Rests held → StandsFor Rows opening held m d → HaveRested m.gears (book_of m)
+rested_as opening held m d rests stands =
+    subst (λ (g : GearState). HaveRested g (book_of m)) (sym stands.gears)
+    (subst (λ (b : BookState). HaveRested held.gears b) (sym stands.book) (record { idle = λ seat below. ap (λ (w : WorkSoFar). w.turns) (rests.idle seat); even = λ runs seat below. rests.even runs seat }))
+
+in_order_from : {D : Type 0} (state : D → DiskState) (room : Room) (lines : List Line) (first : DiskState) (old new : CoreState D) (c1 c2 : Entries) (catalogue : Catalogue) → (session : Session state room lines first old new)
+    → StandsWhole state session.opens.pairs old (machine_of state room old c1 c2 catalogue) → (calls : List (Step × CoreState D)) → AllByRecursion (λ one. is_help one.0.kind ≡ false) calls → Rests new.held
+    → ChainIsSteps state session.opens.pairs calls old new (machine_of state room old c1 c2 catalogue)
+    → IsServedInOrder state old.held.runs.sizes lines (run_at (charge_in old.held) new.held) room first (state new.disk)
+unfolding reached_of served_from
+in_order_from state room lines first old new c1 c2 catalogue session whole calls none rests steps =
+    let opens = session.opens in
+    let machine = machine_of state room old c1 c2 catalogue in
+    let play = as_played state opens.pairs calls old new machine steps in
+    let served = served_from state room lines first old new c1 c2 catalogue session whole (map (λ one. one.0) (outcomes_in steps.made)) play in
+    let rested = rested_as opens.pairs new.held (played machine (outcomes_in steps.made)) (state new.disk) rests steps.stands in
+    let unhelped : helps_in (map (λ one. one.0) (outcomes_in steps.made)) ≡ 0 = ap helps_in (its_steps steps.made ∙ steps.steps_are) ∙ none_helped calls none in
+    record {
+      served = served;
+      rests = rested;
+      unhelped = unhelped;
+      solo = solo_of served.reached lines 0 session.run.of_script rested (λ (workers : 0 ≡ 0). unhelped);
+    }
+
+-- what is printed, and what it was served
+abbrev pub RunInOrder : {D : Type 0} → (D → DiskState) → List Line → Room → Run → DiskState → DiskState → Type 0
+RunInOrder state lines room run first last = (sizes : Sizes) × IsRunInOrder sizes lines run × IsServedInOrder state sizes lines run room first last
+
+pub served_in_order : {D : Type 0} (state : D → DiskState) (room : Room) (lines : List Line) (first : DiskState) (old new : CoreState D)
+    → (session : Session state room lines first old new) → asked_in new.held.book.book.entries ≡ asked lines → sum (drop callers new.held.book.seats.quanta) ≡ 0
+    → (calls : List (Step × CoreState D)) → AllByRecursion (λ one. is_help one.0.kind ≡ false) calls → Rests new.held
+    → ((opening : List (Key × Value)) (m : Machine) → StandsWhole state opening old m → ChainIsSteps state opening calls old new m)
+    → (disk : D) → disk ≡ new.disk → (run : Run) → run ≡ run_at (charge_in old.held) new.held → RunInOrder state lines room run first (state disk)
+served_in_order {D} state room lines first old new session in_order alone calls none rests steps disk same run is =
+    let opens = session.opens in
+    let served = in_order_from state room lines first old new _ _ _ session opens.stands calls none rests (steps opens.pairs _ opens.stands) in
+    let printed : IsRunInOrder old.held.runs.sizes lines (run_at (charge_in old.held) new.held) = record {
+      printed = is_run_of state lines 0 0 old new session.run (omega (arith, alone));
+      in_order = in_order;
+    } in
+    subst (λ (r : Run). RunInOrder state lines room r first (state disk)) (sym is)
+    (subst (λ (d : D). RunInOrder state lines room (run_at (charge_in old.held) new.held) first (state d)) (sym same) (old.held.runs.sizes, printed, served))
+
+-- ---- on threads
+
 -- how they ended is told of the machine as of the core
 ended_as : {D : Type 0} (state : D → DiskState) (opening : List (Key × Value)) (lines : List Line) (workers turns : ℕ) (old new : CoreState D) (m : Machine)
     → RunsAll state lines workers turns old new → StandsWhole state opening new m → HaveEnded workers turns m.gears (book_of m)
@@ -278,44 +311,50 @@ ended_as state opening lines workers turns old new m runs stands =
     subst (λ (g : GearState). HaveEnded workers turns g (book_of m)) (sym stands.gears)
     (subst (λ (b : BookState). HaveEnded workers turns new.held.gears b) (sym stands.book) (came_to_end state lines workers turns old new runs))
 
-headline_from : {D : Type 0} (state : D → DiskState) (timed : (d : D) → IsTimed (state d)) (room : Room) (lines : List Line) (workers turns : ℕ) (first : DiskState) (old new : CoreState D)
-    (c1 c2 : Entries) (catalogue : Catalogue) → (session : Session state room lines first old new) → old.held.book.book.entries ≡ []
-    → KeepsMapOf old.held.runs.sizes session.opens.pairs first (state old.disk)
+headline_from : {D : Type 0} (state : D → DiskState) (timed : (d : D) → IsTimed (state d)) (room : Room) (lines : List Line) (workers turns : ℕ) (first : D) (old new : CoreState D)
+    (c1 c2 : Entries) (catalogue : Catalogue) → (session : Session state room lines (state first) old new) → old.held.book.book.entries ≡ []
+    → KeepsMapOf old.held.runs.sizes session.opens.pairs (state first) (state old.disk)
     → StandsWhole state session.opens.pairs old (machine_of state room old c1 c2 catalogue)
-    → (runs : RunsAll state lines workers turns old new) → ChainIsSteps state session.opens.pairs runs.came.calls old new (machine_of state room old c1 c2 catalogue)
+    → (runs : RunsAll state lines workers turns old new) → WasOpened state room first old → AreCaused state runs.came.calls old new
+    → ChainIsSteps state session.opens.pairs runs.came.calls old new (machine_of state room old c1 c2 catalogue)
     → sum (drop callers new.held.book.seats.quanta) ≤ helps_in (steps_of runs.came.calls)
     → (((seat : ℕ) → callers ≤ seat → seat < seats → turns_in seat new.held.book ≡ 0) → helps_in (steps_of runs.came.calls) ≡ 0)
-    → Headline state old.held.runs.sizes lines workers turns (run_at (charge_in old.held) new.held) room first (state new.disk)
-unfolding reached_of served_from
-headline_from {D} state timed room lines workers turns first old new c1 c2 catalogue session none map_kept whole runs steps few rests =
+    → Headline state old.held.runs.sizes lines workers turns (run_at (charge_in old.held) new.held) room first new.disk
+unfolding reached_of served_from causes_of
+headline_from {D} state timed room lines workers turns first old new c1 c2 catalogue session none map_kept whole runs began caused steps few rests =
     let opens = session.opens in
     let machine = machine_of state room old c1 c2 catalogue in
     let play = as_played state opens.pairs runs.came.calls old new machine steps in
-    let served = served_from state room lines first old new c1 c2 catalogue session whole (map (λ one. one.0) (outcomes_in steps.made)) play in
+    let served = served_from state room lines (state first) old new c1 c2 catalogue session whole (map (λ one. one.0) (outcomes_in steps.made)) play in
     let ended = ended_as state opens.pairs lines workers turns old new _ runs steps.stands in
     record {
+      causes = causes_of state room first runs.came.calls old new began caused;
+      sizes_are = refl;
+      opens = opens;
       served = served;
+      opened_is = refl;
+      steps_are = its_steps steps.made ∙ steps.steps_are;
       ended = ended;
-      solo = solo_of served.reached lines workers turns runs.of_script ended
+      solo = solo_of served.reached lines workers runs.of_script (record { idle = ended.idle; even = ended.even })
           (λ (alone : workers ≡ 0). ap helps_in (its_steps steps.made ∙ steps.steps_are) ∙ rests (λ seat above below. (runs.rested seat (omega (arith, alone, above)) below).0));
       helped = subst (λ (ss : List Step). sum (drop callers new.held.book.seats.quanta) ≤ helps_in ss) (sym (its_steps steps.made ∙ steps.steps_are)) few;
-      crashes = leaves_history state timed opens.pairs runs.came.calls first old new machine none whole map_kept session.run.effect.syncs session.run.since.sizes steps (run_at (charge_in old.held) new.held) refl;
+      crashes = leaves_history state timed opens.pairs runs.came.calls (state first) old new machine none whole map_kept session.run.effect.syncs session.run.since.sizes steps (run_at (charge_in old.held) new.held) refl;
     }
 
 -- what is printed, with the headline
-abbrev pub RunAndHeadline : {D : Type 0} → (D → DiskState) → List Line → ℕ → ℕ → Room → Run → DiskState → DiskState → Type 0
+abbrev pub RunAndHeadline : {D : Type 0} → (D → DiskState) → List Line → ℕ → ℕ → Room → Run → D → D → Type 0
 RunAndHeadline state lines workers turns room run first last = (sizes : Sizes) × IsRunOf sizes lines workers turns run × Headline state sizes lines workers turns run room first last
 
-pub whole_headline : {D : Type 0} (state : D → DiskState) (timed : (d : D) → IsTimed (state d)) (room : Room) (lines : List Line) (workers turns : ℕ) (first : DiskState)
-    (old new : CoreState D) → (session : Session state room lines first old new) → old.held.book.book.entries ≡ []
-    → KeepsMapOf old.held.runs.sizes session.opens.pairs first (state old.disk) → (runs : RunsAll state lines workers turns old new)
+pub whole_headline : {D : Type 0} (state : D → DiskState) (timed : (d : D) → IsTimed (state d)) (room : Room) (lines : List Line) (workers turns : ℕ) (first : D)
+    (old new : CoreState D) → (session : Session state room lines (state first) old new) → old.held.book.book.entries ≡ []
+    → KeepsMapOf old.held.runs.sizes session.opens.pairs (state first) (state old.disk) → (runs : RunsAll state lines workers turns old new) → WasOpened state room first old → AreCaused state runs.came.calls old new
     → ((opening : List (Key × Value)) (m : Machine) → StandsWhole state opening old m → ChainIsSteps state opening runs.came.calls old new m)
     → sum (drop callers new.held.book.seats.quanta) ≤ helps_in (steps_of runs.came.calls)
     → (((seat : ℕ) → callers ≤ seat → seat < seats → turns_in seat new.held.book ≡ 0) → helps_in (steps_of runs.came.calls) ≡ 0)
-    → (disk : D) → disk ≡ new.disk → (run : Run) → run ≡ run_at (charge_in old.held) new.held → RunAndHeadline state lines workers turns room run first (state disk)
-whole_headline {D} state timed room lines workers turns first old new session none map_kept runs steps few rests disk same run is =
+    → (disk : D) → disk ≡ new.disk → (run : Run) → run ≡ run_at (charge_in old.held) new.held → RunAndHeadline state lines workers turns room run first disk
+whole_headline {D} state timed room lines workers turns first old new session none map_kept runs began caused steps few rests disk same run is =
     let opens = session.opens in
-    let headline = headline_from state timed room lines workers turns first old new _ _ _ session none map_kept opens.stands runs (steps opens.pairs _ opens.stands) few rests in
+    let headline = headline_from state timed room lines workers turns first old new _ _ _ session none map_kept opens.stands runs began caused (steps opens.pairs _ opens.stands) few rests in
     let printed = is_run_of state lines workers turns old new session.run (workers_took state lines workers turns old new runs) in
-    subst (λ (r : Run). RunAndHeadline state lines workers turns room r first (state disk)) (sym is)
-    (subst (λ (d : D). RunAndHeadline state lines workers turns room (run_at (charge_in old.held) new.held) first (state d)) (sym same) (old.held.runs.sizes, printed, headline))
+    subst (λ (r : Run). RunAndHeadline state lines workers turns room r first disk) (sym is)
+    (subst (λ (d : D). RunAndHeadline state lines workers turns room (run_at (charge_in old.held) new.held) first d) (sym same) (old.held.runs.sizes, printed, headline))

@@ -1,3 +1,4 @@
+pub mod CauseLemmas
 pub mod CrashLemmas
 pub mod FaultLemmas
 pub mod HeadlineLemmas

@@ -24,7 +24,7 @@ use Rattle.tree_machine.specs.Machine.{Machine, totals}
 use Rattle.tree_machine.specs.Plays.{is_help, played}
 use Rattle.tree_machine.specs.Steps.{Outcome, one_if}
 use Rattle.store_run.specs.Headline.{IsPrinted, IsReached, Solo, begin_of}
-use Rattle.store_run.specs.Run.{HaveEnded, Run}
+use Rattle.store_run.specs.Run.{HaveRested, Run}
 
 -- ---- entries of one seat
 
@@ -64,9 +64,9 @@ none_helps (one ∷ made) none = (by (is_help one.0.kind) (omega (arith, none)),
 -- ---- the end
 
 pub solo_of : {sizes : Sizes} {opening : List (Key × Value)} {run : Run} {room : Room} {file : List ℕ} {before after : ℕ} (reached : IsReached sizes opening run room file before after)
-    (lines : List Line) (workers turns : ℕ) → IsOfScript lines run.entries → HaveEnded workers turns reached.end.gears (book_of reached.end) → (workers ≡ 0 → helps_in (map (λ one. one.0) reached.made) ≡ 0)
+    (lines : List Line) (workers : ℕ) → IsOfScript lines run.entries → HaveRested reached.end.gears (book_of reached.end) → (workers ≡ 0 → helps_in (map (λ one. one.0) reached.made) ≡ 0)
     → Solo lines workers run (begin_of reached)
-solo_of {sizes} {opening} {run} {room} {file} {before} reached lines workers turns script ended rests seat below by_one none calm =
+solo_of {sizes} {opening} {run} {room} {file} {before} reached lines workers script ended rests seat below by_one none calm =
     let begin = begin_of reached in
     let asked : AllByRecursion (λ e. e.seat ≡ seat) run.entries = all_of seat run.entries (λ other apart. script other ∙ none_of seat other lines by_one apart) in
     let runs = ap (λ (t : Totals). t.stopped) reached.totals_are ∙ calm.runs in

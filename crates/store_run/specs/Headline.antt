@@ -6,10 +6,11 @@
 --   the memory table never passes its bytes                      `IsRunOf.peak`, `EndsWithin.lanes`
 --   each write does few merge quanta itself                      `IsRunOf.few`; and the quanta are real: `EndsWithin.components`, `IsServed.commits`, `IsServed.stands`
 --   every crash image opens to a prefix of the history           `LeavesHistory.each`, `LeavesHistory.once_synced`
---   which holds every write that was acknowledged by then        `HaveMoments.shows`, and in the end the whole, `LeavesHistory.whole`
+--   which holds every write that was acknowledged by then        `HaveMoments.acknowledged` with `HaveMoments.shows`, and in the end the whole, `LeavesHistory.whole`
+--   by the disk's own calls                                      `Headline.causes`, `HaveMoments.clocks_are` and `HaveMoments.timed`
 --   each caller and each worker comes to its end                 `Headline.ended`
 --   one caller and no worker: the text is one function           `Headline.solo`
-use Rattle.std.specs.Prelude.{◌≡◌, ◌<◌, ◌≤◌, ◌+◌, ◌*◌, ℕ, false, List, length, map, take, None}
+use Rattle.std.specs.Prelude.{◌≡◌, ◌<◌, ◌≤◌, ◌+◌, ◌*◌, ℕ, suc, false, List, length, map, None}
 use Rattle.std.specs.List.{AllByRecursion}
 use Rattle.alone_run.specs.Alone.{alone, is_trouble}
 use Rattle.blsm_model.specs.Format.{callers}
@@ -33,16 +34,18 @@ use Rattle.tree_machine.specs.Lists.{value_in}
 use Rattle.tree_machine.specs.Machine.{Catalogue, Machine, opened, totals}
 use Rattle.tree_machine.specs.Outcomes.{AreTold}
 use Rattle.tree_machine.specs.Plays.{played}
-use Rattle.tree_machine.specs.Steps.{Outcome}
+use Rattle.tree_machine.specs.Steps.{Outcome, swaps_due}
+use Rattle.tree_core.specs.Core.{CoreState}
 use Rattle.tree_file.specs.Tree.{Tree, HoldsTree, ReadsAsMap, components_weight, lists_of}
 use Rattle.core_lists.specs.Shown.{HasCommitted, ShowsHistory, doubted, lanes_weight}
 use Rattle.core_lists.specs.Standing.{catalogue_of}
 use Rattle.tree_reading.specs.Damage.{most_version}
-use Rattle.recover_open.specs.Opening.{KeepsMapOf, most_opening_calls, weight_of_tree}
+use Rattle.recover_open.specs.Opening.{KeepsMapOf, OpensAs, most_opening_calls, weight_of_tree}
 use Rattle.tree_settling.specs.Settling.{CallsFew}
 use Rattle.core_chain.specs.Quanta.{helps_in}
-use Rattle.core_chain.specs.Steps.{AllMay, AreTimed, RestOnceOver, clock_after, outcomes_in}
-use Rattle.store_run.specs.Run.{HaveEnded, Run, finds_damage}
+use Rattle.core_chain.specs.Start.{steps_of}
+use Rattle.core_chain.specs.Steps.{Acknowledges, AllMay, AreTimed, HasOwnSync, after_steps, clock_after, clocks_in, noted_after, outcomes_in}
+use Rattle.store_run.specs.Run.{HasCauses, HaveEnded, HaveRested, Run, finds_damage}
 
 -- The file is a store of these sizes that reads as this map, with a version that is taken.
 pub record IsStoreWith (sizes : Sizes) (opening : List (Key × Value)) (file : List ℕ) : Type 0 where
@@ -114,27 +117,34 @@ pub record IsServed {D : Type 0} (state : D → DiskState) (sizes : Sizes) (run 
   -- unless a fault stopped the store, the disk has just the components, the tables and the catalogue to which the steps led
   pub stands : run.totals.stopped ≡ None → HoldsState sizes reached.end last.bytes
 
--- The moments of the steps, of which one is one hold of the lock: once the first n had ended, each image shows all entries that they had noted.
-pub record HaveMoments (sizes : Sizes) (opening : List (Key × Value)) (run : Run) (begin : Machine) (made : List (Step × Outcome)) (opened last : DiskState) : Type 0 where
-  -- the steps, each with the disk's clock when it had ended: clocks rise, by no more than a step may call the disk there, and stand where the store is
-  -- stopped, and at a worker's turn where it is closed
+-- The moments of the steps, of which one is one hold of the lock: once the first n had ended, each image shows all entries that they had noted. They are the
+-- steps of these calls of the core.
+pub record HaveMoments {D : Type 0} (state : D → DiskState) (calls : List (Step × CoreState D)) (sizes : Sizes) (opening : List (Key × Value)) (run : Run) (begin : Machine) (made : List (Step × Outcome))
+    (opened last : DiskState) : Type 0 where
+  -- the steps, each with the clock of the disk that its call left
   pub steps : List (Step × Outcome × ℕ)
   pub same : outcomes_in steps ≡ made
+  pub clocks_are : clocks_in steps ≡ map (λ one. (state one.1.disk).clock) calls
+  -- clocks rise, by no more than a step may call the disk there, and so stand where it calls none
   pub timed : AreTimed begin opened.clock steps last.clock
-  pub rests : RestOnceOver begin opened.clock steps
   -- each might be made where it stands
   pub may : AllMay begin made
   pub shows : (n t : ℕ) (c : List ℕ) → clock_after opened.clock n steps ≤ t → last.images_since t c
-      → ShowsHistory sizes opening run.entries (length (played begin (take n made)).book.entries) c
+      → ShowsHistory sizes opening run.entries (length (noted_after begin n steps)) c
+  -- A write was acknowledged behind the first n steps: by the end of its own step, and later than theirs, a sync of its own ended well, which the disk's last state
+  -- tells still. So n writes that were acknowledged have n such moments, which rise.
+  pub acknowledged : (n : ℕ) → Acknowledges begin n steps
+      → HasOwnSync (swaps_due (after_steps begin n steps)) (clock_after opened.clock n steps) (clock_after opened.clock (suc n) steps) last
 
 -- What a crash leaves while the history is made. The disk was `first` before the call, `opened` when the store was open, and is `last` after it.
-pub record LeavesHistory (sizes : Sizes) (opening : List (Key × Value)) (run : Run) (begin : Machine) (made : List (Step × Outcome)) (first opened last : DiskState) : Type 0 where
+pub record LeavesHistory {D : Type 0} (state : D → DiskState) (calls : List (Step × CoreState D)) (sizes : Sizes) (opening : List (Key × Value)) (run : Run) (begin : Machine) (made : List (Step × Outcome))
+    (first opened last : DiskState) : Type 0 where
   -- up to the opening nothing of the history was written
   pub begins : KeepsMapOf sizes opening first opened
   -- each image of each moment is one from before, or shows a front of the history; since the first sync of the opening each shows one
   pub each : LeavesOnly first last (IsOldOr first.images (ShowsHistory sizes opening run.entries 0))
   pub once_synced : LeavesOnlyOnceSynced first last (ShowsHistory sizes opening run.entries 0)
-  pub moments : HaveMoments sizes opening run begin made opened last
+  pub moments : HaveMoments state calls sizes opening run begin made opened last
   -- in the end each image shows the whole, and so does the disk as it reads
   pub whole : (c : List ℕ) → last.images c → ShowsHistory sizes opening run.entries (length run.entries) c
   pub shown : ShowsHistory sizes opening run.entries (length run.entries) last.bytes
@@ -154,11 +164,25 @@ pub record IsCalm (run : Run) : Type 0 where
 abbrev pub Solo : List Line → ℕ → Run → Machine → Type 0
 Solo lines workers run begin = (seat : ℕ) → seat < callers → AllByRecursion (λ l. l.seat ≡ seat) lines → workers ≡ 0 → IsCalm run → IsPrinted run (alone seat begin (lines_of seat lines))
 
--- so many merge workers, each of which takes so many turns at most
-pub record Headline {D : Type 0} (state : D → DiskState) (sizes : Sizes) (lines : List Line) (workers turns : ℕ) (run : Run) (room : Room) (first last : DiskState) : Type 0 where
+-- Of one thread, in the order of the lines: none of its steps was a worker's turn, its callers rest in the end, and of one caller alone the text is that function.
+pub record IsServedInOrder {D : Type 0} (state : D → DiskState) (sizes : Sizes) (lines : List Line) (run : Run) (room : Room) (first last : DiskState) : Type 0 where
   pub served : IsServed state sizes run room first last
+  pub rests : HaveRested served.reached.end.gears (book_of served.reached.end)
+  pub unhelped : helps_in (map (λ one. one.0) served.reached.made) ≡ 0
+  pub solo : Solo lines 0 run (begin_of served.reached)
+
+-- so many merge workers, each of which takes so many turns at most
+pub record Headline {D : Type 0} (state : D → DiskState) (sizes : Sizes) (lines : List Line) (workers turns : ℕ) (run : Run) (room : Room) (first last : D) : Type 0 where
+  -- the calls of the core that led here, as on every disk; the one that they begin with stands for what the disk read as
+  pub causes : HasCauses state room run first last
+  pub sizes_are : causes.opened.held.runs.sizes ≡ sizes
+  pub opens : OpensAs state room causes.opened (state first).bytes
+  pub served : IsServed state sizes run room (state first) (state last)
+  -- they are the steps to the end, from the disk that the opening left
+  pub opened_is : served.opened ≡ causes.opened.disk
+  pub steps_are : map (λ one. one.0) served.reached.made ≡ steps_of causes.calls
   pub ended : HaveEnded workers turns served.reached.end.gears (book_of served.reached.end)
   -- each quantum of a worker was a turn of one
   pub helped : run.totals.workers ≤ helps_in (map (λ one. one.0) served.reached.made)
   pub solo : Solo lines workers run (begin_of served.reached)
-  pub crashes : LeavesHistory sizes served.opening run (begin_of served.reached) served.reached.made first (state served.opened) last
+  pub crashes : LeavesHistory state causes.calls sizes served.opening run (begin_of served.reached) served.reached.made (state first) (state served.opened) (state last)

@@ -10,9 +10,10 @@ use Rattle.blsm_model.specs.declared.history.Entry.{Entry}
 use Rattle.blsm_model.specs.declared.history.Line.{Line}
 use Rattle.blsm_model.specs.declared.history.Totals.{Totals}
 use Rattle.blsm_model.specs.declared.history.Why.TheVariants.{BadPage}
+use Rattle.blsm_model.specs.declared.room.Room.{Room}
 use Rattle.core_moves.specs.declared.held.Held.{Held}
 use Rattle.core_moves.specs.Held.{charge_in}
-use Rattle.disk_trait.specs.Disk.{DiskState}
+use Rattle.disk_trait.specs.Disk.{DiskState, GoesOn}
 use Rattle.gear_sched.specs.Gears.{GearState, first_debt, second_debt}
 use Rattle.seat_book.specs.Seats.{turns_in}
 use Rattle.seat_book.specs.State.{BookState, totals_in, work_in}
@@ -21,6 +22,7 @@ use Rattle.tree_core.specs.Core.{CoreState}
 use Rattle.tree_core.specs.Notes.{HasLeft}
 use Rattle.tree_machine.specs.Machine.{seats}
 use Rattle.tree_machine.specs.Outcomes.{is_by_page, is_damaged}
+use Rattle.tree_machine.specs.Steps.{one_if}
 use Rattle.tree_machine.specs.declared.step.Step.{Step}
 use Rattle.tree_session.specs.Faults.{NamesCount, NamesStop, faults_told, is_by_fault}
 use Rattle.tree_session.specs.Session.{TookFew}
@@ -28,6 +30,10 @@ use Rattle.core_chain.specs.Damage.{StopsAtPage}
 use Rattle.core_chain.specs.Holds.{TellHolds}
 use Rattle.core_chain.specs.Replies.{IsNoted}
 use Rattle.core_chain.specs.Start.{IsUnasked}
+use Rattle.core_chain.specs.Tells.{calls_of_all, lookups_failed}
+use Rattle.core_pace.specs.Opening.{IsOpened}
+use Rattle.recover_open.specs.Opening.{HasLengthOf, most_opening_calls, no_entries}
+use Rattle.tree_settling.specs.Settling.{CallsFew}
 use Rattle.store_run.specs.declared.run.Ending.{Ending}
 use Rattle.store_run.specs.declared.run.Ending.TheVariants.{Well, Faulted, Damaged}
 use Rattle.store_run.specs.declared.run.Finished.{Finished}
@@ -79,6 +85,11 @@ pub record IsRunInOrder (sizes : Sizes) (lines : List Line) (run : Run) : Type 0
   pub printed : IsRunOf sizes lines 0 0 run
   pub in_order : asked_in run.entries ≡ asked lines
 
+-- In the end no caller's work is open, and none owes unless the store is stopped.
+pub record HaveRested (gears : GearState) (book : BookState) : Type 0 where
+  pub idle : (seat : ℕ) → seat < callers → (work_in seat book).turns ≡ 0
+  pub even : book.stopped ≡ None → (seat : ℕ) → seat < callers → first_debt gears seat + second_debt gears seat ≡ 0
+
 -- How callers and workers ended: each caller left, with no open work, and owes nothing unless the store is stopped; each worker took a turn, where it
 -- takes any, and no more than it may, and no more quanta than turns. No other worker's seat took any.
 pub record HaveEnded (workers turns : ℕ) (gears : GearState) (book : BookState) : Type 0 where
@@ -108,16 +119,33 @@ pub record AreCounted (run : Run) (first last : DiskState) : Type 0 where
   pub quiet : faults_told run.entries ≡ 0 → is_by_fault run.totals.stopped ≡ false → last.faults ≡ first.faults
   pub stop : NamesCount run.totals.stopped first last
 
--- Calls of the core led from the opened store to what is printed, and each has its cause.
-pub record HasCauses {D : Type 0} (state : D → DiskState) (run : Run) (last : D) : Type 0 where
+-- The core that the opening left of this disk, with this room: nothing was asked of it, and the opening made few calls, none of which failed, on a file that
+-- was as long as its sizes say.
+pub record WasOpened {D : Type 0} (state : D → DiskState) (room : Room) (first : D) (core : CoreState D) : Type 0 where
+  pub unasked : IsUnasked state core
+  pub begins : IsOpened (no_entries room) (state core.disk).faults core.held
+  -- its charge is what the catalogue's C1 and C2 weigh
+  pub weighs : charge_in core.held ≡ core.held.runs.catalogue.c1.weight + core.held.runs.catalogue.c2.weight
+  pub goes_on : GoesOn (state first) (state core.disk)
+  pub few : CallsFew (most_opening_calls core.held.runs.sizes) (state first) (state core.disk)
+  pub calm : (state core.disk).faults ≡ (state first).faults
+  pub long : HasLengthOf core.held.runs.sizes (state first)
+
+-- Calls of the core led from the store as it was opened on this disk to what is printed, and to the disk that came back, and each has its cause.
+pub record HasCauses {D : Type 0} (state : D → DiskState) (room : Room) (run : Run) (first last : D) : Type 0 where
   pub calls : List (Step × CoreState D)
   pub opened : CoreState D
   pub end : CoreState D
   pub are : AreCalls state calls opened end
   pub last_is : end.disk ≡ last
-  -- nothing had been asked of the core that was opened, and what is printed first is its charge
-  pub unasked : IsUnasked state opened
-  pub charge : run.charge ≡ charge_in opened.held
+  pub began : WasOpened state room first opened
+  -- what is printed first is the charge of the one, and the rest the other's
+  pub printed : run ≡ run_at (charge_in opened.held) end.held
+  -- the calls of the disk, summed: those of the opening, and those that each call of the core may make
+  pub summed : (state last).clock ≤ (state first).clock + (most_opening_calls opened.held.runs.sizes + calls_of_all opened calls)
+  -- its count has risen for each lookup that failed, and once more for a stop by a fault, whoever's call that was; replies tell of no others
+  pub counted : HasRisenBy (lookups_failed run.entries + one_if (is_by_fault run.totals.stopped)) (state first).faults (state last).faults
+  pub no_others : faults_told run.entries ≤ lookups_failed run.entries + one_if (is_by_fault run.totals.stopped)
   -- an entry's reply is due to what the call found that noted it
   pub replies : (front behind : List Entry) (e : Entry) → run.entries ≡ front ++ e ∷ behind → IsNoted state calls opened end front e
   -- no reply denies a hold or makes one up, and a next's rows are of the range that its caller holds, and rise on from those that were given before

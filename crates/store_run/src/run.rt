@@ -15,7 +15,7 @@ ghost use Rattle.recover_open.specs.Opening.{HasLengthOf, KeepsMapOf, ReadsAsNon
 ghost use Rattle.tree_session.specs.Faults.{Reaches};
 ghost use Rattle.tree_session.specs.Lines.{AreRunnable, HasRoomFor};
 ghost use Rattle.store_run.specs.Run.{AreCounted, CameToEnd, HasCauses, IsEnding, IsRunInOrder, IsRunOf, run_at, run_of};
-ghost use Rattle.store_run.specs.Headline.{Headline, IsServed};
+ghost use Rattle.store_run.specs.Headline.{Headline, IsServedInOrder};
 
 use crate::ending::ending;
 use blsm_model::{Annals, Gate, Line, Room, Totals};
@@ -101,7 +101,7 @@ pub fn run_over<R: Threads + Wait + Sync, D: Disk + Send + Drop, G: Gate + Sync>
     ensures counted { IfOk result.1 (λ finished. AreCounted (run_of finished) (D.state disk) (D.state result.0)) }
     ensures ending { IfOk result.1 (λ finished. IsEnding finished.ending (run_of finished) (D.state result.0).faults) }
     // Why each reply is so, and what stopped the store.
-    ensures causes { IfOk result.1 (λ finished. HasCauses D.state (run_of finished) result.0) }
+    ensures causes { IfOk result.1 (λ finished. HasCauses D.state room (run_of finished) disk result.0) }
     ensures reaches { (end : ℕ) × (calls : ℕ) × (IsTrue (D.state disk).tells_bytes → end ≤ max superblock_length (length (D.state disk).bytes))
         × Reaches end calls (D.state disk) (D.state result.0) }
     ensures faults { IsErr result.1 → TellsFaultsBy (Err Unreadable.Fault) result.1 (D.state disk) (D.state result.0) }
@@ -109,7 +109,7 @@ pub fn run_over<R: Threads + Wait + Sync, D: Disk + Send + Drop, G: Gate + Sync>
 
     // On an honest disk: the headline, or why the store wasn't opened.
     ensures headline { IsTrue (D.state disk).is_honest
-        → IfOk result.1 (λ finished. (sizes : Sizes) × IsRunOf sizes lines.now workers turns (run_of finished) × Headline D.state sizes lines.now workers turns (run_of finished) room (D.state disk) (D.state result.0)) }
+        → IfOk result.1 (λ finished. (sizes : Sizes) × IsRunOf sizes lines.now workers turns (run_of finished) × Headline D.state sizes lines.now workers turns (run_of finished) room disk result.0) }
     ensures refused { IsTrue (D.state disk).is_honest → IfErr result.1 (λ why. IsWhy why (D.state disk).bytes) }
 
     // Where no command was done, each image of each moment is one from before or reads as the map that the file read as; where it read as none, one
@@ -167,7 +167,7 @@ pub fn run_in_order<D: Disk + Drop>(
         × Reaches end calls (D.state disk) (D.state result.0) }
     ensures faults { IsErr result.1 → TellsFaultsBy (Err Unreadable.Fault) result.1 (D.state disk) (D.state result.0) }
     ensures served { IsTrue (D.state disk).is_honest
-        → IfOk result.1 (λ finished. (sizes : Sizes) × IsRunInOrder sizes lines.now (run_of finished) × IsServed D.state sizes (run_of finished) room (D.state disk) (D.state result.0)) }
+        → IfOk result.1 (λ finished. (sizes : Sizes) × IsRunInOrder sizes lines.now (run_of finished) × IsServedInOrder D.state sizes lines.now (run_of finished) room (D.state disk) (D.state result.0)) }
     ensures refused { IsTrue (D.state disk).is_honest → IfErr result.1 (λ why. IsWhy why (D.state disk).bytes) }
 {
     an_opened_core_rests();
@@ -179,6 +179,7 @@ pub fn run_in_order<D: Disk + Drop>(
     let charge = core.charge();
     run_lines(alloc, &mut core, lines);
     core.kept();
+    calls_are_steps(&core);
     let (disk, finished) = finish(core, charge);
     (disk, Ok(finished))
 }

@@ -25,7 +25,7 @@ use Rattle.tree_reading.specs.First.{IsOfFile}
 use Rattle.tree_reading.specs.Reading.{IsWhy}
 use Rattle.tree_session.specs.Faults.{NamesCount}
 use Rattle.store_run.specs.Run.{AreCounted, IsRunInOrder, Run, run_of}
-use Rattle.store_run.specs.Headline.{IsServed}
+use Rattle.store_run.specs.Headline.{IsServed, IsServedInOrder}
 use Rattle.store_run.specs.declared.run.Finished.{Finished}
 use Rattle.store_trial.specs.Trial.{IsFreshStore, IsRoomOf, IsTrialOf}
 
@@ -84,7 +84,10 @@ module _
     → ReadsAsMap sizes pairs file ↔ (FitsSizes sizes tree × (map_of_tree tree ≡ pairs)))
     (seed count : ℕ) (lines : List Line) (run : Run) (room : Room) (first last : Faultless) (made : lines ≡ generated seed count) (room_is : IsRoomOf room lines)
     (fresh : IsFreshStore first) (still : last.faults ≡ 0) (counted : AreCounted run (faultless_state first) (faultless_state last))
-    (sizes : Sizes) (printed : IsRunInOrder sizes lines run) (served : IsServed faultless_state sizes run room (faultless_state first) (faultless_state last)) where
+    (sizes : Sizes) (printed : IsRunInOrder sizes lines run) (in_order : IsServedInOrder faultless_state sizes lines run room (faultless_state first) (faultless_state last)) where
+  abbrev served : IsServed faultless_state sizes run room (faultless_state first) (faultless_state last)
+  served = in_order.served
+
   sizes_are : sizes ≡ default_sizes
   sizes_are = one_sizes sizes default_sizes served.found.image first_tree first.bytes served.found.holds fresh.empty
 
@@ -112,11 +115,11 @@ module _
       let by_page = none_behind (list_any (λ (e : Entry). is_damaged e.reply) run.entries) (is_by_page run.totals.stopped) served.no_page in
       none_stops run.totals.stopped (faultless_state first) (faultless_state last) counted.stop by_page fresh.faults still
 
-  abbrev IsServedAt : Sizes → Type 0
-  IsServedAt z = (was : IsServed faultless_state z run room (faultless_state first) (faultless_state last)) × (was.opening ≡ [])
+  abbrev IsServedAt : Sizes → List Line → Type 0
+  IsServedAt z ls = (was : IsServedInOrder faultless_state z ls run room (faultless_state first) (faultless_state last)) × (was.served.opening ≡ [])
 
-  served_at : IsServedAt default_sizes
-  served_at = subst IsServedAt sizes_are (served, opening_is)
+  served_at : IsServedAt default_sizes (generated seed count)
+  served_at = subst (λ (ls : List Line). IsServedAt default_sizes ls) made (subst (λ (z : Sizes). IsServedAt z lines) sizes_are (in_order, opening_is))
 
   pub is_trial : IsTrialOf seed count run last
   is_trial = record {
@@ -126,8 +129,11 @@ module _
     fresh = fresh;
     room = room;
     room_is = subst (λ (ls : List Line). IsRoomOf room ls) made room_is;
-    served = served_at.0;
+    served = served_at.0.served;
     empty = served_at.1;
+    rests = served_at.0.rests;
+    unhelped = served_at.0.unhelped;
+    solo = served_at.0.solo;
     nothing = nothing;
     untold = let risen = counted.risen in omega (arith, risen, fresh.faults, still);
     runs = never_stopped;
@@ -143,14 +149,14 @@ pub tried : ((a b : Sizes) (one other : Tree) (file : List ℕ) → HoldsTree a 
     → (seed count : ℕ) (lines : List Line) (room : Room) (disk last : Faultless) (result : Result Finished Unreadable) (finished : Finished)
     → lines ≡ generated seed count → IsRoomOf room lines → IsFreshStore disk → last.faults ≡ 0
     → IfOk result (λ f. AreCounted (run_of f) (faultless_state disk) (faultless_state last))
-    → IfOk result (λ f. (sizes : Sizes) × IsRunInOrder sizes lines (run_of f) × IsServed faultless_state sizes (run_of f) room (faultless_state disk) (faultless_state last))
+    → IfOk result (λ f. (sizes : Sizes) × IsRunInOrder sizes lines (run_of f) × IsServedInOrder faultless_state sizes lines (run_of f) room (faultless_state disk) (faultless_state last))
     → result ≡ Ok finished → IsTrialOf seed count (run_of finished) last
 tried one_sizes one_tree one_map seed count lines room disk last result finished made room_is fresh still counted served is =
     let count_is =
     subst (λ (r : Result Finished Unreadable). IfOk r (λ f. AreCounted (run_of f) (faultless_state disk) (faultless_state last))) is counted in
     let all =
     subst (λ (r : Result Finished Unreadable).
-    IfOk r (λ f. (sizes : Sizes) × IsRunInOrder sizes lines (run_of f) × IsServed faultless_state sizes (run_of f) room (faultless_state disk) (faultless_state last)))
+    IfOk r (λ f. (sizes : Sizes) × IsRunInOrder sizes lines (run_of f) × IsServedInOrder faultless_state sizes lines (run_of f) room (faultless_state disk) (faultless_state last)))
     is served in
     is_trial one_sizes one_tree one_map seed count lines (run_of finished) room disk last made room_is fresh still count_is all.0 all.1 all.2
 

@@ -40,7 +40,8 @@ use Rattle.core_moves.specs.declared.held.Held.{Held}
 use Rattle.core_pace.specs.Events.{MayWrite}
 use Rattle.tree_core.specs.Answers.{reply_to_write}
 use Rattle.tree_core.specs.Calls.{Admits}
-use Rattle.tree_core.specs.Causes.{AdmitsBecause, HasBegun, calls_to_admit}
+use Rattle.tree_core.specs.Causes.{AdmitsBecause, HasBegun, calls_to_admit, swaps_due_in}
+use Rattle.tree_core.specs.Clock.{EndsAdmitted, EndsAppended}
 use Rattle.tree_core.specs.Core.{CoreState, HoldsPace, IsCore}
 use Rattle.tree_core.specs.Standing.{AnyRows, StandsFor}
 use Rattle.tree_core.specs.Steps.{IsStep, may_in}
@@ -70,11 +71,11 @@ module _ {D : Type 0} (state : D → DiskState) (seat : ℕ) (op : Op) (old : Co
 
   refuses : (answer : Admission) → ((pace : Pace) → IsReplied (reply_to_write answer) seat op pace pace) → is_done (reply_to_write answer) ≡ false → HasRoom old.held.book.book.room (record { seat = seat; op = op; reply = reply_to_write answer })
       → AdmitsBecause answer seat op old.held (with_book (noted_in seat op (reply_to_write answer) old.held.book) old.held) (state old.disk) (state old.disk)
-      → HasBegun answer old.held (with_book (noted_in seat op (reply_to_write answer) old.held.book) old.held)
+      → HasBegun answer old.held (with_book (noted_in seat op (reply_to_write answer) old.held.book) old.held) → EndsAdmitted answer old.held (state old.disk) (state old.disk)
       → ((opening : List (Key × Value)) (m : Machine) → IsAsked opening seat op old.held m (state old.disk)
       → IsStep AnyRows opening seat (kind.Admit op) (Replied (reply_to_write answer)) (with_book (noted_in seat op (reply_to_write answer) old.held.book) old.held) (state old.disk) (state old.disk) m)
       → Admits state seat op answer old (record old { held = with_book (noted_in seat op (reply_to_write answer) old.held.book) old.held })
-  refuses answer made undone has because begun steps =
+  refuses answer made undone has because begun ends steps =
       let reply = reply_to_write answer in
       let b = noted_in seat op reply old.held.book in
       let goes = goes_on_by {end = 0} {most = 0} state seat (kind.Admit op) (Replied reply) old (record old { held = with_book b old.held }) core timed refl can (record { holds = refl; pins = refl; sizes = refl }) (no_commits old.held (with_book b old.held) refl refl) (affects_start (state old.disk) timed) (quiet_follows seat op reply old.held)
@@ -86,18 +87,19 @@ module _ {D : Type 0} (state : D → DiskState) (seat : ℕ) (op : Op) (old : Co
         begun = begun;
         notes = notes_at_once seat op reply old.held.book b refl;
         effect = affects_start (state old.disk) timed;
+        ends = ends;
         untouched = λ none. refl;
       }
 
   pub admit_stopped : (why : Why) (b : BookState) → old.held.book.stopped ≡ Some why → b ≡ noted_in seat op (Stopped why) old.held.book → Admits state seat op (admission.Stopped why) old (record old { held = with_book b old.held })
   admit_stopped why b stopped is = subst (λ (x : BookState). Admits state seat op (admission.Stopped why) old (record old { held = with_book x old.held })) (sym is)
-      (refuses (admission.Stopped why) (λ pace. refl) refl (note_has_room old.held.book seat 0 op (Stopped why) room (omega arith)) (stopped, refl) tt (λ opening m asked. stopped_steps opening seat op old.held m (state old.disk) asked why stopped))
+      (refuses (admission.Stopped why) (λ pace. refl) refl (note_has_room old.held.book seat 0 op (Stopped why) room (omega arith)) (stopped, refl) tt tt (λ opening m asked. stopped_steps opening seat op old.held m (state old.disk) asked why stopped))
 
   pub admit_full : (charge : ℕ) (b : BookState) → old.held.book.stopped ≡ None → charge ≡ charge_in old.held → charge_limit old.held.runs.sizes (is_del op) < charge_in old.held + total_weight (writes_of op) → b ≡ noted_in seat op (Full charge) old.held.book
       → Admits state seat op (admission.Full charge) old (record old { held = with_book b old.held })
   admit_full charge b ran charge_is past is = subst (λ (x : BookState). Admits state seat op (admission.Full charge) old (record old { held = with_book x old.held })) (sym is)
       (subst (λ (n : ℕ). Admits state seat op (admission.Full n) old (record old { held = with_book (noted_in seat op (Full n) old.held.book) old.held })) (sym charge_is)
-      (refuses (admission.Full (charge_in old.held)) (λ pace. refl) refl (note_has_room old.held.book seat 0 op (Full (charge_in old.held)) room (omega arith)) (ran, refl, past, refl) tt
+      (refuses (admission.Full (charge_in old.held)) (λ pace. refl) refl (note_has_room old.held.book seat 0 op (Full (charge_in old.held)) room (omega arith)) (ran, refl, past, refl) tt tt
       (λ opening m asked. full_steps opening seat op old.held m (state old.disk) asked ran past)))
 
   -- ---- the write is taken, or a call of the disk fails
@@ -110,9 +112,9 @@ module _ {D : Type 0} (state : D → DiskState) (seat : ℕ) (op : Op) (old : Co
         (opening : List (Key × Value)) (m : Machine) → IsTrue (state old.disk).is_honest → StandsFor AnyRows opening old.held m (state old.disk) → old.held.book.stopped ≡ None → may m seat (kind.Admit op) ≡ true → WritesFit (kind.Admit op)
         → TakesOver taking opening seat op m new (state old.disk) (state disk)
 
-    pub admit_taken : is_write op ≡ true → Takes Taken seat (key_of write) (record_of write) old.held new (state disk) → (state disk).faults ≡ (state old.disk).faults → LeavesOver Taken → b ≡ noted_in seat op Done new.book
+    pub admit_taken : is_write op ≡ true → Takes Taken seat (key_of write) (record_of write) old.held new (state disk) → (state disk).faults ≡ (state old.disk).faults → EndsAppended (swaps_due_in old.held) (state old.disk) (state disk) → LeavesOver Taken → b ≡ noted_in seat op Done new.book
         → Admits state seat op admission.Admitted old (record { disk = disk; held = with_book b new; holds = old.holds })
-    admit_taken writing takes calm lists is =
+    admit_taken writing takes calm ends lists is =
         let keeps = taken_keeps seat (key_of write) (record_of write) old.held new (state disk) takes in
         let pins = taking_keeps_pins Taken seat (key_of write) (record_of write) old.held new (state disk) takes in
         let moves = λ (pace : Pace) (paced : HoldsPace old.held pace (state old.disk)). taken_moves seat op write old.held new pace (state disk) writes writing (paced.live ran).paced may_write (note_has_room old.held.book seat 0 op Done room (omega arith)) takes in
@@ -130,6 +132,7 @@ module _ {D : Type 0} (state : D → DiskState) (seat : ℕ) (op : Op) (old : Co
           begun = tt;
           notes = notes_by seat op Done old.held.book new.book (noted_in seat op Done new.book) keeps refl;
           effect = effect;
+          ends = ends;
           untouched = λ none. absurd none;
         })
 
@@ -151,6 +154,7 @@ module _ {D : Type 0} (state : D → DiskState) (seat : ℕ) (op : Op) (old : Co
           begun = begun_by begun seat (key_of write) (record_of write) old.held new (noted_in seat op reply (stopped_in why new.book)) (state disk) takes;
           notes = notes_stopped seat op reply why old.held.book new.book (noted_in seat op reply (stopped_in why new.book)) keeps refl;
           effect = effect;
+          ends = tt;
           untouched = λ none. absurd none;
         })
 

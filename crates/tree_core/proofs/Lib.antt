@@ -23,6 +23,7 @@ pub mod TurnMoves
 pub mod TurnLemmas
 pub mod TurnSteps
 pub mod BegunLemmas
+mod ClockLemmas
 mod NotingLemmas
 mod TurnCalls
 mod PaymentCalls

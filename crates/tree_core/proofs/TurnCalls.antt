@@ -31,6 +31,7 @@ use Rattle.core_moves.specs.Moves.{with_book}
 use Rattle.core_lists.specs.Steps.{choice_of}
 use Rattle.tree_core.specs.Calls.{BesideHolds, GoesOnAs, Helps}
 use Rattle.tree_core.specs.Causes.{IsDamageAhead, TurnsBecause, TurnsNone, merge_of}
+use Rattle.tree_core.specs.Clock.{LeavesDisk}
 use Rattle.tree_core.specs.Core.{CoreState, IsCore}
 use Rattle.tree_core.specs.Quanta.{LeavesMoved, ended_by}
 use Rattle.tree_core.specs.Steps.{may_in}
@@ -75,6 +76,7 @@ rests_helping state seat ended old b timed above below places counts goes becaus
   still = λ none. ap (λ (x : BookState). x.stopped) counts;
   effect = affects_start (state old.disk) timed;
   untouched = λ none. refl;
+  in_memory = λ none. refl;
 }
 
 pub takes_halted : {D : Type 0} (state : D → DiskState) (w : Bool) (seat : ℕ) (why : Why) (old : CoreState D) (b : BookState) → IsCore old.held (state old.disk) → IsTimed (state old.disk) → old.held.book.stopped ≡ Some why → HasPlaces old.held.book
@@ -92,6 +94,7 @@ takes_halted state false seat why old b core timed stopped places counts may =
       even = λ runs. absurd (let e = ap (λ (x : BookState). x.stopped) counts in cc (e, stopped, runs));
       effect = affects_start (state old.disk) timed;
       untouched = λ none. refl;
+      in_memory = λ none. refl;
     }
 
 pub takes_closed : {D : Type 0} (state : D → DiskState) (w : Bool) (seat : ℕ) (old : CoreState D) (b : BookState) → IsCore old.held (state old.disk) → IsTimed (state old.disk) → None ≡ old.held.book.stopped → (w && is_closed_in old.held.book) ≡ true
@@ -112,6 +115,7 @@ pub record Turning {D : Type 0} (state : D → DiskState) (w : Bool) (seat : ℕ
   pub counted : faults ≡ (state disk).faults
   pub few : (state disk).faults < 2 ^ 64
   pub called : IsErr made → calls_disk (choice_of mv) ≡ true
+  pub in_memory : LeavesDisk mv old.disk disk
   pub lists : (tree : Tree) → IsTrue (state old.disk).is_honest → StandOver old.held.runs tree old.held.log.a.entries (state old.disk) → (next : Tree) × LeavesMoved mv made old.held moved tree next (state old.disk) (state disk)
   pub opened : (m : Machine) → book_of m ≡ old.held.book → IsOpenTo w m
 
@@ -154,6 +158,7 @@ takes_turn state true seat mv made faults old disk moved ended b places t may ev
       still = λ none. absurd (never none);
       effect = t.effect;
       untouched = λ none. absurd (never none);
+      in_memory = subst (λ (x : Move). LeavesDisk x old.disk disk) t.ends.turns.is t.in_memory;
     }
 takes_turn state false seat mv made faults old disk moved ended b places t may even =
     let before = state old.disk in
@@ -167,6 +172,7 @@ takes_turn state false seat mv made faults old disk moved ended b places t may e
       even = λ runs. turn_owes seat mv made faults old.held moved ended b before after t.ends;
       effect = t.effect;
       untouched = λ none. absurd (never_still made mv (subst (λ (e : Turned). TurnsNone e) t.ends.ended_is none));
+      in_memory = subst (λ (x : Move). LeavesDisk x old.disk disk) t.ends.turns.is t.in_memory;
     }
 
 -- a move comes before the store is closed only

@@ -24,6 +24,8 @@ use Rattle.tree_runs.specs.Runs.{page_share}
 use Rattle.core_moves.specs.Moves.{with_book}
 use Rattle.tree_core.specs.Answers.{answer_to_pay, newest_in, reply_to_drop, reply_to_get, reply_to_hold, reply_to_next, reply_to_write}
 use Rattle.tree_core.specs.Causes.{AdmitsBecause, CallsNone, DropsBecause, FindsBecause, HasBegun, HoldsBecause, LooksNone, PaysBecause, PaysNone, ScansBecause, ScansNone, TurnsBecause, TurnsNone, calls_to_admit, IsLookOn}
+use Rattle.core_pace.specs.Turns.{move_in}
+use Rattle.tree_core.specs.Clock.{EndsAdmitted, LeavesDisk}
 use Rattle.tree_core.specs.Core.{CoreState, HoldsPace, facts_of_held}
 use Rattle.tree_core.specs.Holds.{KeepsHolds, LeavesOthers, StandsWhole}
 use Rattle.tree_core.specs.Notes.{CountsPayment, CountsTurn, HasLeft, HelpsOnce, Lessens, NotesNone, NotesOne, OwesNothing, Settles, CountsCommits, rotations}
@@ -61,6 +63,7 @@ pub record Admits {D : Type 0} (state : D → DiskState) (seat : ℕ) (op : Op) 
   pub begun : HasBegun answer old.held new.held
   pub notes : NotesOne seat op (reply_to_write answer) old.held.book new.held.book
   pub effect : Affects (beside_pins old.held.runs.sizes old.held.runs.space.pins) (file_length old.held.runs.sizes) (calls_to_admit old.held) (state old.disk) (state new.disk)
+  pub ends : EndsAdmitted answer old.held (state old.disk) (state new.disk)
   pub untouched : CallsNone answer → new.disk ≡ old.disk
 
 pub record Pays {D : Type 0} (state : D → DiskState) (seat : ℕ) (answer : Payment) (old new : CoreState D) : Type 0 where
@@ -139,6 +142,7 @@ pub record TurnsOnce {D : Type 0} (state : D → DiskState) (seat : ℕ) (answer
   pub even : new.held.book.stopped ≡ None → OwesNothing seat new.held
   pub effect : Affects (beside_pins old.held.runs.sizes old.held.runs.space.pins) (file_length old.held.runs.sizes) (old.held.runs.sizes.quantum / 4 + 9) (state old.disk) (state new.disk)
   pub untouched : TurnsNone answer → new.disk ≡ old.disk
+  pub in_memory : LeavesDisk (move_in false old.held) old.disk new.disk
 
 pub record EndsWork {D : Type 0} (state : D → DiskState) (seat n : ℕ) (reply : Reply) (old new : CoreState D) : Type 0 where
   pub goes : GoesOnAs state seat (kind.WorkEnd n) (Replied reply) old new
@@ -156,6 +160,7 @@ pub record Helps {D : Type 0} (state : D → DiskState) (seat : ℕ) (answer : T
   pub still : TurnsNone answer → new.held.book.stopped ≡ old.held.book.stopped
   pub effect : Affects (beside_pins old.held.runs.sizes old.held.runs.space.pins) (file_length old.held.runs.sizes) (old.held.runs.sizes.quantum / 4 + 9) (state old.disk) (state new.disk)
   pub untouched : TurnsNone answer → new.disk ≡ old.disk
+  pub in_memory : LeavesDisk (move_in true old.held) old.disk new.disk
 
 pub record Leaves {D : Type 0} (state : D → DiskState) (seat : ℕ) (old new : CoreState D) : Type 0 where
   pub goes : GoesOnAs state seat kind.Leave Left old new

@@ -6,6 +6,7 @@ pub mod HoldMoves
 pub mod Scanned
 pub mod Answers
 pub mod Causes
+pub mod Clock
 pub mod Notes
 pub mod Steps
 pub mod Calls

@@ -21,6 +21,7 @@ ghost use Rattle.tree_machine.specs.Stands.{WritesFit};
 ghost use Rattle.core_pace.specs.Events.{MayWrite};
 ghost use Rattle.tree_core.specs.Calls.{Admits};
 ghost use Rattle.tree_core.specs.Causes.{calls_to_admit};
+ghost use Rattle.tree_core.specs.Clock.{EndsTaken};
 ghost use Rattle.tree_core.specs.Standing.{AnyRows, StandsFor};
 ghost use Rattle.tree_core.specs.Taking.{Runs, Takes, TakesOver, TellsTaking};
 
@@ -49,6 +50,7 @@ fn take<D: Disk>(held: &mut Held, disk: &mut D, seat: u32, op: &Op, write: &Writ
         → held.old.book.stopped ≡ None → IsTrue (may m seat (kind.Admit op.now)) → WritesFit (kind.Admit op.now)
         → TakesOver result opening seat op.now m held.new (D.state disk.old) (D.state disk.new) }
     ensures effect { Affects (beside_pins held.old.runs.sizes held.old.runs.space.pins) (file_length held.old.runs.sizes) (calls_to_admit held.old) (D.state disk.old) (D.state disk.new) }
+    ensures ends { EndsTaken result held.old (D.state disk.old) (D.state disk.new) }
     ensures faults { TellsTaking result (D.state disk.old) (D.state disk.new) }
 {
     let rec = Rec::of_write(write);

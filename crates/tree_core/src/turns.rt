@@ -20,6 +20,7 @@ ghost use Rattle.core_pace.specs.Turns.{MayMove, TurnsBy, may_begin_in, move_at_
 ghost use Rattle.core_lists.specs.Steps.{choice_of};
 ghost use Rattle.tree_core.specs.Calls.{Helps, TurnsOnce};
 ghost use Rattle.tree_core.specs.Causes.{IsDamageAhead, merge_of};
+ghost use Rattle.tree_core.specs.Clock.{LeavesDisk};
 ghost use Rattle.tree_core.specs.Quanta.{LeavesMoved, as_moved, ended_by, quanta_by, stopped_by};
 ghost use Rattle.tree_core.specs.Turning.{IsEven, MayCount, TakesTurn, counted_by, move_of};
 
@@ -113,6 +114,7 @@ fn make<D: Disk>(held: &mut Held, disk: &mut D, seat: u32, choice: Choice) -> Re
     ensures damaged { (n : ℕ) → result ≡ Err (Broken.Damaged n) → IsTrue (D.state disk.old).tells_bytes → IsDamageAhead (merge_of (move_of choice)) held.new.runs n (D.state disk.new).bytes }
     ensures on { OnOk result (IsOn held.new (D.state disk.new)) }
     ensures calls { IsErr result → IsTrue (calls_disk (choice_of (move_of choice))) }
+    ensures in_memory { LeavesDisk (move_of choice) disk.old disk.new }
     ensures kept { KeepsAllButMerges (IsErr result) held.old held.new }
     ensures effect { Affects (beside_pins held.old.runs.sizes held.old.runs.space.pins) (file_length held.old.runs.sizes) (held.old.runs.sizes.quantum / 4 + 9) (D.state disk.old) (D.state disk.new) }
     ensures faults { TellsFaultsBy (Err Broken.Fault) result (D.state disk.old) (D.state disk.new) }

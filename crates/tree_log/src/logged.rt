@@ -6,6 +6,7 @@ ghost use Rattle.blsm_model.specs.Geometry.{file_length};
 ghost use Rattle.blsm_model.specs.Lanes.{region_length};
 ghost use Rattle.record_delta.specs.Records.{weight};
 ghost use Rattle.record_delta.specs.Entries.{entries_weight, over_any, record_of_key, with_record};
+ghost use Rattle.gated_write.specs.Ends.{EndsSynced};
 ghost use Rattle.gated_log.specs.Lane.{lane_region, Appends};
 ghost use Rattle.gated_log.specs.Lanes.{end_of, moved};
 ghost use Rattle.tree_file.specs.Tree.{Tree};
@@ -55,6 +56,7 @@ fn append_to<D: Disk>(
     ensures ended { OnOk result (end_of lanes.new lane ≡ end_of lanes.old lane + (weight key.now rec.now + 1)) }
     ensures table { table.new ≡ (if is_ok result then folded_into key.now rec.now table.old else table.old) }
     ensures appends { Appends lanes.old.sizes lane (end_of lanes.old lane) (key.now, rec.now) (is_ok result) (D.state disk.old) (D.state disk.new) }
+    ensures ends { OnOk result (EndsSynced 4 (D.state disk.old) (D.state disk.new)) }
     ensures effect { Affects (lane_region lanes.old.sizes lane) (file_length lanes.old.sizes) 4 (D.state disk.old) (D.state disk.new) }
     ensures faults { TellsFaults result (D.state disk.old) (D.state disk.new) }
 {
@@ -157,7 +159,8 @@ impl LoggedTables {
         ensures becomes { (tree : Tree) → IsTrue (D.state disk.old).is_honest → IsLogOf tree self.old → StandsOn self.old.lanes.sizes tree (D.state disk.old)
             → Becomes self.old.lanes.sizes tree (appended ahead (key.now, rec.now) tree) (is_ok result) (D.state disk.old) (D.state disk.new) }
 
-        // Whatever the disk tells, it is four calls at most, which write in the lane's region alone.
+        // Whatever the disk tells, it is four calls, which write in the lane's region alone and end with a sync, or fewer where one fails.
+        ensures ends { OnOk result (EndsSynced 4 (D.state disk.old) (D.state disk.new)) }
         ensures effect { Affects (lane_region self.old.lanes.sizes (lane_for ahead self.old)) (file_length self.old.lanes.sizes) 4 (D.state disk.old) (D.state disk.new) }
         ensures faults { TellsFaults result (D.state disk.old) (D.state disk.new) }
     {

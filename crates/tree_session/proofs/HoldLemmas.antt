@@ -31,7 +31,7 @@ use Rattle.tree_session.specs.Lines.{Rests}
 use Rattle.tree_session.specs.Session.{Performs, most_calls}
 use Rattle.tree_session.proofs.BookLemmas.{count_none}
 use Rattle.tree_session.proofs.FaultLemmas.{none_told, proceeds_by, reaches_none, tells_quiet}
-use Rattle.tree_session.proofs.MadeLemmas.{made_by}
+use Rattle.tree_session.proofs.MadeLemmas.{caller_is_no_help, made_by}
 use Rattle.blsm_model.specs.Scripts.{rows_of}
 
 -- ---- a command that notes its entry alone
@@ -56,7 +56,7 @@ notes_alone state seat k op reply old new below begins rests goes call gears boo
       rests = still_rests seat op reply old new gears book rests;
       begins = goes.begins;
       proceeds = proceeds_by state (faults_of reply) (most_calls old.held.runs.sizes op 0 (swaps_due_in old.held)) old new below begins goes effect tells;
-      made = made_by state seat k old new call;
+      made = made_by state seat k old new call (caller_is_no_help state seat k old new call below);
     }
 
 -- and one that calls no disk

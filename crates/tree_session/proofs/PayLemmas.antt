@@ -61,7 +61,7 @@ paying_more state seat old mid new below so_far call = record {
   keeps = core_then call.goes so_far.keeps;
   begins = call.goes.begins;
   proceeds = proceeds_paying state seat payment.Paid old mid new below so_far call;
-  made = made_then state old mid new so_far.made (made_by state seat kind.Pay mid new (payment.Paid, call));
+  made = made_then state old mid new so_far.made (made_by state seat kind.Pay mid new (payment.Paid, call) refl);
 }
 
 pub paying_less : {D : Type 0} (state : D → DiskState) (seat : ℕ) (old mid new : CoreState D) → HasWrite seat old.held.book.book → Paying state seat old mid → Pays state seat payment.Paid mid new
@@ -85,5 +85,5 @@ paid_off state seat answer old mid new not below so_far call =
       others = eases_then seat old.held mid.held new.held so_far.others (eases_by seat mid.held new.held call.goes.follows);
       keeps = core_then call.goes so_far.keeps;
       proceeds = proceeds_paying state seat answer old mid new below so_far call;
-      made = made_then state old mid new so_far.made (made_by state seat kind.Pay mid new (answer, call));
+      made = made_then state old mid new so_far.made (made_by state seat kind.Pay mid new (answer, call) refl);
     }

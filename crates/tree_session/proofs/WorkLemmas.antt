@@ -72,7 +72,7 @@ turning_more state seat t ended old mid new below so_far call =
       begins = call.goes.begins;
       proceeds = proceeds_more state (faults_of_turn ended) t 9 old mid new so_far.proceeds
           (proceeds_by state (faults_of_turn ended) (mid.held.runs.sizes.quantum / 4 + 9) mid new below so_far.begins call.goes (reaches_by call.effect) (turn_tells state seat ended mid new call));
-      made = made_then state old mid new so_far.made (made_by state seat kind.WorkTurn mid new (ended, call));
+      made = made_then state old mid new so_far.made (made_by state seat kind.WorkTurn mid new (ended, call) refl);
     }
 
 -- ---- the last turn
@@ -128,7 +128,7 @@ work_ended {D} state seat n reply old mid new below begins rests turns call = re
         (all_even seat old.held mid.held (rests.even (ran (sym stops ∙ runs))) turns.others (turns.even (sym stops ∙ runs)) any);
   };
   begins = call.goes.begins;
-  made = made_then state old mid new turns.made (made_by state seat (kind.WorkEnd n) mid new (reply, call));
+  made = made_then state old mid new turns.made (made_by state seat (kind.WorkEnd n) mid new (reply, call) refl);
   proceeds =
       let ending = proceeds_by state 0 0 mid new below begins call.goes
       (subst (λ (d : D). Reaches (file_length mid.held.runs.sizes) 0 (state mid.disk) (state d)) (sym call.untouched) (reaches_none (state mid.disk)))

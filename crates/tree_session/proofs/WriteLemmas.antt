@@ -70,7 +70,7 @@ write_refused state seat op answer old new write below begins not rests call =
       begins = call.goes.begins;
       proceeds = proceeds_wider state (faults_of (reply_to_write answer)) (calls_to_admit old.held) (most_calls old.held.runs.sizes op 0 (swaps_due_in old.held)) old new
           (omega (arith, (of_write old.held.runs.sizes op 0 (swaps_due_in old.held) write).0)) (admit_proceeds state seat op answer old new below begins call);
-      made = made_by state seat (kind.Admit op) old new (answer, call);
+      made = made_by state seat (kind.Admit op) old new (answer, call) refl;
     }
 
 pub write_taken : {D : Type 0} (state : D → DiskState) (seat : ℕ) (op : Op) (old mid new : CoreState D) → is_write op ≡ true → seat < callers → IsCore old.held (state old.disk) → StandsSince state old old → Rests old.held
@@ -98,5 +98,5 @@ write_taken state seat op old mid new write below keeps first rests call pays be
       };
       begins = begins;
       proceeds = proceeds;
-      made = made_then state old mid new (made_by state seat (kind.Admit op) old mid (admission.Admitted, call)) pays.made;
+      made = made_then state old mid new (made_by state seat (kind.Admit op) old mid (admission.Admitted, call) refl) pays.made;
     }

@@ -16,7 +16,7 @@ use Rattle.blsm_model.specs.declared.op.Op.TheVariants.{Get, Hold, Next, Release
 use Rattle.disk_trait.specs.Disk.{DiskState}
 use Rattle.gear_sched.specs.Gears.{first_debt, second_debt}
 use Rattle.seat_book.specs.State.{work_in}
-use Rattle.tree_machine.specs.Plays.{is_finished}
+use Rattle.tree_machine.specs.Plays.{is_finished, is_help}
 use Rattle.tree_machine.specs.Steps.{last_write}
 use Rattle.tree_machine.specs.declared.step.Step.{Step}
 use Rattle.tree_runs.specs.Runs.{page_share}
@@ -51,9 +51,10 @@ most_calls sizes Release quanta due = 0
 most_calls sizes (Work n) quanta due = n * (sizes.quantum / 4 + 9)
 most_calls sizes op quanta due = (4 + 9 * due) + (quanta + 1) * (sizes.quantum / 4 + 3)
 
--- Some calls of the core led from the one to the other. Each has all that the core says of it: why it answered so, and by which of the disk's bytes.
+-- Some calls of the core led from the one to the other, none of which is a worker's turn. Each has all that the core says of it: why it answered so, and by
+-- which of the disk's bytes.
 abbrev pub IsMade : {D : Type 0} → (D → DiskState) → CoreState D → CoreState D → Type 0
-IsMade {D} state old new = (calls : List (Step × CoreState D)) × AreCalls state calls old new
+IsMade {D} state old new = (calls : List (Step × CoreState D)) × AreCalls state calls old new × AllByRecursion (λ one. is_help one.0.kind ≡ false) calls
 
 -- One entry is noted for it, with few quanta and few calls of the disk, and the session rests again.
 pub record Performs {D : Type 0} (state : D → DiskState) (seat : ℕ) (op : Op) (old new : CoreState D) : Type 0 where

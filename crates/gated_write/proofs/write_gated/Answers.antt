@@ -2,6 +2,7 @@ use Rattle.std.proofs.Common.{[], ◌∷◌, List, ℕ, IsTrue, sym, ◌∙◌, 
 use Rattle.disk_trait.specs.Disk.{overwritten}
 use Rattle.gated_write.specs.Gated.{open_byte}
 use Rattle.gated_write.proofs.Stages.{text_effect, leaves_text, gate_effect, leaves_gate, gate_over_text}
+use Rattle.gated_write.proofs.EndLemmas.{then_ends}
 use Rattle.gated_write.proofs.write_gated.Goals as goal
 
 pub returns-in_err-write_through-clause-effect : goal.returns-in_err-write_through-clause-effect
@@ -48,3 +49,6 @@ returns-clause-written g c =
       durable = λ honest. gate_done.durable (still honest);
       long = λ told. omega (arith, gate_done.long (tells told), text_done.long told);
     }
+
+pub returns-clause-ends : goal.returns-clause-ends
+returns-clause-ends g c = then_ends 2 c.write_through.ensures.effect.goes_on c.in_ok-write_through.ensures.ends c.in_ok-write_through-2.ensures.ends

@@ -1,4 +1,5 @@
 use Rattle.std.proofs.Common.{arith}
+use Rattle.disk_trait.proofs.EffectLemmas.{affects_wider}
 use Rattle.catalog_swap.proofs.SwapLemmas.{each_commit, reads_commit, settled_commit, on_ok}
 use Rattle.catalog_swap.proofs.swap.commit.Goals as goal
 
@@ -18,3 +19,8 @@ returns-clause-committed g c =
     let long = c.requires tells in
     settled_commit c.args.geo.now now c.args.new.now is _ c.slot_of.ensures _ c.body_of.ensures (g.D.Disk.state c.args.disk.now) (g.D.Disk.state c.write_gated.new.disk) ready
     (omega (arith, c.slot_of.ensures, long)) (c.write_gated.ensures.effect.bytes honest) (written.bytes honest) (written.durable honest))
+
+pub returns-clause-effect : goal.returns-clause-effect
+returns-clause-effect g c =
+    affects_wider (λ i inside. (omega (arith, inside.0, c.slot_of.ensures), omega (arith, inside.1, c.slot_of.ensures, c.body_of.type_inv)))
+    (omega (arith, c.slot_of.ensures, c.body_of.type_inv, c.pages-pages.ensures.pages, c.pages-pages.ensures.bound)) (omega arith) c.write_gated.ensures.effect

@@ -52,7 +52,7 @@ returns-clause-served g c = λ honest.
     let runs = c.run_lines.ensures in
     let begins = c.kept.ensures.begins in
     let kept = c.kept-2.ensures.core in
-    served_in_order state c.args.room c.args.lines.now (state c.args.disk) old new honest
+    served_in_order state c.args.room c.args.lines.now (state c.args.disk) old new
     (record {
       opens = c.in-Ok.ensures.stands honest;
       goes_on = c.in-Ok.ensures.effect.effect.goes_on;
@@ -62,4 +62,6 @@ returns-clause-served g c = λ honest.
       run = by_lines state c.args.lines.now annals faults old new opened c.kept.ensures.core kept begins runs;
     })
     (lines_asked state c.args.lines.now annals faults old new opened c.kept.ensures.core kept begins runs) (lines_alone state c.args.lines.now annals faults old new opened c.kept.ensures.core kept begins runs)
+    runs.made.0 runs.made.2 runs.rests
+    (λ opening m stands. c.calls_are_steps.ensures opening runs.made.0 old m c.kept.ensures.core runs.made.1 (c.in-Ok.ensures.effect.effect.goes_on.is_honest ∙ honest) stands)
     c.finish-disk.result.0 c.finish-disk.ensures.disk (run_of c.finish-disk.result.1) (c.finish-disk.ensures.finished ∙ ap (λ (n : ℕ). run_at n new.held) c.charge-charge.ensures)

@@ -1,10 +1,10 @@
 use Rattle.std.specs.Prelude.{ℕ}
-use Rattle.std.proofs.Common.{◌≡◌, ap, subst, sym, ◌∙◌}
-use Rattle.core_chain.specs.Holds.{TellHolds}
+use Rattle.std.proofs.Common.{ap, subst, sym, ◌∙◌}
 use Rattle.core_chain.proofs.HoldLemmas.{holds_none}
 use Rattle.recover_open.specs.Opening.{KeepsMapOf, no_entries}
 use Rattle.seat_book.specs.State.{BookState}
-use Rattle.store_run.specs.Run.{Run, run_at, run_of}
+use Rattle.store_run.specs.Run.{run_at, run_of}
+use Rattle.store_run.proofs.CauseLemmas.{causes_at}
 use Rattle.store_run.proofs.FaultLemmas.{ReachesInside, calm_opening, counted_of, disk_inside, refused_calm, refused_faults, spares_of_file, stays_inside}
 use Rattle.store_run.proofs.HeadlineLemmas.{whole_headline}
 use Rattle.store_run.proofs.RunLemmas.{by_threads, ended_of, few_turned, is_fresh, is_unasked, no_entries_yet, printed_of}
@@ -85,21 +85,28 @@ returns-in-Ok-run_all-clause-causes g c =
     let new = c.in-Ok-run_all.core in
     let came = c.in-Ok-run_all.ensures.came in
     let opened = c.in-Ok.ensures.opened in
-    let rests = c.an_opened_core_rests.ensures (no_entries c.args.room) (state old.disk).faults old.held opened in
-    let none = no_entries_yet (no_entries c.args.room) (state old.disk).faults old.held opened in
-    let is : run_of c.finish-disk.result.1 ≡ run_at c.charge-charge.result new.held = c.finish-disk.ensures.finished in
-    record {
-      calls = came.calls;
-      opened = old;
-      end = new;
+    let annals = no_entries c.args.room in
+    let rests = c.an_opened_core_rests.ensures annals (state old.disk).faults old.held opened in
+    let none = no_entries_yet annals (state old.disk).faults old.held opened in
+    let unasked = is_unasked state annals (state old.disk).faults old opened rests c.kept.ensures.core c.kept.ensures.begins in
+    causes_at state c.args.room c.args.disk came.calls old new
+    (record {
+      unasked = unasked;
+      begins = opened;
+      weighs = c.in-Ok.ensures.charge;
+      goes_on = c.in-Ok.ensures.effect.effect.goes_on;
+      few = c.in-Ok.ensures.calls;
+      calm = calm_opening (state c.args.disk) (state old.disk) c.in-Ok.ensures.faults;
+      long = c.in-Ok.ensures.long;
+    })
+    (record {
       are = came.are;
-      last_is = sym c.finish-disk.ensures.disk;
-      unasked = is_unasked state (no_entries c.args.room) (state old.disk).faults old opened rests c.kept.ensures.core c.kept.ensures.begins;
-      charge = ap (λ (run : Run). run.charge) is ∙ c.charge-charge.ensures;
-      replies = λ front behind e within. c.calls_note.ensures came.calls old front behind e none came.are (sym (ap (λ (run : Run). run.entries) is) ∙ within);
-      holds = subst (λ (run : Run). TellHolds run.entries) (sym is) (c.calls_tell_holds.ensures came.calls old none (holds_none old c.in-Ok.ensures.none) came.are).replies;
-      stops = λ page stopped. c.calls_meet_damage.ensures came.calls old page (ap (λ (b : BookState). b.stopped) opened.book) came.are (sym (ap (λ (run : Run). run.totals.stopped) is) ∙ stopped);
-    }
+      tells = c.calls_tell.ensures came.calls old unasked came.are;
+      replies = λ front behind e within. c.calls_note.ensures came.calls old front behind e none came.are within;
+      holds = (c.calls_tell_holds.ensures came.calls old none (holds_none old c.in-Ok.ensures.none) came.are).replies;
+      stops = λ page stopped. c.calls_meet_damage.ensures came.calls old page (ap (λ (b : BookState). b.stopped) opened.book) came.are stopped;
+    })
+    c.finish-disk.result.0 c.finish-disk.ensures.disk (run_of c.finish-disk.result.1) (c.finish-disk.ensures.finished ∙ ap (λ (n : ℕ). run_at n new.held) c.charge-charge.ensures)
 
 pub returns-in-Ok-run_all-clause-headline : goal.returns-in-Ok-run_all-clause-headline
 returns-in-Ok-run_all-clause-headline g c = λ honest.
@@ -117,16 +124,26 @@ returns-in-Ok-run_all-clause-headline g c = λ honest.
     let unasked = is_unasked state annals faults old opened rests c.kept.ensures.core c.kept.ensures.begins in
     let goes_on = c.in-Ok.ensures.effect.effect.goes_on in
     let honest_then = goes_on.is_honest ∙ honest in
-    whole_headline state (g.met.D.Disk g.world.𝓛 g.world.𝓜 g.world.𝓡 ((λ s x. x), (λ x. x), (λ x. x), λ x. x)).timed c.args.room c.args.lines.now c.args.workers c.args.turns (state c.args.disk) old new
+    let none = no_entries_yet annals faults old.held opened in
+    let calm = calm_opening (state c.args.disk) (state old.disk) c.in-Ok.ensures.faults in
+    whole_headline state (g.met.D.Disk g.world.𝓛 g.world.𝓜 g.world.𝓡 ((λ s x. x), (λ x. x), (λ x. x), λ x. x)).timed c.args.room c.args.lines.now c.args.workers c.args.turns c.args.disk old new
     (record {
       opens = opens;
       goes_on = goes_on;
       calls = c.in-Ok.ensures.calls;
-      calm = calm_opening (state c.args.disk) (state old.disk) c.in-Ok.ensures.faults;
+      calm = calm;
       ran = ap (λ (b : BookState). b.stopped) opened.book;
       run = by_threads state c.args.lines.now c.args.workers c.args.turns old new c.kept.ensures.core runs (c.calls_tell.ensures calls old unasked are) (c.calls_take_few.ensures calls old unasked are);
     })
-    (no_entries_yet annals faults old.held opened) (c.in-Ok.ensures.keeps old.held.runs.sizes opens.pairs honest opens.reads) runs
+    none (c.in-Ok.ensures.keeps old.held.runs.sizes opens.pairs honest opens.reads) runs
+    (record { unasked = unasked; begins = opened; weighs = c.in-Ok.ensures.charge; goes_on = goes_on; few = c.in-Ok.ensures.calls; calm = calm; long = c.in-Ok.ensures.long })
+    (record {
+      are = are;
+      tells = c.calls_tell.ensures calls old unasked are;
+      replies = λ front behind e within. c.calls_note.ensures calls old front behind e none are within;
+      holds = (c.calls_tell_holds.ensures calls old none (holds_none old c.in-Ok.ensures.none) are).replies;
+      stops = λ page stopped. c.calls_meet_damage.ensures calls old page (ap (λ (b : BookState). b.stopped) opened.book) are stopped;
+    })
     (λ opening m stands. c.calls_are_steps.ensures opening calls old m c.kept.ensures.core are honest_then stands)
     (few_turned state calls annals faults old new opened (c.calls_help.ensures calls old unasked are)) (c.calls_help.ensures calls old unasked are).rests
     c.finish-disk.result.0 c.finish-disk.ensures.disk (run_of c.finish-disk.result.1) (c.finish-disk.ensures.finished ∙ ap (λ (n : ℕ). run_at n new.held) c.charge-charge.ensures)

@@ -22,6 +22,7 @@ use Rattle.core_pace.proofs.EventLemmas.{settled_between, moves_are_told}
 use Rattle.core_pace.proofs.CallLemmas.{paced_is_between, between_is_ready, settled_is_not_done, admission_fits}
 use Rattle.tree_core.specs.Causes.{calls_to_admit, is_pass_due, one_where, swaps_due_in}
 use Rattle.tree_core.proofs.BegunLemmas.{deep_counts}
+use Rattle.tree_core.proofs.ClockLemmas.{ends_behind}
 use Rattle.tree_core.proofs.KeepLemmas.{begin_keeps_pins, deep_keeps_pins, pass_keeps_pins, same_pins, then_pins}
 use Rattle.tree_core.proofs.TakingLemmas.{ok_of, err_of, calm_of, risen_of, begun_on, fits_as, at_write, affects_then, weighs}
 use Rattle.tree_core.proofs.TakingLists.{Begins, MayTake, settled_by, begun_by, Appends, deep_whole, lost_deep, pass_whole, lost_pass, done_leaves, doubt_leaves, writes_over}
@@ -196,6 +197,13 @@ returns-in-Ok-clause-lists g c = λ opening m honest stands runs may fits.
           (λ tree here of_log over. (c.in-Ok.ensures.becomes tree here of_log over).1)),
       done_leaves opening old m before begins settled mid has c.args.seat c.args.op.now c.args.write.now takes ready begun last then after appends,
     )
+
+pub returns-in-Ok-clause-ends : goal.returns-in-Ok-clause-ends
+returns-in-Ok-clause-ends g c =
+    let settles = ok_of c.settle_deep.result (sym c.is_err.ensures.value ∙ c.if-is_err.false) c.settle_deep.ensures.settles in
+    let pass_stays : one_where (is_pass_due c.settle_deep.new.held) ≡ one_where (is_pass_due c.args.held.now) = ap one_where (deep_counts c.args.held.now c.settle_deep.new.held settles).1 in
+    ends_behind (swaps_due_in c.args.held.now) c.settle_deep.ensures.effect.goes_on c.settle_pass.ensures.effect.goes_on
+    (omega (arith, c.settle_deep.ensures.effect.calls, c.settle_pass.ensures.effect.calls, pass_stays)) c.in-Ok.ensures.ends
 
 pub returns-in-Ok-clause-effect : goal.returns-in-Ok-clause-effect
 returns-in-Ok-clause-effect g c =

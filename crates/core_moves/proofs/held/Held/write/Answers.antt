@@ -76,3 +76,6 @@ returns-clause-on g c = record {
 
 pub returns-clause-effect : goal.returns-clause-effect
 returns-clause-effect g c = affects_wider (lane_beside_pins c.goes_ahead-ahead.result c.args.self.now c.others_may_write.ensures.pins c.requires.one) (omega arith) (omega arith) (subst (λ (s : Sizes). Affects (lane_region c.args.self.now.log.lanes.sizes (lane_for c.goes_ahead-ahead.result c.args.self.now.log)) (file_length s) 4 (g.D.Disk.state c.args.disk.now) (g.D.Disk.state c.append.new.disk)) c.requires.one.lanes c.append.ensures.effect)
+
+pub returns-clause-ends : goal.returns-clause-ends
+returns-clause-ends g c = c.in_ok-append.ensures.ends

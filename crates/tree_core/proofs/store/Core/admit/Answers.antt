@@ -93,7 +93,7 @@ returns-in-Taken g c =
     let same = noted_same c.args.seat c.args.op.now c.copy-in-Taken.result Done c.take.new.held.book c.note-in-Taken.new.self c.note-in-Taken.ensures c.copy-in-Taken.ensures in
     subst (λ (s : CoreState g.row.D.Denot). Admits g.D.Disk.state c.args.seat c.args.op.now admission.Admitted s (record { disk = c.take.new.disk; held = with_book c.note-in-Taken.new.self c.take.new.held; holds = old.holds })) c.self.view_is
     (admit_taken g.D.Disk.state c.args.seat c.args.op.now old c.self.invariant.0 (g.met.D.Disk.timed old.disk) can room fits c.write-write.result c.take.new.disk c.take.new.held c.note-in-Taken.new.self (g.met.D.Disk.timed c.take.new.disk) c.write-write.ensures.write (sym c.stopped.ensures ∙ none_of c.stopped.result c.in_default.not-Some) writing
-    c.take.ensures.effect c.requires.write c.in-Taken.ensures.takes c.in-Taken.ensures.faults (λ opening m honest s ran ok fit. c.in-Taken.ensures.lists opening m honest s ran ok fit) same)
+    c.take.ensures.effect c.requires.write c.in-Taken.ensures.takes c.in-Taken.ensures.faults c.in-Taken.ensures.ends (λ opening m honest s ran ok fit. c.in-Taken.ensures.lists opening m honest s ran ok fit) same)
 
 pub returns-in-Failed : goal.returns-in-Failed
 returns-in-Failed g c =

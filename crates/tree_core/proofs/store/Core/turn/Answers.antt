@@ -106,6 +106,7 @@ returns g c =
       counted = c.faults.ensures;
       few = omega (arith, c.faults.ensures, c.faults.type_inv);
       called = x.calls;
+      in_memory = x.in_memory;
       lists = λ tree honest over. x.lists tree honest over;
       opened = λ m book. open_to w old.held.book m (sym c.is_closed_to.ensures ∙ c.if-is_closed_to.false) book;
     }) may even)

@@ -47,3 +47,9 @@ returns-else-ahead-clause-becomes g c = λ tree honest.
     (subst (λ (ahead : Bool). IsLogOf tree inside → StandsOn inside.lanes.sizes tree (state c.args.disk.now)
     → Becomes inside.lanes.sizes tree (appended ahead entry tree) (is_ok c.append_to-else-ahead.result) (state c.args.disk.now) (state c.append_to-else-ahead.new.disk)) (sym c.if-ahead.false)
     (becomes_b inside tree c.b-lane.result entry c.b-lane.ensures.number c.append_to-else-ahead.ensures.appends c.append_to-else-ahead.ensures.effect honest (g.met.D.Disk.timed c.append_to-else-ahead.new.disk)))
+
+pub returns-then-ahead-clause-ends : goal.returns-then-ahead-clause-ends
+returns-then-ahead-clause-ends g c = c.append_to.ensures.ends
+
+pub returns-else-ahead-clause-ends : goal.returns-else-ahead-clause-ends
+returns-else-ahead-clause-ends g c = c.append_to-else-ahead.ensures.ends
