@@ -2,6 +2,7 @@
 
 mod asserts;
 mod drawn;
+mod gates;
 mod holds;
 mod order;
 mod rows;
@@ -152,11 +153,17 @@ fn shelf_with_smallest<R: Abort + Threads + Wait + Sync>(rt: &R, alloc: Global) 
     shelf_with_store(rt, alloc, &MAKE_SMALLEST, "made 3481600\n")
 }
 
-// Puts a line behind a text.
-fn add(rt: &impl Abort, text: &mut String, line: &str) {
-    if text.push_str(line).is_err() || text.push('\n').is_err() {
+// Puts more behind a text.
+fn add_part(rt: &impl Abort, text: &mut String, part: &str) {
+    if text.push_str(part).is_err() {
         rt.abort()
     }
+}
+
+// Puts a line behind a text.
+fn add(rt: &impl Abort, text: &mut String, line: &str) {
+    add_part(rt, text, line);
+    add_part(rt, text, "\n");
 }
 
 // So many times one letter.

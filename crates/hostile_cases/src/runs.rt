@@ -3,7 +3,7 @@ use crate::bench::{Answer, Bench};
 use crate::departure::Departure;
 use crate::disk::PageDisk;
 use crate::lookups::{Map, check_images};
-use crate::scripts::Scripts;
+use crate::scripts::{Scripts, lines_of};
 use crate::words::{cut, number};
 use std::alloc::Global;
 use std::sync::Wait;
@@ -84,7 +84,16 @@ fn maps_of(alloc: Global, words: &str) -> Result<Vec<Map>, Departure> {
     Ok(maps)
 }
 
-/// A run ended with this status, and its history has these replies, which stand behind it.
+// The whole text of a run.
+fn check_text(alloc: Global, text: &str, lines: &str) -> Result<(), Departure> {
+    if text != lines_of(alloc, lines)?.as_str() {
+        return Err(Departure::found(alloc, "text", 0, text));
+    }
+    Ok(())
+}
+
+/// A run ended with this status, and its history has these replies, which stand behind it; or its text is these lines, where the first tells the
+/// charge.
 pub fn check_told(alloc: Global, answer: &Answer, wanted: &str) -> Result<(), Departure> {
     let Some((wanted, replies)) = cut(wanted) else {
         return Err(Departure::NotACase);
@@ -92,6 +101,9 @@ pub fn check_told(alloc: Global, answer: &Answer, wanted: &str) -> Result<(), De
     let status = answer.status.code();
     if number(wanted) != Some(u64::from(status)) {
         return Err(Departure::found(alloc, "status", u64::from(status), &answer.text));
+    }
+    if replies.starts_with("open charge ") {
+        return check_text(alloc, &answer.text, replies);
     }
     check_replies(alloc, &answer.text, replies)
 }
@@ -121,8 +133,8 @@ fn read_wanted(words: &str) -> Option<Wanted<'_>> {
     Some(Wanted { told, maps })
 }
 
-/// Checks a case: a call of the disk, counted from 1 behind the opening of a new store, a script, the status, the replies, and what may be found
-/// of a key.
+/// Checks a case: a call of the disk, counted from 1 behind the opening of a new store, a script, the status, the replies or all lines, and what may
+/// be found of a key.
 pub fn check<R: Threads + Wait + Sync>(
     rt: &R,
     alloc: Global,

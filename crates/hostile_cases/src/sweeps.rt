@@ -6,6 +6,7 @@ use crate::lookups::{Map, check_images};
 use crate::runs::{Failing, disk_that_fails};
 use blsm_model::{Key, Line, Write};
 use blsm_run::Status;
+use disk_trait::Disk;
 use script_text::{Script, read_script};
 use std::alloc::Global;
 use std::sync::Wait;
@@ -115,8 +116,11 @@ fn check_failed<R: Threads + Wait + Sync>(
     check_images(rt, alloc, bench, &answer.disk, &maps)
 }
 
-// The run that met no failure: no reply tells of one.
+// The run whose disk met no failure: it ended well, and no reply tells of one.
 fn check_well(alloc: Global, tried: &Tried<'_>, answer: &Answer) -> Result<(), Departure> {
+    if answer.status != Status::Done {
+        return Err(Departure::found(alloc, "no failure", 0, &answer.text));
+    }
     let judge = judge(alloc, tried, &answer.text)?;
     if judge.faults() > 0 {
         return Err(Departure::found(alloc, "faults", judge.faults(), &answer.text));
@@ -124,7 +128,7 @@ fn check_well(alloc: Global, tried: &Tried<'_>, answer: &Answer) -> Result<(), D
     Ok(())
 }
 
-/// Runs a script over a new store as often as there are calls of the disk that can fail, until a run meets no failure.
+/// Runs a script over a new store as often as there are calls of the disk that can fail, until the disk of a run met no failure.
 pub fn check<R: Threads + Wait + Sync>(
     rt: &R,
     alloc: Global,
@@ -135,7 +139,7 @@ pub fn check<R: Threads + Wait + Sync>(
     let tried = read(alloc, script)?;
     for call in 1..MOST_CALLS {
         let answer = bench.run(rt, alloc, disk_that_fails(bench, which, call)?, script)?;
-        if answer.status == Status::Done {
+        if answer.disk.faults() == 0 {
             return check_well(alloc, &tried, &answer);
         }
         check_failed(rt, alloc, bench, &tried, call, &answer)?;

@@ -1,11 +1,11 @@
 // Callers and workers on threads, whose lines come in any order that the rules allow.
 use super::asserts::{assert_same, assert_that};
+use super::gates::{Fifteen, OneWorker};
 use super::turns::run_gated;
 use super::{NAME, add, heavy_text, shelf_with_default, shelf_with_store};
-use blsm_model::{Gate, NoGate, Point};
+use blsm_model::NoGate;
+use std::alloc::Global;
 use std::process::Abort;
-use std::sync::atomic::{AtomicBool, AtomicU64, Ordering};
-use std::thread::yield_now;
 
 // Caller 2 reads what it wrote, or what caller 1 wrote between.
 #[test]
@@ -23,55 +23,70 @@ fn two_callers_of_one_key(rt: HostRuntime) {
     assert_same(&rt, text.lines().count(), 5);
 }
 
-// How often a caller looks whether the others came.
-const MOST_LOOKS: u64 = 20_000_000;
+// A put of each caller.
+fn puts_of_one_key(rt: &impl Abort, alloc: Global) -> String {
+    let mut script = String::new(alloc);
+    for caller in 1..17 {
+        match format!(in alloc; "{caller} put a {caller} -") {
+            Ok(line) => add(rt, &mut script, &line),
+            Err(_) => rt.abort(),
+        }
+    }
+    script
+}
+
+// A history has the put of a caller as done.
+fn check_put(rt: &impl Abort, alloc: Global, text: &str, caller: u64) {
+    match format!(in alloc; " {caller} put a {caller} - => ok q0\n") {
+        Ok(line) => assert_that(rt, text.contains(&line)),
+        Err(_) => rt.abort(),
+    }
+}
+
+// Caller 16 waits at its admission for the fifteen others, and they for its answer.
+#[test]
+fn sixteen_puts_beside_one_another(rt: HostRuntime) {
+    let alloc = rt.alloc();
+    let mut shelf = shelf_with_default(&rt, alloc);
+    let script = puts_of_one_key(&rt, alloc);
+    let gate = Fifteen::new(1);
+    let text = run_gated(&rt, alloc, &mut shelf, "2", &script, &gate);
+    assert_that(&rt, !gate.gave_up());
+    assert_same(&rt, text.lines().count(), 18);
+    for caller in 1..17 {
+        check_put(&rt, alloc, &text, caller);
+    }
+}
+
+// Puts of a caller, each of the greatest weight, 512 bytes, and of a key that no other line has.
+fn add_puts(rt: &impl Abort, alloc: Global, script: &mut String, caller: u64, count: u64) {
+    let text = heavy_text(rt, alloc);
+    for number in 0..count {
+        match format!(in alloc; "{caller} put k{caller:031}{number:032} 1 {text}") {
+            Ok(line) => add(rt, script, &line),
+            Err(_) => rt.abort(),
+        }
+    }
+}
+
+// So many puts of caller 1.
+fn puts(rt: &impl Abort, alloc: Global, count: u64) -> String {
+    let mut script = String::new(alloc);
+    add_puts(rt, alloc, &mut script, 1, count);
+    script
+}
 
 // How many writes caller 16 has.
 const MANY: u64 = 200;
 
-// Holds caller 16 at its first admission until the other fifteen were admitted, and these there until caller 16 was answered so often.
-#[derive(Drop)]
-struct Fifteen {
-    admitted: AtomicU64,
-    answered: AtomicU64,
-    gave_up: AtomicBool,
-}
-
-impl Fifteen {
-    fn wait(&self, word: &AtomicU64, least: u64) {
-        for _ in 0..MOST_LOOKS {
-            if least <= word.load(Ordering::SeqCst) {
-                return;
-            }
-            yield_now();
-        }
-        self.gave_up.store(true, Ordering::SeqCst);
+// Callers 1 to 15 have a put each, and caller 16 has many.
+fn puts_of_all(rt: &impl Abort, alloc: Global) -> String {
+    let mut script = puts(rt, alloc, 1);
+    for caller in 2..16 {
+        add_puts(rt, alloc, &mut script, caller, 1);
     }
-}
-
-impl Gate for Fifteen {
-    fn at(&self, seat: u32, point: Point) {
-        match (point, seat) {
-            (Point::Admitted, 15) => self.wait(&self.admitted, 15),
-            (Point::Admitted, _) => {
-                self.admitted.fetch_add(1, Ordering::SeqCst);
-                self.wait(&self.answered, MANY);
-            }
-            (Point::Answered, 15) => {
-                self.answered.fetch_add(1, Ordering::SeqCst);
-            }
-            _ => {}
-        }
-    }
-}
-
-// A put of the greatest weight, of a key that no other line has.
-fn heavy_line(rt: &impl Abort, alloc: std::alloc::Global, caller: u64, number: u64) -> String {
-    let text = heavy_text(rt, alloc);
-    match format!(in alloc; "{caller} put k{caller:031}{number:032} 1 {text}") {
-        Ok(line) => line,
-        Err(_) => rt.abort(),
-    }
+    add_puts(rt, alloc, &mut script, 16, MANY);
+    script
 }
 
 // A write was done, with four quanta at most.
@@ -83,28 +98,55 @@ fn is_cheap(line: &str) -> bool {
         || line.ends_with(" => ok q4")
 }
 
-// Fifteen callers stand in debt while one writes on, in a store that begins a pass at each write: nobody pays much, and nothing is refused.
+// So many writes were done, none of which took many quanta, and nothing else stands between the first line and the last one.
+fn check_cheap(rt: &impl Abort, text: &str, count: usize) {
+    assert_same(rt, text.lines().count(), count.saturating_add(2));
+    for line in text.lines().skip(1).take(count) {
+        assert_that(rt, is_cheap(line));
+    }
+}
+
+// The peak of the memory table that a text's last line tells.
+fn peak_of(rt: &impl Abort, text: &str) -> u64 {
+    let Some((_, end)) = text.rsplit_once("\nend c0 ") else {
+        rt.abort()
+    };
+    let Some((peak, _)) = end.split_once(" of 65536 ") else {
+        rt.abort()
+    };
+    match peak.parse::<u64>() {
+        Ok(peak) => peak,
+        Err(_) => rt.abort(),
+    }
+}
+
+// Fifteen callers stand in debt while one writes on, in a store that begins a pass at each write and has no workers: nobody pays much, nothing is
+// refused, and the memory table stays below its high mark.
 #[test]
 fn a_caller_with_many_writes_beside_fifteen_in_debt(rt: HostRuntime) {
     let alloc = rt.alloc();
     let make = ["blsm", "make", NAME, "--low", "0"];
     let mut shelf = shelf_with_store(&rt, alloc, &make, "made 23511040\n");
-    let mut script = String::new(alloc);
-    for caller in 1..16 {
-        add(&rt, &mut script, &heavy_line(&rt, alloc, caller, 0));
-    }
-    for number in 0..MANY {
-        add(&rt, &mut script, &heavy_line(&rt, alloc, 16, number));
-    }
-    let gate = Fifteen {
-        admitted: AtomicU64::new(0),
-        answered: AtomicU64::new(0),
-        gave_up: AtomicBool::new(false),
-    };
-    let text = run_gated(&rt, alloc, &mut shelf, "2", &script, &gate);
-    assert_that(&rt, !gate.gave_up.load(Ordering::SeqCst));
-    assert_same(&rt, text.lines().count(), 217);
-    for line in text.lines().skip(1).take(215) {
-        assert_that(&rt, is_cheap(line));
-    }
+    let gate = Fifteen::new(MANY);
+    let script = puts_of_all(&rt, alloc);
+    let text = run_gated(&rt, alloc, &mut shelf, "0", &script, &gate);
+    assert_that(&rt, !gate.gave_up());
+    check_cheap(&rt, &text, 215);
+    assert_that(&rt, peak_of(&rt, &text) <= 65_536);
+}
+
+// The last put passes the low mark and owes 20 bytes for each of its own, which are three quanta of eight puts. Two are left for the worker, and the
+// swap.
+#[test]
+fn a_worker_merges_behind_a_caller(rt: HostRuntime) {
+    let alloc = rt.alloc();
+    let mut shelf = shelf_with_default(&rt, alloc);
+    let gate = OneWorker::new(33, 4);
+    let text = run_gated(&rt, alloc, &mut shelf, "1", &puts(&rt, alloc, 33), &gate);
+    assert_that(&rt, !gate.gave_up());
+    check_cheap(&rt, &text, 33);
+    assert_that(
+        &rt,
+        text.ends_with(" => ok q3\nend c0 16896 of 65536 callers 3 workers 2 swaps 1 0\n"),
+    );
 }
