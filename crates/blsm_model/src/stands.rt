@@ -13,6 +13,9 @@ pub trait Stands {
     /// That the second is what the first, the value as it was at the start, may have come to.
     ghost stands: { Self → Self → Type 0 };
 
+    /// That the second is what one hold of the lock, by the caller of this number, may make of the first.
+    ghost one: { ℕ → Self → Self → Type 0 };
+
     /// The greatest peak, in bytes, that what began as this value may come to.
     ghost most: { Self → ℕ };
 

@@ -196,6 +196,8 @@ impl Stands for Tally {
 
     ghost stands = { λ start value. IsPrefix start.annals.entries value.annals.entries × (value.peak ≤ start.most) };
 
+    ghost one = { λ seat old value. IsPrefix old.annals.entries value.annals.entries };
+
     ghost most = { λ start. start.most };
 
     ghost within = { λ start value stands. stands.1 };

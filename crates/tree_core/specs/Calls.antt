@@ -182,6 +182,10 @@ IsCall state seat (kind.WorkEnd n) old new = (reply : Reply) × EndsWork state s
 IsCall state seat kind.WorkerTurn old new = (answer : Turned) × Helps state seat answer old new
 IsCall state seat kind.Leave old new = Leaves state seat old new
 
+-- one call by this seat, of whatever kind, made the one of the other
+abbrev pub MadeBy : {D : Type 0} → (D → DiskState) → ℕ → CoreState D → CoreState D → Type 0
+MadeBy state seat old new = (k : Kind) × IsCall state seat k old new
+
 -- these calls, one after another, with the core after each
 abbrev pub AreCalls : {D : Type 0} → (D → DiskState) → List (Step × CoreState D) → CoreState D → CoreState D → Type 0
 AreCalls state [] old new = new ≡ old

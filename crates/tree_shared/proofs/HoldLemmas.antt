@@ -4,13 +4,13 @@ use Rattle.blsm_model.specs.Facts.{Follows, Part}
 use Rattle.blsm_model.specs.Format.{most_turns}
 use Rattle.disk_trait.specs.Disk.{DiskState}
 use Rattle.gear_sched.specs.Gears.{first_debt, second_debt}
-use Rattle.turn_lock.specs.Callers.{Held as Caller, Lock, HasTaken, HasTurn, GaveBack}
+use Rattle.turn_lock.specs.Callers.{Held as Caller, Lock, HasTaken, GaveBack, MayGive}
 use Rattle.turn_lock.specs.Plays.{Finds}
 use Rattle.turn_lock.specs.Turns.{TookTurn}
 use Rattle.turn_lock.proofs.TurnLemmas.{part_found, took_turn}
 use Rattle.seat_book.specs.State.{may_end_in, may_note_in, may_turn_in}
 use Rattle.tree_machine.specs.declared.step.Kind.{Kind}
-use Rattle.tree_core.specs.Calls.{CameSince, IsCall}
+use Rattle.tree_core.specs.Calls.{CameSince, IsCall, MadeBy}
 use Rattle.tree_core.specs.Core.{CoreState}
 use Rattle.tree_core.proofs.CallLemmas.{came_more}
 use Rattle.tree_shared.specs.Seats.{Comes, IsEven, IsFinished, IsFree, IsWorking, facts_of}
@@ -52,12 +52,14 @@ module _ {D : Type 0} {state : D → DiskState} {c t : Caller (CoreState D)} {b 
   table_given = ap (λ (h : Caller (CoreState D)). h.table) its.taken.1
 
   -- it has its turn still, and gives back what follows
-  pub turn_given : (x : CoreState D) × HasTurn t.me x t.ticket × Follows t.number (facts_of x) (facts_of w)
+  pub turn_given : MayGive facts_of (MadeBy state) t w
   turn_given =
-      let is = its.taken.1 in (
+      let is = its.taken.1 in
+      let number : c.number ≡ t.number = sym (ap (λ (h : Caller (CoreState D)). h.number) is) in (
         b,
         (its.taken.0, ap (λ (h : Caller (CoreState D)). h.me.0.stage) is, ap (λ (h : Caller (CoreState D)). h.me.1) is, ap (λ (h : Caller (CoreState D)). h.ticket) is),
-        subst (λ (n : ℕ). Follows n (facts_of b) (facts_of w)) (sym (ap (λ (h : Caller (CoreState D)). h.number) is)) follows,
+        subst (λ (n : ℕ). Follows n (facts_of b) (facts_of w)) number follows,
+        (its.kind, subst (λ (n : ℕ). IsCall state n its.kind b w) number its.call),
       )
 
   -- the value that is given back came from the start

@@ -3,7 +3,7 @@ use Rattle.std.specs.Prelude.{◌≡◌, ℕ, ◌+◌, ◌-◌, ◌%◌, ◌^◌
 use Rattle.atomic_table.specs.Seated.{TableId}
 use Rattle.turn_lock.specs.Views.{counted_up, with_stage, opening_view, cut, given}
 use Rattle.turn_lock.specs.Plays.{Sat, Finds, taking, giving, with_bytes}
-use Rattle.blsm_model.specs.Facts.{Facts}
+use Rattle.blsm_model.specs.Facts.{Facts, Follows}
 use Rattle.turn_lock.specs.declared.view.Stage.TheVariants.{Idle, Waits, Holds}
 use Rattle.turn_lock.specs.declared.view.View.{View}
 
@@ -64,6 +64,10 @@ module _ {V : Type 0} where
   -- it has the turn, and the value that it took
   abbrev pub HasTurn : Sat V → V → ℕ → Type 0
   HasTurn m b ticket = (j : ℕ) × (m.0.stage ≡ Holds j b) × (m.1 ≡ (0, None) ∷ []) × (ticket ≡ j % 2 ^ 64)
+
+  -- it has the turn, and may give this back: it follows from what it took, and is what one hold may make of that
+  abbrev pub MayGive : (V → Facts) → (ℕ → V → V → Type 0) → Held V → V → Type 0
+  MayGive facts one c value = (b : V) × HasTurn c.me b c.ticket × Follows c.number (facts b) (facts value) × one c.number b value
 
   -- the value that was taken is b, and the value next lies in the slot
   abbrev pub IsBack : V → V → Held V → Type 0

@@ -4,7 +4,7 @@ use mathlib.Core.List.{IsPrefix}
 use Rattle.blsm_model.specs.declared.history.Entry.{Entry}
 use Rattle.blsm_model.specs.declared.history.Reply.TheVariants.{Did}
 use Rattle.blsm_model.specs.declared.op.Op.TheVariants.{Work}
-use Rattle.blsm_model.specs.Book.{Book}
+use Rattle.blsm_model.specs.Book.{Book, noted}
 use Rattle.blsm_model.specs.Facts.{Facts, entries_of}
 use Rattle.turn_lock.specs.Plays.{renewed}
 use Rattle.turn_lock.specs.Views.{counted_up}
@@ -27,6 +27,10 @@ work_by seat n = record { seat = seat; op = Work n; reply = Did n }
 abbrev pub works_by : ℕ → ℕ → List Entry
 works_by seat zero = []
 works_by seat (suc n) = works_by seat n ++ work_by seat n ∷ []
+
+-- one hold of the lock by a seat notes one entry
+abbrev pub WorksOnce : ℕ → Book → Book → Type 0
+WorksOnce seat old new = (n : ℕ) × (new ≡ noted old (work_by seat n))
 
 module _ {V : Type 0} (facts : V → Facts) where
   -- its own seat has room for so many entries

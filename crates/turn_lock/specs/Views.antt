@@ -1,5 +1,6 @@
 -- Views, and how one is cut in two and two are made one.
 use Rattle.std.specs.Prelude.{◌≡◌, ℕ, zero, suc, ◌+◌, false, ◌||◌, List, [], ◌∷◌, ◌++◌, Option, Some, None, length, cond, ◌==◌, nat_le}
+use mathlib.Core.List.{IsPrefix}
 use Rattle.blsm_model.specs.Facts.{Facts, Same, entries_of}
 use Rattle.turn_lock.specs.declared.view.Stage.{Stage}
 use Rattle.turn_lock.specs.declared.view.Stage.TheVariants.{Idle, Waits, Holds, Gave}
@@ -34,6 +35,11 @@ module _ {V : Type 0} where
   -- a number, whose part is that of the value beside it: it is so in the value, and all its entries were seen
   abbrev pub Fits : (V → Facts) → List Entry → V → ℕ × V → Type 0
   Fits facts seen value p = Same p.0 (facts p.1) (facts value) × (entries_of p.0 seen ≡ entries_of p.0 (facts value).history)
+
+  -- What was seen of it when the number gave a value back last, or at the start, is a front of the value's history, and has all entries of the number.
+  pub record SawFront (facts : V → Facts) (value : V) (p : ℕ × V) : Type 0 where
+    pub front : IsPrefix (facts p.1).history (facts value).history
+    pub own : entries_of p.0 (facts value).history ≡ entries_of p.0 (facts p.1).history
 
   abbrev pub with_stage : View V → Stage V → View V
   with_stage v stage = record { start = v.start; seen = v.seen; over = v.over; halted = v.halted; own = v.own; spare = v.spare; stage = stage; front = v.front; bytes = v.bytes }

@@ -2,9 +2,9 @@
 ghost use Rattle.std.specs.Prelude.{◌≡◌, ◌≢◌, ℕ, ◌+◌, ◌-◌, ◌%◌, ◌^◌, ◌<◌, ◌≤◌, [], ◌∷◌, Some, None, true, false, length, MatchResult};
 ghost use Rattle.turn_lock.specs.Rule.{IsKnown};
 ghost use Rattle.blsm_model.specs.Facts.{Follows, Same};
-ghost use Rattle.turn_lock.specs.Views.{opening_view, cut, given, joined, size, Each, with_stage};
+ghost use Rattle.turn_lock.specs.Views.{opening_view, cut, given, joined, size, Each, SawFront, with_stage};
 ghost use Rattle.turn_lock.specs.Plays.{taking, giving, Finds, with_front, with_bytes};
-ghost use Rattle.turn_lock.specs.Callers.{IsOpened, GaveAway, IsSplitOff, Idles, HasTicket, HasTurn, Drew, IsTurn, HasTaken, IsBack, HasGiven, GaveBack, with_me};
+ghost use Rattle.turn_lock.specs.Callers.{IsOpened, GaveAway, IsSplitOff, Idles, HasTicket, Drew, IsTurn, HasTaken, IsBack, HasGiven, GaveBack, MayGive, with_me};
 ghost use Rattle.turn_lock.specs.declared.view.Stage.TheVariants.{Idle, Gave};
 
 use crate::bells::Bells;
@@ -120,7 +120,7 @@ impl<V: Stands + Drop> TurnLock<V> {
         }
     }
 
-    /// Takes in the numbers of another caller, and what it saw.
+    /// Takes in the numbers of another caller, each with the value that it gave back last, and what it saw.
     pub fn join(&self, caller: &mut Caller<V>, other: Caller<V>)
         requires lock { (caller.old.table ≡ self.now.table) × (other.table ≡ self.now.table) }
         requires idle { Idles caller.old.me × Idles other.me }
@@ -247,10 +247,11 @@ impl<V: Stands + Drop> TurnLock<V> {
         self.bells.ring(next);
     }
 
-    /// Gives a value back in the place of the one that was taken, publishes its length and peak, and ends the turn.
+    /// Gives a value back in the place of the one that was taken, publishes its length and peak, and ends the turn. It is what one
+    /// hold may make of that one (`one` of `Stands`).
     pub fn give(&self, caller: &mut Caller<V>, value: V)
         requires lock { caller.old.table ≡ self.now.table }
-        requires turn { (b : V) × HasTurn caller.old.me b caller.old.ticket × Follows caller.old.number (V.facts b) (V.facts value) }
+        requires turn { MayGive V.facts V.one caller.old value }
         requires lasts { (a : V) → caller.old.me.0.start ≡ Some a → V.stands a value }
         ensures { GaveBack V.facts V.stands caller.old value caller.new }
     {
@@ -285,13 +286,15 @@ impl<V: Stands + Drop> TurnLock<V> {
     /// Ends the lock, and gives its value. The caller has all numbers.
     ///
     /// What the caller saw is a front of the value's history, the entries of each number are all among those it saw, and what it
-    /// read last of the published words is no more than the value's length and peak.
+    /// read last of the published words is no more than the value's length and peak. What each number had seen when it gave a
+    /// value back last is a front of that history, too: of what two have seen the shorter begins the longer.
     pub fn close(self, caller: Caller<V>) -> V
         requires lock { caller.table ≡ self.table }
         requires idle { Idles caller.me }
         requires whole { size caller.me.0 ≡ 24 }
         ensures lasts { V.stands self.start result }
         ensures known { IsKnown V.facts V.stands self.start result caller.me.0 }
+        ensures fronts { Each (SawFront V.facts result) caller.me.0.own }
     {
         self.open_up(caller).unwrap()
     }

@@ -14,11 +14,13 @@ pub struct Tally {
 impl Stands for Tally {
     ghost use mathlib.Core.List.{IsPrefix};
     ghost use native.Mathlib.Nat.{le_refl};
-    ghost use Rattle.turn_lock.specs.Tallies.{tally_facts};
+    ghost use Rattle.turn_lock.specs.Tallies.{WorksOnce, tally_facts};
 
     ghost facts = { λ t. tally_facts t.annals };
 
     ghost stands = { λ a b. IsPrefix a.annals.entries b.annals.entries };
+
+    ghost one = { λ seat a b. WorksOnce seat a.annals b.annals };
 
     ghost most = { λ a. 0 };
 

@@ -1,10 +1,9 @@
 // Callers in threads of their own, over the plainest value.
 ghost use Rattle.std.specs.Prelude.{◌≡◌, ◌<◌, ℕ, [], Some, IfOk, slice_index};
 ghost use mathlib.Core.List.{IsPrefix};
-ghost use Rattle.blsm_model.specs.Facts.{Follows};
 ghost use Rattle.turn_lock.specs.declared.tally.Tally.{Tally};
-ghost use Rattle.turn_lock.specs.Callers.{HasTurn, Idles};
-ghost use Rattle.turn_lock.specs.Tallies.{tally_facts, HasRoomFor, IsOf, IsReady};
+ghost use Rattle.turn_lock.specs.Callers.{Idles, MayGive};
+ghost use Rattle.turn_lock.specs.Tallies.{WorksOnce, tally_facts, HasRoomFor, IsOf, IsReady};
 
 use crate::{Caller, Tally, TurnLock, do_one, run_all};
 use blsm_model::{Annals, Op, Room};
@@ -32,8 +31,7 @@ fn take_and_work<R: Wait>(rt: &R, lock: &TurnLock<Tally>, caller: &mut Caller<Ta
     requires number { caller.old.number < 16 }
     requires room { HasRoomFor (λ t. tally_facts t.annals) 1 caller.old }
     ensures table { caller.new.table ≡ caller.old.table }
-    ensures turn { (b : Tally) × HasTurn caller.new.me b caller.new.ticket
-        × Follows caller.new.number (tally_facts b.annals) (tally_facts result.annals) }
+    ensures turn { MayGive (λ t. tally_facts t.annals) (λ seat a b. WorksOnce seat a.annals b.annals) caller.new result }
     ensures lasts { (a : Tally) → caller.new.me.0.start ≡ Some a → IsPrefix a.annals.entries result.annals.entries }
 {
     let mut value = lock.take(rt, caller);
@@ -43,8 +41,7 @@ fn take_and_work<R: Wait>(rt: &R, lock: &TurnLock<Tally>, caller: &mut Caller<Ta
 
 fn give_late(lock: &TurnLock<Tally>, mut caller: Caller<Tally>, value: Tally) -> Caller<Tally>
     requires table { caller.table ≡ lock.now.table }
-    requires turn { (b : Tally) × HasTurn caller.me b caller.ticket
-        × Follows caller.number (tally_facts b.annals) (tally_facts value.annals) }
+    requires turn { MayGive (λ t. tally_facts t.annals) (λ seat a b. WorksOnce seat a.annals b.annals) caller value }
     requires lasts { (a : Tally) → caller.me.0.start ≡ Some a → IsPrefix a.annals.entries value.annals.entries }
     ensures { (result.table ≡ caller.table) × Idles result.me }
 {
@@ -87,8 +84,7 @@ fn a_caller_waits_for_its_turn(rt: HostRuntime) -> Result<(), Fail> {
         &rt,
         || -> Caller<Tally>
             requires { (one.table ≡ shared.now.table)
-                × ((b : Tally) × HasTurn one.me b one.ticket
-                × Follows one.number (tally_facts b.annals) (tally_facts value.annals))
+                × MayGive (λ t. tally_facts t.annals) (λ seat a b. WorksOnce seat a.annals b.annals) one value
                 × ((a : Tally) → one.me.0.start ≡ Some a → IsPrefix a.annals.entries value.annals.entries) }
             ensures { (result.table ≡ one.table) × Idles result.me }
         { give_late(shared, one, value) },
