@@ -32,6 +32,7 @@ use Rattle.tree_machine.proofs.PlayLemmas.{of_replicate}
 use Rattle.tree_session.specs.Faults.{NamesStop, Reaches, TellsFaults, faults_told}
 use Rattle.tree_session.specs.Lines.{HasRoomFor, Rests}
 use Rattle.tree_session.specs.Session.{Runs, TookFew, calls_for}
+use Rattle.tree_session.proofs.AloneLemmas.{quanta_alone}
 use Rattle.tree_shared.specs.Runs.{IsFresh, RunsAll}
 use Rattle.store_run.specs.Run.{CameToEnd, HaveEnded, IsRunOf, Run, run_at}
 
@@ -112,7 +113,7 @@ module _ {D : Type 0} (state : D → DiskState) (lines : List Line) (annals : Bo
   }
 
   pub lines_alone : sum (drop callers new.held.book.seats.quanta) ≡ 0
-  lines_alone = runs.alone ∙ ap (λ (b : BookState). sum (drop callers b.seats.quanta)) opened.book
+  lines_alone = quanta_alone old.held new.held runs.proceeds.alone ∙ ap (λ (b : BookState). sum (drop callers b.seats.quanta)) opened.book
 
 -- callers and workers did it by calls of the core, each in its turn
 pub by_threads : {D : Type 0} (state : D → DiskState) (lines : List Line) (workers turns : ℕ) (old new : CoreState D) → IsCore old.held (state old.disk) → (runs : RunsAll state lines workers turns old new)

@@ -52,6 +52,13 @@ impl<D: Disk + Drop> Core<D> {
         self.held.charge()
     }
 
+    /// The history so far, the quanta of each entry, and the room that is left.
+    pub fn annals(&self) -> &Annals
+        ensures { result.now ≡ self.now.held.book.book }
+    {
+        self.held.book.annals()
+    }
+
     /// Does nothing. Its clauses are what the store keeps at each call, whatever the disk did.
     pub fn kept(&self)
         ensures core { IsCore self.now.held (D.state self.now.disk) }

@@ -2,7 +2,7 @@
 use Rattle.std.specs.Prelude.{◌/◌, Option}
 use Rattle.std.proofs.lemmas.Grind.{common_steps}
 use Rattle.std.proofs.lemmas.Bool.Decides.{nat_tests}
-use Rattle.std.proofs.Common.{◌≡◌, ◌∙◌, ℕ, ◌+◌, ◌*◌, ◌<◌, ◌≤◌, true, false, None, ap, sym, subst, zero-add, arith}
+use Rattle.std.proofs.Common.{◌≡◌, ◌∙◌, ℕ, ◌+◌, ◌*◌, ◌<◌, ◌≤◌, true, false, None, ap, refl, sym, subst, zero-add, arith}
 use Rattle.std.proofs.lemmas.Bool.{false≢true}
 use Rattle.refusal.specs.Count.{HasRisen}
 use Rattle.blsm_model.specs.declared.key.Key.{Key}
@@ -39,7 +39,7 @@ use Rattle.tree_core.specs.declared.answers.Payment.{Payment}
 use Rattle.tree_core.specs.declared.answers.Payment.TheVariants as payment
 use Rattle.tree_session.specs.Faults.{NamesStop, TellsFaults, TellsNone, Reaches, Proceeds, NamesCount, faults_of, faults_of_turn, is_by_fault}
 use Rattle.tree_session.specs.Session.{EasesOthers}
-use Rattle.tree_session.proofs.AloneLemmas.{alone_by}
+use Rattle.tree_session.proofs.AloneLemmas.{workers_by, workers_none, workers_then}
 
 -- ---- what one call tells
 
@@ -164,13 +164,19 @@ reaches_wider within run = record { goes_on = run.goes_on; calls = omega (arith,
 
 -- no call yet
 pub proceeds_none : {D : Type 0} (state : D → DiskState) (calls : ℕ) (old : CoreState D) → Proceeds state 0 calls old old
-proceeds_none state calls old = grind (arith, common_steps, nat_tests, reaches_none, tells_quiet)
+proceeds_none state calls old = record {
+  sizes = refl;
+  effect = reaches_none (state old.disk);
+  tells = tells_quiet refl refl;
+  alone = workers_none old.held.book;
+  lasts = λ start since. since;
+}
 
 -- one call by a caller
 pub proceeds_by : {D : Type 0} {seat : ℕ} {k : Kind} {answer : Answer} (state : D → DiskState) (told calls : ℕ) (old new : CoreState D) → seat < callers → StandsSince state old old → GoesOnAs state seat k answer old new
     → Reaches (file_length old.held.runs.sizes) calls (state old.disk) (state new.disk) → TellsFaults told old.held new.held (state old.disk) (state new.disk) → Proceeds state told calls old new
 proceeds_by {D} {seat} state told calls old new below begins goes effect tells =
-    record { sizes = (goes.lasts old begins).sizes; effect = effect; tells = tells; alone = alone_by seat old.held new.held below goes.follows; lasts = goes.lasts }
+    record { sizes = (goes.lasts old begins).sizes; effect = effect; tells = tells; alone = workers_by seat old.held new.held below goes.follows; lasts = goes.lasts }
 
 -- and then some more, so that these faults are told, with so many calls at most
 pub proceeds_then : {D : Type 0} {one two few more told calls : ℕ} (state : D → DiskState) (old mid new : CoreState D) → Proceeds state one few old mid → Proceeds state two more mid new → one + two ≡ told → few + more ≤ calls → Proceeds state told calls old new
@@ -179,7 +185,7 @@ proceeds_then {D} {one} {two} {few} {more} state old mid new first second sum wi
   effect = reaches_wider within (reaches_then first.effect (subst (λ (s : Sizes). Reaches (file_length s) more (state mid.disk) (state new.disk)) first.sizes second.effect));
   tells = subst (λ (n : ℕ). TellsFaults n old.held new.held (state old.disk) (state new.disk)) sum
       (tells_then one two old.held mid.held new.held (state old.disk) (state mid.disk) (state new.disk) first.effect.goes_on.faults second.effect.goes_on.faults first.tells second.tells);
-  alone = second.alone ∙ first.alone;
+  alone = workers_then first.alone second.alone;
   lasts = λ start since. second.lasts start (first.lasts start since);
 }
 

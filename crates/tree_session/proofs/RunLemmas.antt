@@ -100,7 +100,6 @@ runs_none state old rests = record {
   names = tt;
   room = λ seat below. omega arith;
   rests = rests;
-  alone = refl;
   proceeds = proceeds_none state 0 old;
   made = made_none state old;
 }
@@ -129,7 +128,6 @@ runs_more state lines line old mid new places some so_far did =
           let more = lines_more seat lines line in
           omega (arith, before, now, less, more);
       rests = did.rests;
-      alone = did.proceeds.alone ∙ so_far.proceeds.alone;
       proceeds = proceeds_then state old mid new so_far.proceeds did.proceeds (sym (told_more so_far.added entry)) (omega (arith, all.1));
       made = made_then state old mid new so_far.made did.made;
     }

@@ -1,5 +1,5 @@
 -- How calls of the core tell what went wrong below them, on every disk, and what they do to the disk.
-use Rattle.std.specs.Prelude.{◌≡◌, ⊤, ℕ, ◌+◌, ◌≤◌, Bool, true, false, IsTrue, List, drop, length, max, Option, Some, None, sum, sum_by}
+use Rattle.std.specs.Prelude.{◌≡◌, ⊤, ℕ, ◌+◌, ◌≤◌, Bool, true, false, IsTrue, List, length, max, Option, Some, None, slice_index, sum_by}
 use Rattle.refusal.specs.Count.{HasRisen, HasRisenBy}
 use Rattle.blsm_model.specs.Format.{callers}
 use Rattle.blsm_model.specs.Geometry.{file_length}
@@ -12,6 +12,8 @@ use Rattle.blsm_model.specs.declared.history.Why.TheVariants.{Faulted}
 use Rattle.blsm_model.specs.Legal.{may_look}
 use Rattle.disk_trait.specs.Disk.{DiskState, GoesOn, IsSure}
 use Rattle.disk_trait.specs.Moments.{SyncsLater}
+use Rattle.seat_book.specs.Seats.{turns_in}
+use Rattle.seat_book.specs.State.{BookState}
 use Rattle.tree_machine.specs.Machine.{Turned, Failed}
 use Rattle.core_moves.specs.declared.held.Held.{Held}
 use Rattle.tree_core.specs.Core.{CoreState}
@@ -71,10 +73,15 @@ pub record Reaches (end most : ℕ) (old new : DiskState) : Type 0 where
   pub no_shorter : IsTrue old.tells_bytes → length old.bytes ≤ length new.bytes
   pub no_longer : IsTrue old.tells_bytes → length new.bytes ≤ max (length old.bytes) end
 
--- What lasts from any start on lasts, in so many calls of the disk, all within the store's file. No quantum is counted for a worker.
+-- each worker's turns and quanta are as they were
+pub record LeavesWorkers (old new : BookState) : Type 0 where
+  pub turns : (seat : ℕ) → callers ≤ seat → turns_in seat new ≡ turns_in seat old
+  pub quanta : (seat : ℕ) → callers ≤ seat → slice_index new.seats.quanta seat ≡ slice_index old.seats.quanta seat
+
+-- What lasts from any start on lasts, in so many calls of the disk, all within the store's file. No worker takes a turn or a quantum.
 pub record Proceeds {D : Type 0} (state : D → DiskState) (told calls : ℕ) (old new : CoreState D) : Type 0 where
   pub sizes : new.held.runs.sizes ≡ old.held.runs.sizes
   pub effect : Reaches (file_length old.held.runs.sizes) calls (state old.disk) (state new.disk)
   pub tells : TellsFaults told old.held new.held (state old.disk) (state new.disk)
-  pub alone : sum (drop callers new.held.book.seats.quanta) ≡ sum (drop callers old.held.book.seats.quanta)
+  pub alone : LeavesWorkers old.held.book new.held.book
   pub lasts : (start : CoreState D) → StandsSince state start old → StandsSince state start new

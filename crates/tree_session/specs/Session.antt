@@ -103,8 +103,6 @@ pub record Runs {D : Type 0} (state : D → DiskState) (lines : List Line) (old 
   pub calm : is_by_fault new.held.book.stopped ≡ false → AllByRecursion (λ e. TellsNone e.op e.reply) added
   pub names : AllByRecursion (λ e. NamesStop e.reply new.held.book.stopped) added
   pub room : (seat : ℕ) → seat < callers → slice_index new.held.book.book.room.entries seat + length (lines_of seat lines) ≡ slice_index old.held.book.book.room.entries seat
-  -- no quantum is counted for a worker
-  pub alone : sum (drop callers new.held.book.seats.quanta) ≡ sum (drop callers old.held.book.seats.quanta)
   pub rests : Rests new.held
   pub proceeds : Proceeds state (faults_told added) (calls_for state lines old new done) old new
   pub made : IsMade state old new
