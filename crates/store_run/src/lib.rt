@@ -5,4 +5,4 @@
 mod ending;
 mod run;
 
-pub use run::{Ending, Finished, run_in_order, run_over};
+pub use run::{Ending, Finished, finish, run_in_order, run_over};

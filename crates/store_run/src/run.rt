@@ -53,8 +53,8 @@ pub struct Finished {
     pub ending: Ending,
 }
 
-// The disk of a core whose run is over, and what that leaves to be printed.
-fn finish<D: Disk + Drop>(core: Core<D>, charge: u64) -> (D, Finished)
+/// The disk of a core whose run is over, and what that leaves to be printed.
+pub fn finish<D: Disk + Drop>(core: Core<D>, charge: u64) -> (D, Finished)
     ensures disk { result.0 ≡ core.disk }
     ensures finished { run_of result.1 ≡ run_at charge core.held }
     ensures ending { IsEnding result.1.ending (run_of result.1) (D.state core.disk).faults }
