@@ -1,4 +1,3 @@
-pub mod BitSetLemmas
 pub mod FilterLemmas
 pub mod FenceLemmas
 pub mod Examples

@@ -5,12 +5,15 @@ ghost use Rattle.blsm_model.specs.declared.key.Key.{Key};
 ghost use Rattle.bloom_bits.specs.BitSet.{cleared};
 ghost use Rattle.bloom_bits.specs.Filter.{rounded, bit_positions, HasKeys, AreCovered, MayHave};
 
-use crate::bit_set::{BitSet, WORD_BITS};
 use crate::hash::{fnv1a, hash_on};
+use bit_set::BitSet;
 use blsm_model::Key;
 use refusal::NoMemory;
 use std::alloc::Global;
 use std::marker::Model;
+
+// The bits of a filter come in words of so many.
+const WORD_BITS: u64 = u64::BITS as u64;
 
 // The byte behind a key, for its second hash.
 const END: u8 = 255;
@@ -18,18 +21,21 @@ const END: u8 = 255;
 /// A Bloom filter. Contracts see its bits, and how many it may have.
 #[derive(Debug, Drop)]
 pub struct Filter {
+    // As many bits as it may have.
     bits: BitSet,
+    // How many it has.
+    size: u64,
 }
 
 impl Model for Filter {
-    ghost use Rattle.std.specs.Prelude.{◌<◌, length};
-    ghost use Rattle.bloom_bits.specs.BitSet.{BitState};
+    ghost use Rattle.bloom_bits.specs.BitSet.{BitState, front_of};
+    ghost use Rattle.bloom_bits.specs.Filter.{IsSized};
 
     ghost Value = { BitState };
 
-    ghost view = { λ f. f.bits };
+    ghost view = { λ f. front_of f.size f.bits };
 
-    ghost invariant = { λ f. 0 < length f.bits.bits };
+    ghost invariant = { λ f. IsSized f.size f.bits };
 }
 
 // How many words of 64 bits a filter of so many bits has.
@@ -76,9 +82,10 @@ impl Filter {
         if words > u64::MAX / WORD_BITS {
             return Err(NoMemory);
         }
-        let mut bits = BitSet::reserve(alloc, words)?;
-        bits.reset(1);
-        Ok(Filter { bits })
+        Ok(Filter {
+            bits: BitSet::reserve(alloc, WORD_BITS * words)?,
+            size: WORD_BITS,
+        })
     }
 
     /// Takes all keys out. It has so many bits then, rounded up to a multiple of 64 and at least 64.
@@ -88,7 +95,8 @@ impl Filter {
         ensures none { HasKeys self.new [] }
         ensures bits { length self.new.bits ≡ rounded bits }
     {
-        self.bits.reset(words_for(bits));
+        self.bits.clear();
+        self.size = WORD_BITS * words_for(bits);
     }
 
     /// Adds a key.
@@ -97,7 +105,7 @@ impl Filter {
         ensures reserved { self.new.reserved ≡ self.old.reserved }
         ensures bits { length self.new.bits ≡ length self.old.bits }
     {
-        for place in positions(key, self.bits.len()) {
+        for place in positions(key, self.size) {
             self.bits.insert(place);
         }
     }
@@ -109,7 +117,7 @@ impl Filter {
         ensures covered { (keys : List Key) → HasKeys self.now keys → (IsTrue result ↔ AreCovered (length self.now.bits) keys key.now) }
         ensures added { (keys : List Key) → HasKeys self.now keys → Contains keys key.now → IsTrue result }
     {
-        for place in positions(key, self.bits.len()) {
+        for place in positions(key, self.size) {
             if !self.bits.has(place) {
                 return false;
             }

@@ -6,7 +6,6 @@
 //! lookup asks them.
 #![tactic(auto)]
 
-mod bit_set;
 mod fences;
 mod filter;
 mod hash;

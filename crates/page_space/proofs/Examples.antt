@@ -1,18 +1,8 @@
 -- A map of four pages, computed.
 use Rattle.std.proofs.Common.{◌≡◌, zero, suc, true, false, [], ◌∷◌, set, replicate, refl, arith}
-use Rattle.page_space.specs.PageSet.{members, is_set, size, union, none_of}
+use Rattle.page_space.specs.PageSet.{size, none_of}
 use Rattle.page_space.specs.Space.{SpaceState, IsFree, IsLeastFree, NoneFreeBelow, role_size, pin_size}
 use Rattle.page_space.proofs.FreeLemmas.{in_none}
-
--- words of 64 bits, lowest bit first
-bits : members 3 (5 ∷ []) ≡ true ∷ false ∷ true ∷ []
-bits = refl
-
-second_word : is_set (0 ∷ 2 ∷ []) 65 ≡ true
-second_word = refl
-
-united : union (true ∷ false ∷ false ∷ []) (union (false ∷ true ∷ false ∷ []) (true ∷ false ∷ false ∷ [])) ≡ true ∷ true ∷ false ∷ []
-united = refl
 
 how_many : size (true ∷ false ∷ true ∷ true ∷ []) ≡ 3
 how_many = refl

@@ -8,7 +8,7 @@ use Rattle.std.proofs.lemmas.List.Sums.{sum_by-cons, sum_by-le}
 use Rattle.std.proofs.lemmas.List.Elements.{All-from_get_or}
 use Rattle.page_space.specs.PageSet.{Members, IsIn, size, with_page, union}
 use Rattle.page_space.specs.Space.{SpaceState, pages_with, pins_of, IsFree, HasFree, IsSpace, HasRole, IsPinnedBy, KeepsOtherRoles, KeepsOtherPins, seat_count, IsWithin}
-use Rattle.page_space.proofs.PageSetLemmas.{get_or-union}
+use Rattle.bit_set.proofs.BitLemmas.{get_or-union}
 use Rattle.page_space.proofs.SpaceLemmas.{kept_with}
 use Rattle.page_space.proofs.SizeLemmas.{size-cons, or_le}
 

@@ -1,4 +1,3 @@
-pub mod PageSetLemmas
 pub mod SpaceLemmas
 pub mod SizeLemmas
 pub mod FreeLemmas

@@ -2,10 +2,9 @@
 use Rattle.std.proofs.lemmas.Bool.Decides.{nat_tests}
 use Rattle.std.proofs.lemmas.Grind.{common_steps}
 use Rattle.std.proofs.Common.{◌≡◌, ℕ, ◌<◌, List, [], length, get_or, set, arith}
-use Rattle.std.proofs.lemmas.Bool.{false≢true}
 use Rattle.page_space.specs.PageSet.{Members, IsIn, with_page, union}
 use Rattle.page_space.specs.Space.{SpaceState, unused, pages_with, IsFree, IsSpace, role_count, seat_count}
-use Rattle.page_space.proofs.PageSetLemmas.{length-union}
+use Rattle.bit_set.proofs.BitLemmas.{length-union}
 
 -- a page that is in a set is below its number of pages, and only a set that there is has pages
 in_range : (set : Members) (page : ℕ) → IsIn set page → page < length set

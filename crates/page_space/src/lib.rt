@@ -4,7 +4,6 @@
 #![tactic(auto)]
 
 mod laws;
-mod page_set;
 mod role;
 mod space;
 

@@ -4,7 +4,7 @@ ghost use Rattle.page_space.specs.PageSet.{IsInSome, none_of, union};
 ghost use Rattle.page_space.specs.Space.{pages_with, pins_of, HasRole, IsPinnedBy, IsFree, HasFree, IsLeastFree, IsSpace, unused, role_size, pin_size, Claims, KeepsOtherRoles, KeepsOtherPins};
 
 use crate::Role;
-use crate::page_set::PageSet;
+use bit_set::BitSet;
 use blsm_model::CALLERS;
 use refusal::NoMemory;
 use std::alloc::Global;
@@ -16,9 +16,9 @@ use std::marker::Model;
 pub struct Space {
     pages: u32,
     // For each role, the pages that have its tag.
-    roles: Vec<PageSet>,
+    roles: Vec<BitSet>,
     // For each seat, the pages that it pins.
-    pins: Vec<PageSet>,
+    pins: Vec<BitSet>,
     // No page below this one is free.
     in_use_below: u32,
 }
@@ -84,7 +84,7 @@ impl Space {
         ensures { Claims role page self.old self.new }
     {
         let set = &mut self.roles[role.number() as usize];
-        set.insert(page);
+        set.insert(u64::from(page));
     }
 
     /// Takes a role's tag from all its pages. Those that have no other tag and that no seat pins are free then.
@@ -167,22 +167,22 @@ impl Space {
 }
 
 // So many empty sets.
-fn reserve_sets(alloc: Global, count: usize, pages: u32) -> Result<Vec<PageSet>, NoMemory>
+fn reserve_sets(alloc: Global, count: usize, pages: u32) -> Result<Vec<BitSet>, NoMemory>
     ensures { IfOk result (λ sets. sets.items ≡ replicate count (none_of pages)) }
 {
     let mut sets = Vec::with_capacity(alloc, count)?;
     for _ in 0..count {
-        sets.push(PageSet::reserve(alloc, pages)?)?;
+        sets.push(BitSet::reserve(alloc, u64::from(pages))?)?;
     }
     Ok(sets)
 }
 
-fn is_in_any(sets: &[PageSet], page: u32) -> bool
+fn is_in_any(sets: &[BitSet], page: u32) -> bool
     requires { All (λ set. page < length set) sets.now }
     ensures { IsTrue result ↔ IsInSome sets.now page }
 {
     for set in sets {
-        if set.has(page) {
+        if set.has(u64::from(page)) {
             return true;
         }
     }

@@ -1,4 +1,4 @@
-use Rattle.std.proofs.Common.{◌≡◌, take}
+use Rattle.std.proofs.Common.{◌≡◌, length, take}
 use Rattle.bloom_bits.proofs.FilterLemmas.{AreWith}
 use Rattle.bloom_bits.proofs.filter.Filter.add.Given as goal
 
@@ -6,6 +6,7 @@ use Rattle.bloom_bits.proofs.filter.Filter.add.Given as goal
 abbrev pub invariant-loop-place : goal.invariant-loop-place
 invariant-loop-place l =
     record {
-      reserved : l.self-inside.bits.reserved ≡ l.initial.self-inside.bits.reserved;
-      places : AreWith l.initial.self-inside.bits.bits l.self-inside.bits.bits (take l.place-index l.place-items);
+      size : l.self-inside.size ≡ l.initial.self-inside.size;
+      long : length l.self-inside.bits ≡ length l.initial.self-inside.bits;
+      places : AreWith (take l.initial.self-inside.size l.initial.self-inside.bits) (take l.initial.self-inside.size l.self-inside.bits) (take l.place-index l.place-items);
     }

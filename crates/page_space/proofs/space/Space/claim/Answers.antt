@@ -12,7 +12,7 @@ use Rattle.page_space.proofs.space.Space.claim.Goals.{After-insert}
 set_is : (c : After-insert) → c.insert.new.self ≡ with_page c.args.page (get_or c.self.inside.roles.items c.number.result [])
 set_is c =
     let there : c.number.result < length c.self.inside.roles.items = omega (arith, c.self.invariant.0.roles, c.number.ensures.in_range) in
-    c.insert.ensures ∙ ap (with_page c.args.page) (get_or_read c.self.inside.roles.items c.number.result c.index_mut-set.result.now there c.index_mut-set.ensures.value [])
+    c.insert.ensures ∙ ap (λ place. with_page place c.index_mut-set.result.now) c.from.ensures ∙ ap (with_page c.args.page) (get_or_read c.self.inside.roles.items c.number.result c.index_mut-set.result.now there c.index_mut-set.ensures.value [])
 
 pub invariant_of-self : goal.invariant_of-self
 invariant_of-self c =

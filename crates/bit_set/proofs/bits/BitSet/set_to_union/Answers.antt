@@ -1,11 +1,11 @@
 use Rattle.std.proofs.Common.{◌≡◌, ◌∙◌, ◌<◌, ◌+◌, ◌/◌, ℕ, List, get_or, bit_or, ap, sym, length, below_more, arith}
 use Rattle.std.proofs.lemmas.List.{get_or_read, get_or-set_same, get_or-set_other, length-set}
-use Rattle.page_space.specs.PageSet.{Members, members, union, AreFor}
-use Rattle.page_space.proofs.PageSetLemmas.{length-members, members_union}
-use Rattle.page_space.proofs.page_set.PageSet.set_to_union.Goals as goal
-use Rattle.page_space.proofs.page_set.PageSet.set_to_union.Goals.{After-c}
+use Rattle.bit_set.specs.Bits.{Members, members, union, AreFor}
+use Rattle.bit_set.proofs.BitLemmas.{length-members, members_union}
+use Rattle.bit_set.proofs.bits.BitSet.set_to_union.Goals as goal
+use Rattle.bit_set.proofs.bits.BitSet.set_to_union.Goals.{After-c}
 
--- two sets of as many pages have as many words
+-- two sets of as many places have as many words
 same_pages : (p q : ℕ) (xs ys : List ℕ) (set other : Members) → members p xs ≡ set → members q ys ≡ other → length set ≡ length other → p ≡ q
 same_pages p q xs ys set other is other_is same = omega (arith, ap length is, ap length other_is, length-members p xs, length-members q ys)
 
@@ -42,7 +42,7 @@ loop-i-preserved c =
     let read_b = get_or_read c.b.inside.words.items i c.index-in-loop-i.result.now (omega (arith, words_b b)) c.index-in-loop-i.ensures 0 in
     let read_c = get_or_read c.c.inside.words.items i c.index-in-loop-i-2.result.now (omega (arith, words_c b)) c.index-in-loop-i-2.ensures 0 in
     record {
-      pages = c.loop-i.invariant.pages;
+      places = c.loop-i.invariant.places;
       words = length-set words i word ∙ c.loop-i.invariant.words;
       united = below_more _ _
           (λ k below. let differs : k ≡ i → ⊥ = omega arith in get_or-set_other words i k word 0 differs ∙ c.loop-i.invariant.united k below)
@@ -56,17 +56,17 @@ pub returns : goal.returns
 returns c =
     let b = (goal.at.returns c).After-c in
     let words = c.loop-i.self-inside.words.items in
-    let pages = c.loop-i.self-inside.pages in
+    let places = c.loop-i.self-inside.places in
     let kept = c.loop-i.invariant in
-    let enough : AreFor pages words = kept.words ∙ c.self.invariant ∙ ap (λ n. (n + 63) / 64) (sym kept.pages) in
-    let as_a : members pages c.a.inside.words.items ≡ c.args.a.now =
-    ap (λ n. members n c.a.inside.words.items) (kept.pages ∙ sym (same_pages _ _ _ _ _ _ c.a.view_is c.self.view_is c.requires.a)) ∙ c.a.view_is in
-    let as_b : members pages c.b.inside.words.items ≡ c.args.b.now =
-    ap (λ n. members n c.b.inside.words.items) (kept.pages ∙ sym (same_pages _ _ _ _ _ _ c.b.view_is c.self.view_is c.requires.b)) ∙ c.b.view_is in
-    let as_c : members pages c.c.inside.words.items ≡ c.args.c.now =
-    ap (λ n. members n c.c.inside.words.items) (kept.pages ∙ sym (same_pages _ _ _ _ _ _ c.c.view_is c.self.view_is c.requires.c)) ∙ c.c.view_is in
-    members_union pages words c.a.inside.words.items c.b.inside.words.items c.c.inside.words.items enough
+    let enough : AreFor places words = kept.words ∙ c.self.invariant ∙ ap (λ n. (n + 63) / 64) (sym kept.places) in
+    let as_a : members places c.a.inside.words.items ≡ c.args.a.now =
+    ap (λ n. members n c.a.inside.words.items) (kept.places ∙ sym (same_pages _ _ _ _ _ _ c.a.view_is c.self.view_is c.requires.a)) ∙ c.a.view_is in
+    let as_b : members places c.b.inside.words.items ≡ c.args.b.now =
+    ap (λ n. members n c.b.inside.words.items) (kept.places ∙ sym (same_pages _ _ _ _ _ _ c.b.view_is c.self.view_is c.requires.b)) ∙ c.b.view_is in
+    let as_c : members places c.c.inside.words.items ≡ c.args.c.now =
+    ap (λ n. members n c.c.inside.words.items) (kept.places ∙ sym (same_pages _ _ _ _ _ _ c.c.view_is c.self.view_is c.requires.c)) ∙ c.c.view_is in
+    members_union places words c.a.inside.words.items c.b.inside.words.items c.c.inside.words.items enough
     (λ i below. kept.united i (omega (arith, kept.words, c.self.inside.words.ok.0)))
-    ∙ ap (λ (set : Members). union set (union (members pages c.b.inside.words.items) (members pages c.c.inside.words.items))) as_a
-    ∙ ap (λ (set : Members). union c.args.a.now (union set (members pages c.c.inside.words.items))) as_b
+    ∙ ap (λ (set : Members). union set (union (members places c.b.inside.words.items) (members places c.c.inside.words.items))) as_a
+    ∙ ap (λ (set : Members). union c.args.a.now (union set (members places c.c.inside.words.items))) as_b
     ∙ ap (λ (set : Members). union c.args.a.now (union c.args.b.now set)) as_c
