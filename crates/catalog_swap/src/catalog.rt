@@ -5,7 +5,7 @@ ghost use Rattle.blsm_model.specs.Geometry.{page_count};
 ghost use Rattle.blsm_model.specs.Lanes.{AreRoles};
 ghost use Rattle.catalog_swap.specs.Text.{AreNumbers, FitsBody, IsComponent, IsCatalog, component_text, body_text};
 
-use crate::number::{u32_at, u64_at};
+use big_endian::{u32_at, u64_at};
 use blsm_model::{Component, Geometry};
 
 /// How many bytes the body of a slot has, behind its gate.

@@ -6,7 +6,6 @@ mod component;
 mod entry;
 mod file;
 mod laws;
-mod number;
 mod page;
 
 pub use component::no_component;

@@ -15,7 +15,7 @@ ghost use Rattle.blsm_model.specs.Components.{no_page};
 ghost use Rattle.page_file.specs.Page.{page_number, used_by, page_head, IsHead, IsPageOf, IsPage};
 
 use crate::entry::are_entries;
-use crate::number::{u16_at, u32_at};
+use big_endian::{u16_at, u32_at};
 use blsm_model::Op;
 
 /// How many bytes a page has.

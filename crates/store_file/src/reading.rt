@@ -11,6 +11,7 @@ ghost use Rattle.store_file.specs.Layout.{superblock, superblock_length, IsStore
 ghost use Rattle.store_file.specs.Reading.{TellsGeometry};
 
 use crate::layout::{HALF_AT, LOW_AT, QUANTUM_AT, RATIO_AT, SUPERBLOCK_LEN, superblock};
+use big_endian::u32_at;
 use blsm_model::Geometry;
 use disk_trait::Disk;
 use gated_write::OPEN;
@@ -43,9 +44,7 @@ fn number_at(block: &[u8; SUPERBLOCK_LEN], at: usize) -> u64
     requires { at + 4 ≤ SUPERBLOCK_LEN }
     ensures { result ≡ from_be_bytes w32 (part block.now at 4) }
 {
-    let mut bytes = [0; 4];
-    bytes.copy_from_slice(&block[at..at + 4]);
-    u64::from(u32::from_be_bytes(bytes))
+    u64::from(u32_at(block, at))
 }
 
 // The geometry whose superblock this is, if there is one.
