@@ -1,7 +1,7 @@
 -- What each image has while one catalogue follows another.
 use Rattle.std.proofs.lemmas.Bool.Decides.{nat_tests}
 use Rattle.std.proofs.lemmas.Grind.{common_steps}
-use Rattle.std.proofs.Common.{◌≡◌, ◌⊎◌, inl, inr, ⊎_elim, ℕ, ◌+◌, ◌≤◌, IsTrue, List, [], ◌∷◌, ◌++◌, length, refl, ap, sym, subst, ◌∙◌, arith}
+use Rattle.std.proofs.Common.{◌≡◌, ◌⊎◌, inl, inr, ⊎_elim, ℕ, ◌+◌, ◌*◌, ◌≤◌, IsTrue, List, [], ◌∷◌, ◌++◌, length, refl, ap, sym, subst, ◌∙◌, arith}
 use Rattle.std.specs.Prelude.{Result, OnOk}
 use Rattle.disk_trait.specs.Disk.{DiskState, Only, part, overwritten}
 use Rattle.disk_trait.specs.Effects.{Affects}
@@ -13,6 +13,7 @@ use Rattle.disk_trait.specs.Region.{span, IsWithin, AreApart, IsSameOutside}
 use Rattle.disk_trait.proofs.RegionLemmas.{part_apart}
 use Rattle.gated_write.specs.Gated.{open_byte, IsClosed, IsGated}
 use Rattle.blsm_model.specs.Sizes.{Sizes}
+use Rattle.blsm_model.specs.Geometry.{file_length, page_count}
 use Rattle.catalog_swap.specs.declared.catalog.Catalog.{Catalog}
 use Rattle.catalog_swap.specs.Text.{body_text}
 use Rattle.catalog_swap.specs.Slots.{slot_length, slot_of, other_slot, IsOpen, HasSlot, IsNewest, AreSameSlots}
@@ -23,6 +24,13 @@ use Rattle.catalog_swap.proofs.TextLemmas.{length-body_text}
 -- a gate is open, or it isn't
 gate_cases : (at : ℕ) (file : List ℕ) → IsOpen at file ⊎ IsClosed at file
 gate_cases at file = grind (arith, common_steps, nat_tests)
+
+-- the slots stand before the log
+past_head : (lanes pages : ℕ) → 4096 ≤ 4096 + lanes + pages
+past_head lanes pages = omega arith
+
+pub slots_inside : (sizes : Sizes) → 4096 ≤ file_length sizes
+slots_inside sizes = past_head (12 * sizes.half) (4096 * page_count sizes)
 
 -- the two slots are apart
 others_apart : (version n : ℕ) → n ≤ slot_length → AreApart (span (other_slot version) n) (span (slot_of version) slot_length)

@@ -97,6 +97,5 @@ pub fn commit<D: Disk>(disk: &mut D, geo: &Geometry, new: &Catalog) -> Result<()
     ensures effect { Affects (span (slot_of new.now.version) slot_length) (file_length geo.now) 4 (D.state disk.old) (D.state disk.new) }
     ensures faults { TellsFaults result (D.state disk.old) (D.state disk.new) }
 {
-    let _pages = geo.pages();
     write_gated(disk, slot_of(new.version), &body_of(new))
 }

@@ -1,7 +1,7 @@
 -- Pages as bytes: what is read of one, and that bytes are one page at most.
 use Rattle.std.proofs.lemmas.Bool.Decides.{nat_tests}
 use Rattle.std.proofs.lemmas.Grind.{common_steps}
-use Rattle.std.proofs.Common.{◌≡◌, ◌≢◌, ◌↔◌, ℕ, ◌+◌, ◌-◌, ◌^◌, ◌<◌, ◌≤◌, List, [], ◌∷◌, ◌++◌, length, take, drop, Option, refl, ap, sym, subst, ◌∙◌, append_assoc, length-append, arith}
+use Rattle.std.proofs.Common.{◌≡◌, ◌≢◌, ◌↔◌, ℕ, ◌+◌, ◌*◌, ◌-◌, ◌^◌, ◌<◌, ◌≤◌, List, [], ◌∷◌, ◌++◌, length, take, drop, Option, refl, ap, sym, subst, ◌∙◌, append_assoc, length-append, arith}
 use Rattle.record_delta.specs.declared.record.Rec.{Rec}
 use Rattle.blsm_model.specs.declared.key.Key.{Key}
 use Rattle.record_delta.specs.Entries.{Entries}
@@ -15,7 +15,7 @@ use Rattle.disk_trait.specs.Region.{span, outside, AreApart, IsSameOutside}
 use Rattle.disk_trait.proofs.RegionLemmas.{part_apart, same_wider}
 use Rattle.blsm_model.specs.Format.{page_length}
 use Rattle.blsm_model.specs.Sizes.{Sizes, IsGeometry}
-use Rattle.blsm_model.specs.Geometry.{page_count}
+use Rattle.blsm_model.specs.Geometry.{file_length, page_count}
 use Rattle.page_file.specs.File.{page_start, page_region, pages_region, AreSamePages}
 use Rattle.page_file.specs.Entry.{entry_bytes, entries_bytes, AreEntriesIn, AreInBytes}
 use Rattle.blsm_model.specs.Components.{no_page}
@@ -216,3 +216,10 @@ pages_behind sizes numbers at len old new ends same =
 -- a store has fewer pages than there are numbers
 pub few_pages : (sizes : Sizes) → IsGeometry sizes → page_count sizes ≤ no_page
 few_pages sizes h1 = grind (arith, common_steps, nat_tests)
+
+-- and its file is short
+short : (half pages : ℕ) → half ≤ 67108864 → pages ≤ no_page → 4096 + 12 * half + 4096 * pages < 2 ^ 63
+short half pages small few = omega arith
+
+pub short_file : (sizes : Sizes) → IsGeometry sizes → file_length sizes < 2 ^ 63
+short_file sizes fits = short sizes.half (page_count sizes) fits.half.1 (few_pages sizes fits)

@@ -44,7 +44,6 @@ fn place_of(geo: &Geometry, n: u32) -> u64
     ensures inside { page_start geo.now n + page_length ≤ file_length geo.now }
     ensures small { file_length geo.now < 2 ^ 63 }
 {
-    let _pages = geo.pages();
     FILE_HEAD_LEN + LANE_HALVES * geo.half() + PAGE_LEN as u64 * u64::from(n)
 }
 

@@ -1,6 +1,6 @@
 use Rattle.std.proofs.Common.{arith}
 use Rattle.disk_trait.proofs.EffectLemmas.{affects_wider}
-use Rattle.catalog_swap.proofs.SwapLemmas.{each_commit, reads_commit, settled_commit, on_ok}
+use Rattle.catalog_swap.proofs.SwapLemmas.{slots_inside, each_commit, reads_commit, settled_commit, on_ok}
 use Rattle.catalog_swap.proofs.swap.commit.Goals as goal
 
 pub returns-clause-each : goal.returns-clause-each
@@ -23,4 +23,4 @@ returns-clause-committed g c =
 pub returns-clause-effect : goal.returns-clause-effect
 returns-clause-effect g c =
     affects_wider (λ i inside. (omega (arith, inside.0, c.slot_of.ensures), omega (arith, inside.1, c.slot_of.ensures, c.body_of.type_inv)))
-    (omega (arith, c.slot_of.ensures, c.body_of.type_inv, c.pages-pages.ensures.pages, c.pages-pages.ensures.bound)) (omega arith) c.write_gated.ensures.effect
+    (omega (arith, c.slot_of.ensures, c.body_of.type_inv, slots_inside c.args.geo.now)) (omega arith) c.write_gated.ensures.effect
