@@ -7,13 +7,19 @@ use Rattle.std.proofs.lemmas.List.Elements.{All-cons, All-filter, All-from_recur
 use Rattle.std.proofs.lemmas.List.Sums.{sum_by-cons}
 use Rattle.std.proofs.Math.Dec.{eqb_refl}
 use Rattle.std.proofs.Math.ListN.{length-replicate}
+use Rattle.blsm_model.specs.Format.{overhead}
+use Rattle.blsm_model.specs.Histories.{writes_of}
+use Rattle.blsm_model.specs.Legal.{total_weight}
+use Rattle.blsm_model.specs.Values.{weight_of}
+use Rattle.blsm_model.specs.declared.op.Write.{Write}
+use Rattle.blsm_model.specs.declared.op.Write.TheVariants as write
 use Rattle.blsm_model.specs.declared.op.Op.{Op}
 use Rattle.blsm_model.specs.declared.op.Op.TheVariants.{Put, Add, Del, Get}
 use Rattle.blsm_model.specs.declared.history.Entry.{Entry}
 use Rattle.blsm_model.specs.declared.history.Line.{Line}
 use Rattle.blsm_model.specs.Scripts.{IsOfScript, lines_of, ops_of, rows_of}
 use Rattle.script_text.specs.Grammar.{AreLines, IsAllowed, IsCommand, IsKey, IsText, IsVisible, all_rows_asked}
-use Rattle.script_text.specs.Generated.{HasMadeKeys, IsMade, after_command, generated, key_at, key_count, op_from, op_of, text_at}
+use Rattle.script_text.specs.Generated.{HasMadeKeys, IsMade, after_command, drawn, generated, heaviest_made, key_at, key_count, longest_made, next_state, op_from, op_of, text_at}
 
 -- one command more
 generated_more : (x m n : ℕ) → n ≡ m + 1 → generated x n ≡ record { seat = 0; op = op_from x } ∷ generated (after_command x) m
@@ -111,6 +117,50 @@ none_asked x (suc n) =
 -- what is made is a script
 pub made_lines : (x n : ℕ) → n ≤ 65536 → AreLines (generated x n)
 made_lines x n few = record { allowed = all_allowed x n; few = omega (arith, length-generated x n); asked = omega (arith, none_asked x n) }
+
+-- ---- weights
+
+abbrev weight_of_op : Op → ℕ
+weight_of_op op = total_weight (writes_of op)
+
+weighs : (w : Write) → total_weight (w ∷ []) ≡ weight_of w
+weighs w = omega (arith, sum_by-cons weight_of w [])
+
+key_length : (place : ℕ) → length (key_at place) ≡ 6
+unfolding key_at
+key_length place = refl
+
+text_length : (place size : ℕ) → length (text_at place size) ≡ size
+unfolding text_at
+text_length place size = length-replicate size (97 + place % 26)
+
+put_weighs : (place count size : ℕ) → weight_of_op (Put (key_at place) (record { count = count; text = text_at place size })) ≡ overhead + 6 + size
+put_weighs place count size = omega (arith, weighs (write.Put (key_at place) (record { count = count; text = text_at place size })), key_length place, text_length place size)
+
+op_weighs : (kind place count size : ℕ) → size ≤ longest_made → weight_of_op (op_of kind place count size) ≤ heaviest_made
+op_weighs kind place count size few = op_cases (λ op. weight_of_op op ≤ heaviest_made) kind place count size
+    (omega (arith, put_weighs place count size, few))
+    (omega (arith, weighs (write.Add (key_at place) count), key_length place))
+    (omega (arith, weighs (write.Del (key_at place)), key_length place))
+    (let none : weight_of_op (Get (key_at place)) ≡ 0 = refl in omega (arith, none))
+
+from_weighs : (x : ℕ) → weight_of_op (op_from x) ≤ heaviest_made
+from_weighs x =
+    let first = next_state x in
+    let second = next_state first in
+    let third = next_state second in
+    let fourth = next_state third in
+    op_weighs (drawn first % 100) (drawn second % key_count) (drawn third % 1000) (160 + drawn fourth % 40) (omega arith)
+
+-- no write that is made weighs more than the heaviest, and some may weigh as much
+pub made_weights : (x n : ℕ) → All (λ (l : Line). weight_of_op l.op ≤ heaviest_made) (generated x n)
+unfolding generated
+made_weights x zero = All-from_recursion (λ (l : Line). weight_of_op l.op ≤ heaviest_made) [] tt
+made_weights x (suc n) =
+    All-cons (λ (l : Line). weight_of_op l.op ≤ heaviest_made) (record { seat = 0; op = op_from x }) (generated (after_command x) n) (from_weighs x) (made_weights (after_command x) n)
+
+heaviest_weighs : (place count : ℕ) → weight_of_op (Put (key_at place) (record { count = count; text = text_at place longest_made })) ≡ heaviest_made
+heaviest_weighs place count = put_weighs place count longest_made
 
 -- its keys are the generator's
 pub made_keys : (x n : ℕ) → All (λ (l : Line). HasMadeKeys l.op) (generated x n)

@@ -1,14 +1,18 @@
 -- The greatest quanta of a write, and the writes that count, one entry further on.
 use Rattle.std.proofs.lemmas.Bool.Decides.{nat_tests}
 use Rattle.std.proofs.lemmas.Grind.{common_steps}
-use Rattle.std.proofs.Common.{◌≡◌, ℕ, ◌+◌, ◌<◌, max, List, [], ◌∷◌, ◌++◌, length, take, get_or, ap, ◌∙◌, arith}
+use Rattle.std.proofs.Common.{◌≡◌, ℕ, ◌+◌, ◌<◌, max, List, [], ◌∷◌, ◌++◌, length, take, get_or, refl, ap, ◌∙◌, arith}
 use Rattle.std.proofs.lemmas.List.{take_more}
 use Rattle.blsm_model.specs.declared.history.Entry.{Entry}
 use Rattle.blsm_model.specs.Book.{no_entry}
 use Rattle.blsm_model.specs.Histories.{counted, counted_writes}
 use Rattle.blsm_model.proofs.HistoryLemmas.{counted_writes_push}
 use Rattle.script_text.proofs.PrintLemmas.{as_long}
-use Rattle.script_text.specs.Summary.{most_quanta, quanta_of_write}
+use Rattle.script_text.specs.Summary.{made_bound, most_quanta, quanta_of_write}
+
+-- the bound that a summary prints
+pub bound_of_made : made_bound ≡ 3
+bound_of_made = refl
 
 max_none : (a : ℕ) → max a 0 ≡ max 0 a
 max_none a = omega arith

@@ -1,6 +1,7 @@
 -- The script that is made from a seed. Its numbers come from a linear congruential generator modulo 2^64, of whose state
 -- the 31 high bits are drawn.
 use Rattle.std.specs.Prelude.{◌≡◌, ℕ, zero, suc, ◌+◌, ◌*◌, ◌/◌, ◌%◌, ◌^◌, ◌<◌, ⊤, List, [], ◌∷◌, if◌then◌else◌, nat_lt, replicate}
+use Rattle.blsm_model.specs.Format.{overhead}
 use Rattle.blsm_model.specs.declared.key.Key.{Key}
 use Rattle.blsm_model.specs.declared.op.Op.{Op}
 use Rattle.blsm_model.specs.declared.op.Op.TheVariants.{Put, Add, Tail, Del, Get, Hold}
@@ -17,6 +18,14 @@ drawn x = x / 2 ^ 33
 -- how many keys there are
 abbrev pub key_count : ℕ
 key_count = 1500
+
+-- the longest text that is made has so many bytes
+abbrev pub longest_made : ℕ
+longest_made = 199
+
+-- the heaviest write that is made weighs so many: a put of a key, which has six, and such a text
+abbrev pub heaviest_made : ℕ
+heaviest_made = overhead + 6 + longest_made
 
 -- the digit of a place that stands for this power of ten
 abbrev pub digit_at : ℕ → ℕ → ℕ

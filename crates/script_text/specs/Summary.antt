@@ -7,12 +7,14 @@ use Rattle.blsm_model.specs.declared.history.Reply.{Reply}
 use Rattle.blsm_model.specs.declared.history.Reply.TheVariants.{Full}
 use Rattle.blsm_model.specs.declared.history.Entry.{Entry}
 use Rattle.blsm_model.specs.declared.history.Totals.{Totals}
+use Rattle.blsm_model.specs.Geometry.{work_bound}
+use Rattle.blsm_model.specs.Sizes.{default_sizes}
 use Rattle.blsm_model.specs.Values.{value_at}
 use Rattle.blsm_model.specs.Rows.{map_of}
 use Rattle.blsm_model.specs.Histories.{map_after}
 use Rattle.blsm_model.specs.Legal.{is_write}
 use Rattle.blsm_model.specs.Printed.{and_number}
-use Rattle.script_text.specs.Generated.{key_at, key_count}
+use Rattle.script_text.specs.Generated.{heaviest_made, key_at, key_count}
 use Rattle.script_text.specs.declared.summary.Kind.{Kind}
 use Rattle.script_text.specs.declared.summary.Kind.TheVariants as kind
 
@@ -51,9 +53,12 @@ full_line history = codes "full" ++ and_number (count_by (is_of kind.Full) histo
 abbrev pub peak_line : Totals → List ℕ
 peak_line t = codes "c0" ++ and_number t.peak ++ codes " of" ++ and_number t.high ++ 10 ∷ []
 
--- 3 is the work bound, at the default geometry, of the heaviest write that is made
+-- how many quanta a write that is made takes at most, at the default geometry
+abbrev pub made_bound : ℕ
+made_bound = work_bound default_sizes heaviest_made
+
 abbrev pub largest_line : List Entry → List ℕ → List ℕ
-largest_line history quanta = codes "largest q" ++ and_number (most_quanta history quanta) ++ codes " of" ++ and_number 3 ++ 10 ∷ []
+largest_line history quanta = codes "largest q" ++ and_number (most_quanta history quanta) ++ codes " of" ++ and_number made_bound ++ 10 ∷ []
 
 abbrev pub work_line : Totals → List ℕ
 work_line t = codes "quanta" ++ and_number (t.callers + t.workers) ++ codes " swaps" ++ and_number t.passes ++ and_number t.deeps ++ 10 ∷ []

@@ -2,9 +2,12 @@
 ghost use Rattle.std.specs.Prelude.{◌≡◌, ℕ, ◌<◌, ◌≤◌, IfOk, List};
 ghost use Rattle.std.specs.List.{All};
 ghost use Rattle.blsm_model.specs.declared.history.Entry.{Entry};
+ghost use Rattle.blsm_model.specs.declared.history.Line.{Line};
 ghost use Rattle.blsm_model.specs.Format.{most_lines};
+ghost use Rattle.blsm_model.specs.Histories.{writes_of};
+ghost use Rattle.blsm_model.specs.Legal.{total_weight};
 ghost use Rattle.blsm_model.specs.Scripts.{IsOfScript};
-ghost use Rattle.script_text.specs.Generated.{HasMadeKeys, after_command, digit_at, drawn, generated, key_at, next_state, op_from, op_of, text_at};
+ghost use Rattle.script_text.specs.Generated.{HasMadeKeys, after_command, digit_at, drawn, generated, heaviest_made, key_at, longest_made, next_state, op_from, op_of, text_at};
 
 use crate::script::Script;
 use blsm_model::{Key, Line, Op, Text, Value};
@@ -58,7 +61,7 @@ impl Generator {
 
 #[tactic(auto, unfolding(crate::specs::Generated::op_of))]
 fn make_op(kind: u64, place: u64, count: u64, size: usize) -> Op
-    requires { size ≤ MOST_TEXT }
+    requires { size ≤ longest_made }
     ensures { result ≡ op_of kind place count size }
 {
     let key = make_key(place);
@@ -102,7 +105,7 @@ fn make_key(place: u64) -> Key
 }
 
 fn make_text(place: u64, size: usize) -> Text
-    requires { size ≤ MOST_TEXT }
+    requires { size ≤ longest_made }
     ensures { result ≡ text_at place size }
 {
     let letter = b'a' + (place % 26) as u8;
@@ -130,4 +133,9 @@ pub fn generate(alloc: Global, seed: u64, count: u32) -> Result<Script, NoMemory
 /// Does nothing, and stands for its clause: the keys of each history of a script that is made are the generator's.
 pub fn made_histories()
     ensures { (seed count : ℕ) (history : List Entry) → IsOfScript (generated seed count) history → All (λ e. HasMadeKeys e.op) history }
+{}
+
+/// Does nothing, and stands for its clause: no write of a script that is made weighs more than the heaviest, by which a summary has its bound.
+pub fn made_writes()
+    ensures { (seed count : ℕ) → All (λ (line : Line). total_weight (writes_of line.op) ≤ heaviest_made) (generated seed count) }
 {}

@@ -12,7 +12,7 @@ mod reply;
 mod script;
 mod summary;
 
-pub use generator::{MADE_KEYS, generate, made_histories};
+pub use generator::{MADE_KEYS, generate, made_histories, made_writes};
 pub use line::{LONGEST_LINE, read_line};
 pub use piece::{LONGEST, Piece};
 pub use print::{print_charge, print_end, print_entry, print_history};

@@ -17,7 +17,7 @@ use text_io::{Sink, write_all};
 
 const PLACES: usize = MADE_KEYS as usize;
 
-// The work bound, at the default geometry, of the heaviest write that is made, which weighs 218 bytes.
+// The work bound, at the default geometry, of the heaviest write that is made, which weighs 218 bytes (`made_bound`).
 const MADE_BOUND: u64 = 3;
 
 // The longest line of a summary is shorter.
