@@ -1,5 +1,6 @@
 -- A lookup is a step that only reads, and notes what it found.
-use Rattle.std.specs.Prelude.{◌≡◌, ◌≢◌, ℕ, ◌<◌, ◌≤◌, ◌^◌, true, false, List, Option, None, IsTrue, is_some, length, not, ◌&&◌, IsSome}
+use Rattle.std.specs.declared.result.Result.{Result}
+use Rattle.std.specs.Prelude.{◌≡◌, ◌≢◌, ℕ, ◌+◌, ◌<◌, ◌≤◌, ◌^◌, true, false, List, Option, None, IsTrue, is_some, length, not, ◌&&◌, IsSome}
 use Rattle.std.proofs.lemmas.Grind.{common_steps}
 use Rattle.std.proofs.lemmas.Bool.Decides.{nat_tests}
 use Rattle.std.proofs.Common.{◌∙◌, inl, inr, refl, ap, sym, subst, arith}
@@ -16,6 +17,8 @@ use Rattle.blsm_model.specs.Histories.{answer_to_get}
 use Rattle.disk_trait.specs.Disk.{DiskState}
 use Rattle.disk_trait.specs.Reads.{OnlyReads}
 use Rattle.disk_trait.specs.Moments.{IsTimed}
+use Rattle.page_file.specs.File.{Reads}
+use Rattle.page_file.specs.declared.file.Broken.{Broken}
 use Rattle.seat_book.specs.State.{BookState, noted_in, may_note_in}
 use Rattle.seat_book.proofs.KeepLemmas.{note_keeps}
 use Rattle.seat_book.proofs.WordLemmas.{moves_book, note_has_room}
@@ -28,7 +31,8 @@ use Rattle.tree_machine.specs.Steps.{Outcome, Well, FailedAfter, Replied, replie
 use Rattle.tree_machine.specs.declared.step.Kind.TheVariants as kind
 use Rattle.tree_file.specs.Tree.{Tree, HoldsTree}
 use Rattle.tree_runs.specs.Holding.{AreGuided}
-use Rattle.tree_runs.specs.Lookups.{HidesOlder}
+use Rattle.tree_runs.specs.Lookups.{CountsYes, HidesOlder}
+use Rattle.tree_runs.specs.Runs.{filter_of}
 use Rattle.tree_runs.specs.Laws.{RunsStay}
 use Rattle.core_moves.specs.declared.held.Held.{Held}
 use Rattle.core_moves.specs.Moves.{with_book}
@@ -39,7 +43,7 @@ use Rattle.tree_core.specs.declared.answers.Lookup.{Lookup}
 use Rattle.tree_core.specs.declared.answers.Lookup.TheVariants as lookup
 use Rattle.tree_core.specs.Answers.{reply_to_get, found_in, newest_in}
 use Rattle.tree_core.specs.Calls.{BesideHolds, Gets, GoesOnAs, Looks}
-use Rattle.tree_core.specs.Causes.{FindsBecause, LooksNone, IsLookOn}
+use Rattle.tree_core.specs.Causes.{CountsFilters, FindsBecause, LooksNone, IsLookOn}
 use Rattle.tree_core.specs.Core.{CoreState, IsCore}
 use Rattle.tree_core.specs.Standing.{AnyRows, StandsFor}
 use Rattle.tree_core.specs.Steps.{IsStep}
@@ -55,6 +59,17 @@ few_rows found = grind (arith, common_steps, nat_tests)
 
 get_has_room : (seat : ℕ) (key : Key) (found : Lookup) (b : BookState) → may_note_in seat 0 b ≡ true → HasRoom b.book.room (record { seat = seat; op = Get key; reply = reply_to_get found })
 get_has_room seat key found b can = note_has_room b seat 0 (Get key) (reply_to_get found) can (few_rows found)
+
+-- three components are all
+pub three_count : (key : Key) (held : Held) → CountsFilters key held 3
+three_count key held = record { c1 = 1; c1x = 1; c2 = 1; first = inl (omega arith); second = inl (omega arith); third = inl (omega arith); all = refl }
+
+-- as many calls as filters say yes
+pub asked_few : {A : Type 0} {result : Result A Broken} {end : ℕ} {d d2 : DiskState} (key : Key) (held : Held)
+    → ((c1 c1x c2 : ℕ) → CountsYes (filter_of held.runs held.runs.tags.c1) key c1 → CountsYes (filter_of held.runs held.runs.tags.c1x) key c1x → CountsYes (filter_of held.runs held.runs.tags.c2) key c2 → Reads end (c1 + c1x + c2) result d d2)
+    → (n : ℕ) → CountsFilters key held n → OnlyReads end n d d2
+asked_few {A} {result} {end} {d} {d2} key held asks n counts =
+    subst (λ (m : ℕ). OnlyReads end m d d2) (sym counts.all) (asks counts.c1 counts.c1x counts.c2 counts.first counts.second counts.third).effect
 
 -- ---- on an honest one
 
@@ -112,17 +127,17 @@ pub get_does : {D : Type 0} (state : D → DiskState) (seat : ℕ) (key : Key) (
     → FindsBecause found key old.held (state old.disk) (state disk) → (found ≡ lookup.Fault → (state disk).faults < 2 ^ 64)
     → ((tree : Tree) → IsTrue (state old.disk).is_honest → HoldsTree old.held.runs.sizes tree (state old.disk).bytes → tree.catalogue ≡ old.held.runs.catalogue → AreGuided old.held.runs.guides old.held.runs.tags tree → old.held.book.stopped ≡ None
     → found ≢ lookup.Fault → reply_to_get found ≡ answer_to_get (found_in key old.held tree))
-    → OnlyReads (file_length old.held.runs.sizes) 3 (state old.disk) (state disk) → (HidesOlder (newest_in key old.held) → disk ≡ old.disk) → (LooksNone found → disk ≡ old.disk) → b ≡ noted_in seat (Get key) (reply_to_get found) old.held.book
+    → ((n : ℕ) → CountsFilters key old.held n → OnlyReads (file_length old.held.runs.sizes) n (state old.disk) (state disk)) → (HidesOlder (newest_in key old.held) → disk ≡ old.disk) → (LooksNone found → disk ≡ old.disk) → b ≡ noted_in seat (Get key) (reply_to_get found) old.held.book
     → Gets state seat key found old (record { disk = disk; held = with_book b old.held; holds = old.holds })
 get_does {D} state seat key found old disk b core timed stay can because counted value reads hidden untouched is =
     subst (λ (x : BookState). Gets state seat key found old (record { disk = disk; held = with_book x old.held; holds = old.holds })) (sym is)
     (record { goes = goes.0; beside = goes.1; cause = because; held = refl; reads = reads; hidden = hidden; untouched = untouched })
   where
     goes : GoesOnAs state seat (kind.Look (Get key)) (Replied (reply_to_get found)) old (record { disk = disk; held = with_book (noted_in seat (Get key) (reply_to_get found) old.held.book) old.held; holds = old.holds }) × BesideHolds state seat (kind.Look (Get key)) (Replied (reply_to_get found)) old (record { disk = disk; held = with_book (noted_in seat (Get key) (reply_to_get found) old.held.book) old.held; holds = old.holds })
-    goes = book_goes state seat (kind.Look (Get key)) (Replied (reply_to_get found)) old disk (noted_in seat (Get key) (reply_to_get found) old.held.book) 1 core timed reads (reads_on old.held stay reads) refl refl can (omega arith)
+    goes = book_goes state seat (kind.Look (Get key)) (Replied (reply_to_get found)) old disk (noted_in seat (Get key) (reply_to_get found) old.held.book) 1 core timed (reads 3 (three_count key old.held)) (reads_on old.held stay (reads 3 (three_count key old.held))) refl refl can (omega arith)
         (note_keeps seat (Get key) (reply_to_get found) old.held.book) refl refl
         (λ pace told. entry_is_told old.held.book pace seat (Get key) (reply_to_get found) (λ done. refl) (get_has_room seat key found old.held.book can) told) (λ pace. refl)
-        (λ opening m honest s ok. get_steps opening seat key found old.held m reads honest because counted (λ tree holds catalogue guided. value tree honest holds catalogue guided) s ok)
+        (λ opening m honest s ok. get_steps opening seat key found old.held m (reads 3 (three_count key old.held)) honest because counted (λ tree holds catalogue guided. value tree honest holds catalogue guided) s ok)
 
 -- ---- as a command that only looks
 
@@ -140,6 +155,6 @@ get_looks state seat key found old new call = record {
   cause = (found, refl, call.cause);
   told = get_told found key old.held (state old.disk) (state new.disk) call.cause;
   held = call.held;
-  reads = call.reads;
+  reads = call.reads 3 (three_count key old.held);
   rests = λ some. call.untouched (get_rests found key old.held (state old.disk) (state new.disk) call.cause some);
 }

@@ -23,7 +23,7 @@ use Rattle.tree_runs.specs.Lookups.{HidesOlder}
 use Rattle.tree_runs.specs.Runs.{page_share}
 use Rattle.core_moves.specs.Moves.{with_book}
 use Rattle.tree_core.specs.Answers.{answer_to_pay, newest_in, reply_to_drop, reply_to_get, reply_to_hold, reply_to_next, reply_to_write}
-use Rattle.tree_core.specs.Causes.{AdmitsBecause, CallsNone, DropsBecause, FindsBecause, HasBegun, HoldsBecause, LooksNone, PaysBecause, PaysNone, ScansBecause, ScansNone, TurnsBecause, TurnsNone, calls_to_admit, IsLookOn}
+use Rattle.tree_core.specs.Causes.{AdmitsBecause, CallsNone, CountsFilters, DropsBecause, FindsBecause, HasBegun, HoldsBecause, LooksNone, PaysBecause, PaysNone, ScansBecause, ScansNone, TurnsBecause, TurnsNone, calls_to_admit, IsLookOn}
 use Rattle.core_pace.specs.Turns.{move_in}
 use Rattle.tree_core.specs.Clock.{EndsAdmitted, LeavesDisk}
 use Rattle.tree_core.specs.Core.{CoreState, HoldsPace, facts_of_held}
@@ -90,7 +90,8 @@ pub record Gets {D : Type 0} (state : D → DiskState) (seat : ℕ) (key : Key) 
   pub beside : BesideHolds state seat (kind.Look (op.Get key)) (Replied (reply_to_get answer)) old new
   pub cause : FindsBecause answer key old.held (state old.disk) (state new.disk)
   pub held : new.held ≡ with_book (noted_in seat (op.Get key) (reply_to_get answer) old.held.book) old.held
-  pub reads : OnlyReads (file_length old.held.runs.sizes) 3 (state old.disk) (state new.disk)
+  -- as many calls at most as filters say yes, so three, and none where each says no
+  pub reads : (n : ℕ) → CountsFilters key old.held n → OnlyReads (file_length old.held.runs.sizes) n (state old.disk) (state new.disk)
   pub hidden : HidesOlder (newest_in key old.held) → new.disk ≡ old.disk
   pub untouched : LooksNone answer → new.disk ≡ old.disk
 

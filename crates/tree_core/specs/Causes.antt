@@ -22,10 +22,10 @@ use Rattle.pacing.specs.Steps.{Move, TakeDeep, TakeSnow, Idle}
 use Rattle.tree_machine.specs.Machine.{Turned}
 use Rattle.tree_machine.specs.Machine as machine
 use Rattle.seat_book.specs.State.{is_closed_in, noted_in}
-use Rattle.tree_runs.specs.Runs.{RunsState, left_for_pass, left_for_deep}
+use Rattle.tree_runs.specs.Runs.{RunsState, filter_of, left_for_pass, left_for_deep}
 use Rattle.tree_runs.specs.Damage.{DeepMeetsDamage, PassMeetsDamage}
 use Rattle.tree_runs.specs.Holding.{PinsComponents}
-use Rattle.tree_runs.specs.Lookups.{AreToldBy, IsDamageBelow, from_newest}
+use Rattle.tree_runs.specs.Lookups.{AreToldBy, CountsYes, IsDamageBelow, from_newest}
 use Rattle.core_moves.specs.declared.held.Held.{Held}
 use Rattle.core_moves.specs.Held.{charge_in}
 use Rattle.core_moves.specs.Moves.{with_book, with_debts_forgiven}
@@ -151,6 +151,16 @@ abbrev pub IsFound : Lookup → Type 0
 IsFound (lookup.Is value) = ⊤
 IsFound lookup.Absent = ⊤
 IsFound _ = ⊥
+
+-- So many at least of the components may have the key, as their filters say: 0 is enough where each of them says no, and 3 is always.
+pub record CountsFilters (key : Key) (held : Held) (n : ℕ) : Type 0 where
+  pub c1 : ℕ
+  pub c1x : ℕ
+  pub c2 : ℕ
+  pub first : CountsYes (filter_of held.runs held.runs.tags.c1) key c1
+  pub second : CountsYes (filter_of held.runs held.runs.tags.c1x) key c1x
+  pub third : CountsYes (filter_of held.runs held.runs.tags.c2) key c2
+  pub all : n ≡ c1 + c1x + c2
 
 -- nor is the disk called by a lookup of a store that is stopped
 abbrev pub LooksNone : Lookup → Type 0

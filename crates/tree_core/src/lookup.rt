@@ -1,5 +1,5 @@
 //! Lookups.
-ghost use Rattle.std.specs.Prelude.{◌≡◌, ◌≢◌, ◌<◌, ◌^◌, None, IsTrue};
+ghost use Rattle.std.specs.Prelude.{◌≡◌, ◌≢◌, ◌<◌, ◌^◌, ℕ, None, IsTrue};
 ghost use Rattle.blsm_model.specs.Geometry.{file_length};
 ghost use Rattle.blsm_model.specs.Histories.{answer_to_get};
 ghost use Rattle.blsm_model.specs.Stored.{as_reply};
@@ -12,7 +12,7 @@ ghost use Rattle.tree_runs.specs.Lookups.{HidesOlder};
 ghost use Rattle.core_moves.specs.Needs.{IsOn};
 ghost use Rattle.tree_core.specs.Answers.{found_in, newest_in, reply_to_get};
 ghost use Rattle.tree_core.specs.Calls.{Gets};
-ghost use Rattle.tree_core.specs.Causes.{FindsBecause, IsFound, LooksNone};
+ghost use Rattle.tree_core.specs.Causes.{CountsFilters, FindsBecause, IsFound, LooksNone};
 ghost use Rattle.tree_core.specs.declared.answers.Lookup.TheVariants as lookup;
 
 use crate::{Core, Lookup};
@@ -51,14 +51,15 @@ fn reply_of(lookup: &Lookup) -> ShortReply
     }
 }
 
-// What the tables and the components have of the key: one page of each component is read at most, and none below a base or a tombstone.
+// What the tables and the components have of the key: one page of each component is read at most, none where its filter says no, and none below
+// a base or a tombstone.
 fn look_up<D: Disk>(held: &Held, disk: &mut D, key: &Key) -> Lookup
     requires on { held.now.book.stopped ≡ None → IsOn held.now (D.state disk.old) }
     ensures cause { FindsBecause result key.now held.now (D.state disk.old) (D.state disk.new) }
     ensures value { (tree : Tree) → IsTrue (D.state disk.old).is_honest → HoldsTree held.now.runs.sizes tree (D.state disk.old).bytes → tree.catalogue ≡ held.now.runs.catalogue
         → AreGuided held.now.runs.guides held.now.runs.tags tree → held.now.book.stopped ≡ None → result ≢ lookup.Fault → reply_to_get result ≡ answer_to_get (found_in key.now held.now tree) }
     ensures counted { result ≡ lookup.Fault → (D.state disk.new).faults < 2 ^ 64 }
-    ensures reads { OnlyReads (file_length held.now.runs.sizes) 3 (D.state disk.old) (D.state disk.new) }
+    ensures reads { (n : ℕ) → CountsFilters key.now held.now n → OnlyReads (file_length held.now.runs.sizes) n (D.state disk.old) (D.state disk.new) }
     ensures hidden { HidesOlder (newest_in key.now held.now) → disk.new ≡ disk.old }
     ensures untouched { LooksNone result → disk.new ≡ disk.old }
 {
@@ -78,8 +79,9 @@ fn look_up<D: Disk>(held: &Held, disk: &mut D, key: &Key) -> Lookup
 }
 
 impl<D: Disk + Drop> Core<D> {
-    /// Looks a key up. It reads one page of each component at most, so three, and none where the memory table has a base or a tombstone of the
-    /// key. It notes one entry; a lookup that fails doesn't stop the store. `Damaged` names the first page that it asks and that isn't valid.
+    /// Looks a key up. It reads one page at most of each component whose filter may have the key, so three, and none where the memory table
+    /// has a base or a tombstone of the key. It notes one entry; a lookup that fails doesn't stop the store. `Damaged` names the first page
+    /// that it asks and that isn't valid.
     #[inline(never)]
     pub fn get(&mut self, seat: u32, key: &Key) -> Lookup
         requires { IsTrue (may_note_in seat 0 self.old.held.book) }

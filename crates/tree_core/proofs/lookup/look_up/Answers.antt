@@ -18,6 +18,7 @@ use Rattle.tree_core.specs.Answers.{newest_in, reply_to_get}
 use Rattle.tree_core.specs.Causes.{FindsBecause, IsFound}
 use Rattle.tree_core.specs.declared.answers.Lookup.{Lookup}
 use Rattle.tree_core.specs.declared.answers.Lookup.TheVariants as lookup
+use Rattle.tree_core.proofs.LookupSteps.{asked_few}
 use Rattle.tree_core.proofs.lookup.look_up.Goals as goal
 
 no_fault : (rec : Option Rec) → ◌≢◌ {A = Result (Option Rec) Broken} (Ok rec) (Err Fault)
@@ -77,3 +78,12 @@ pub returns-in-Err-Damaged-clause-value : goal.returns-in-Err-Damaged-clause-val
 returns-in-Err-Damaged-clause-value g c = λ tree honest holds catalogue guided runs not.
     let broken = c.in-Err-Damaged.field-0 in
     absurd (not_both broken _ (c.in-Err-Damaged.ensures.lists tree honest holds catalogue guided (λ same. cc (same, c.in-Err-Damaged.field-0-is))))
+
+pub returns-in-Ok-clause-reads : goal.returns-in-Ok-clause-reads
+returns-in-Ok-clause-reads g c = asked_few c.args.key.now c.args.held.now c.in-Ok.ensures.asks
+
+pub returns-in-Err-Fault-clause-reads : goal.returns-in-Err-Fault-clause-reads
+returns-in-Err-Fault-clause-reads g c = asked_few c.args.key.now c.args.held.now c.in-Err-Fault.ensures.asks
+
+pub returns-in-Err-Damaged-clause-reads : goal.returns-in-Err-Damaged-clause-reads
+returns-in-Err-Damaged-clause-reads g c = asked_few c.args.key.now c.args.held.now c.in-Err-Damaged.ensures.asks
