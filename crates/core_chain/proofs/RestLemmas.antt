@@ -28,14 +28,12 @@ use Rattle.tree_machine.specs.Lists.{Lists}
 use Rattle.tree_machine.specs.Machine as machine
 use Rattle.tree_machine.specs.Machine.{Machine, Turned, charge, held_by, is_closed, owes}
 use Rattle.tree_machine.specs.Outcomes.{calls, calls_disk, worker_choice}
-use Rattle.tree_machine.specs.Plays.{is_help}
 use Rattle.tree_machine.specs.Steps as steps
-use Rattle.tree_machine.specs.Steps.{Answer, Choice, Outcome, Replied, Turn, do_next, forgive, next_rows, pay, pay_planned, pay_running, unless_stopped, worker_turning}
+use Rattle.tree_machine.specs.Steps.{Answer, Outcome, Replied, Turn, do_next, forgive, next_rows, pay, pay_planned, pay_running, unless_stopped, worker_turning}
 use Rattle.tree_machine.specs.declared.step.Kind.{Kind}
 use Rattle.tree_machine.specs.declared.step.Kind.TheVariants as kind
 use Rattle.tree_runs.specs.Lookups.{HidesOlder}
 use Rattle.core_moves.specs.Held.{charge_in}
-use Rattle.core_moves.specs.declared.held.Held.{Held}
 use Rattle.core_pace.specs.Turns.{move_in}
 use Rattle.core_lists.specs.Steps.{choice_of}
 use Rattle.core_lists.proofs.StepLands.{choices_agree}

@@ -3,7 +3,6 @@ use Rattle.std.proofs.Common.{◌≡◌, ◌∙◌, ℕ, ◌+◌, ◌≤◌, Boo
 use Rattle.std.proofs.lemmas.Grind.{common_steps}
 use Rattle.std.proofs.lemmas.Bool.Decides.{nat_tests}
 use Rattle.std.specs.Prelude.{IsSome, IsTrue, Option, map, suc, take, zero}
-use Rattle.std.proofs.lemmas.Bool.{false≢true}
 use mathlib.Core.List.{IsPrefix}
 use Rattle.blsm_model.specs.Sizes.{Sizes}
 use Rattle.blsm_model.specs.declared.history.Entry.{Entry}
@@ -16,19 +15,16 @@ use Rattle.disk_trait.specs.Disk.{DiskState}
 use Rattle.disk_trait.specs.Moments.{IsTimed, LeavesOnly}
 use Rattle.disk_trait.proofs.MomentLemmas.{goes_on_run, leaves_only_run, leaves_only_weaken}
 use Rattle.seat_book.specs.State.{BookState}
-use Rattle.tree_machine.specs.Machine as machine
-use Rattle.tree_machine.specs.Machine.{Machine, Turned, is_closed}
+use Rattle.tree_machine.specs.Machine.{Machine}
 use Rattle.tree_machine.specs.Outcomes.{AreTold}
-use Rattle.tree_machine.specs.Plays.{is_help, may, played, played_one, stepped_as}
-use Rattle.tree_machine.specs.Steps.{Answer, Outcome, Turn, swaps_due, worker_turning}
+use Rattle.tree_machine.specs.Plays.{may, played, played_one, stepped_as}
+use Rattle.tree_machine.specs.Steps.{Answer, Outcome, swaps_due}
 use Rattle.tree_machine.specs.declared.step.Kind.{Kind}
-use Rattle.tree_machine.specs.declared.step.Kind.TheVariants as kind
 use Rattle.tree_machine.specs.declared.step.Step.{Step}
 use Rattle.tree_machine.proofs.FrameLemmas.{step_fixed}
 use Rattle.core_lists.specs.Shown.{ShowsHistory}
 use Rattle.core_lists.proofs.ShowingLemmas.{prefix_self, prefix_then, showing_is_kept}
 use Rattle.tree_core.specs.Calls.{AreCalls, IsCall}
-use Rattle.tree_core.specs.Causes.{TurnsNone}
 use Rattle.tree_core.specs.Core.{CoreState, IsCore}
 use Rattle.tree_core.specs.Holds.{StandsWhole}
 use Rattle.tree_core.specs.Steps.{IsPlayed, IsWholeStep}

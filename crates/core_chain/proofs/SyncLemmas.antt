@@ -7,7 +7,6 @@ use Rattle.std.specs.Prelude.{IsTrue}
 use Rattle.blsm_model.specs.Book.{Book}
 use Rattle.blsm_model.specs.Legal.{is_look, is_write}
 use Rattle.blsm_model.specs.declared.history.Entry.{Entry}
-use Rattle.blsm_model.specs.declared.history.Reply.{Reply}
 use Rattle.blsm_model.specs.declared.history.Reply.TheVariants as reply
 use Rattle.blsm_model.specs.declared.key.Key.{Key}
 use Rattle.blsm_model.specs.declared.op.Op.{Op}

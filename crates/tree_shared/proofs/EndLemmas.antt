@@ -1,9 +1,11 @@
 -- The turns of a worker, and a caller's leave.
-use Rattle.std.proofs.Common.{◌≡◌, ◌∙◌, ℕ, ◌+◌, ◌<◌, true, ◌||◌, refl, ap, sym, arith}
-use Rattle.std.specs.Prelude.{is_some, slice_index_or}
+use Rattle.std.proofs.Common.{◌≡◌, ◌∙◌, ℕ, ◌+◌, ◌<◌, Bool, true, ◌||◌, List, ◌∷◌, get_or, refl, ap, sym, subst, arith}
+use Rattle.std.specs.Prelude.{Some, is_some, slice_index_or}
+use Rattle.blsm_model.specs.Facts.{Part}
 use Rattle.blsm_model.specs.Format.{callers}
 use Rattle.disk_trait.specs.Disk.{DiskState}
 use Rattle.turn_lock.specs.Callers.{Held as Caller}
+use Rattle.turn_lock.specs.Plays.{Sat, renewed}
 use Rattle.turn_lock.specs.Turns.{TookTurn}
 use Rattle.turn_lock.proofs.TurnLemmas.{saw_over}
 use Rattle.seat_book.specs.Turns.{turned_of}
@@ -14,6 +16,7 @@ use Rattle.core_moves.specs.declared.held.Held.{Held}
 use Rattle.tree_core.specs.Calls.{CameSince, Helps, Leaves}
 use Rattle.tree_core.specs.Causes.{TurnsBecause}
 use Rattle.tree_core.specs.Core.{CoreState}
+use Rattle.tree_shared.specs.Runs.{LeftAs}
 use Rattle.tree_shared.specs.Seats.{KnowsOf, HasHelped, IsFree, IsGone, facts_of}
 use Rattle.tree_shared.proofs.SeatLemmas.{caller_turns, is_a_caller, or_left, or_right}
 use Rattle.tree_shared.proofs.NoteLemmas.{after, even_still}
@@ -44,3 +47,13 @@ leave_goes {D} {state} {c} {d} {b} {w} below turn leaves = after turn (IsFree 0 
           ∙ (ap (λ (h : Held). (slice_index_or h.book.seats.work c.number no_work).turns) leaves.held ∙ (sym (caller_turns c.number b.held.book is) ∙ (eases.turns ∙ free.1))),
       even_still c b w p free.2 eases (ap (λ (h : Held). h.gears) leaves.held),
     ))
+
+-- what it knows its part by is the core that its leave made
+pub left_as : {D : Type 0} {state : D → DiskState} {c d : Caller (CoreState D)} {b w : CoreState D} {P Q : Bool → Part → Type 0} → TookTurn facts_of (CameSince state) c b w d → Leaves state c.number b w → KnowsOf P c → (k : KnowsOf Q d)
+    → (start : CoreState D) → d.me.0.start ≡ Some start → LeftAs state start d.number k.value
+left_as {D} {state} {c} {d} {b} {w} turn leaves knew k start begun =
+    let was : c.me.0.start ≡ Some start = sym (ap (λ (x : Sat (CoreState D)). x.0.start) turn.me) ∙ begun in
+    let own : d.me.0.own ≡ (c.number, w) ∷ knew.more = ap (λ (x : Sat (CoreState D)). x.0.own) turn.me ∙ ap (renewed facts_of w) knew.own in
+    let is : w ≡ k.value = ap (λ (l : List (ℕ × CoreState D)). (get_or l 0 (c.number, w)).1) (sym own ∙ k.own) in
+    subst (λ (core : CoreState D). LeftAs state start d.number core) is
+    (subst (λ (n : ℕ). LeftAs state start n w) (sym turn.number) (record { before = b; came = turn.finds.lasts start was; leaves = leaves }))

@@ -2,7 +2,7 @@
 use Rattle.std.proofs.Common.{◌≡◌, ◌∙◌, ⊎_elim, inl, inr, ℕ, zero, suc, ◌+◌, ◌-◌, ◌<◌, ◌≤◌, Bool, false, cond, ◌==◌, List, [], ◌∷◌, ◌++◌, length, map, filter, ne_eqb, refl, ap, sym, subst, arith}
 use Rattle.std.proofs.lemmas.Grind.{common_steps}
 use Rattle.std.proofs.lemmas.Bool.Decides.{nat_tests}
-use Rattle.std.specs.Prelude.{◌^◌, slice_index}
+use Rattle.std.specs.Prelude.{◌^◌, Some, slice_index}
 use Rattle.std.proofs.lemmas.List.{append-nil}
 use Rattle.std.proofs.lemmas.List.Elements.{All-head, All-tail}
 use Rattle.blsm_model.specs.Facts.{Part, entries_of}
@@ -21,7 +21,7 @@ use Rattle.tree_core.specs.Calls.{CameSince}
 use Rattle.tree_core.specs.Core.{CoreState}
 use Rattle.tree_session.specs.Lines.{AreRunnable, IsRunnable}
 use Rattle.tree_shared.specs.Seats.{DidOn, KnowsOf, WentOn, HasHelped, IsFree, IsGone, facts_of}
-use Rattle.tree_shared.specs.Runs.{Helped, IsFresh, IsNew, RanLines, TellsEnd, turns_after}
+use Rattle.tree_shared.specs.Runs.{Helped, IsFresh, IsNew, LeftAs, RanLines, TellsEnd, turns_after}
 use Rattle.tree_shared.proofs.SeatLemmas.{caller_turns, is_a_caller}
 
 no_caller : (seat : ℕ) → callers ≤ seat → is_caller seat ≡ false
@@ -74,8 +74,9 @@ module _ {D : Type 0} (lines : List Line) (lock : Lock (CoreState D)) (c : Calle
   same_number {state} d es went = ⊎_elim (λ (still : (d ≡ c) × (es ≡ [])). ap (λ (h : Caller (CoreState D)). h.number) still.0) (λ (did : DidOn state c es d). did.noted.number) went
 
   tells : {state : D → DiskState} (turns : ℕ) (d : Caller (CoreState D)) (es : List Entry) (P : Bool → Part → Type 0) (went : WentOn state c es d) → (k : KnowsOf P d) → map (λ (e : Entry). e.op) es ≡ lines_of c.number lines
-      → (c.number < callers → IsGone d.me.0.halted ((facts_of k.value).part d.number)) → (callers ≤ c.number → 0 < turns → 0 < ((facts_of k.value).part d.number).turns) → (callers ≤ c.number → (((facts_of k.value).part d.number).turns ≤ turns) × (((facts_of k.value).part d.number).quanta ≤ ((facts_of k.value).part d.number).turns)) → TellsEnd lines turns c.number d
-  tells turns d es P went k ops gone helped few =
+      → (c.number < callers → IsGone d.me.0.halted ((facts_of k.value).part d.number)) → (callers ≤ c.number → 0 < turns → 0 < ((facts_of k.value).part d.number).turns) → (callers ≤ c.number → (((facts_of k.value).part d.number).turns ≤ turns) × (((facts_of k.value).part d.number).quanta ≤ ((facts_of k.value).part d.number).turns))
+      → (c.number < callers → LeftAs state lock.start d.number k.value) → TellsEnd state lock.start lines turns c.number d
+  tells {state} turns d es P went k ops gone helped few left =
       let number = same_number d es went in (
         k.value,
         subst (In (c.number, k.value)) (sym k.own) (inl (ap (λ (n : ℕ). (n, k.value)) (sym number))),
@@ -85,14 +86,16 @@ module _ {D : Type 0} (lines : List Line) (lock : Lock (CoreState D)) (c : Calle
           helped = λ above some. subst (λ (n : ℕ). 0 < ((facts_of k.value).part n).turns) number (helped above some);
           few = λ above. subst (λ (n : ℕ). (((facts_of k.value).part n).turns ≤ turns) × (((facts_of k.value).part n).quanta ≤ ((facts_of k.value).part n).turns)) number (few above);
         },
+        λ below. subst (λ (n : ℕ). LeftAs state lock.start n k.value) number (left below),
       )
 
-  pub caller_ended : {state : D → DiskState} (turns : ℕ) (d e : Caller (CoreState D)) → c.number < callers → RanLines state lines c d → DidOn state d [] e → KnowsOf IsGone e → TellsEnd lines turns c.number e
-  caller_ended {state} turns d e below ran left k =
+  pub caller_ended : {state : D → DiskState} (turns : ℕ) (d e : Caller (CoreState D)) → c.number < callers → RanLines state lines c d → DidOn state d [] e → (k : KnowsOf IsGone e)
+      → ((start : CoreState D) → e.me.0.start ≡ Some start → LeftAs state start e.number k.value) → TellsEnd state lock.start lines turns c.number e
+  caller_ended {state} turns d e below ran left k last =
       let all : DidOn state c (ran.entries ++ []) e = went_then facts_of (CameSince state) c d e ran.entries [] ran.went left in
-      tells turns e (ran.entries ++ []) IsGone (inr all) k (ap (map (λ (x : Entry). x.op)) (append-nil ran.entries) ∙ ran.ops) (λ was. k.part) (λ above some. absurd (omega (arith, below, above))) (λ above. absurd (omega (arith, below, above)))
+      tells turns e (ran.entries ++ []) IsGone (inr all) k (ap (map (λ (x : Entry). x.op)) (append-nil ran.entries) ∙ ran.ops) (λ was. k.part) (λ above some. absurd (omega (arith, below, above))) (λ above. absurd (omega (arith, below, above))) (λ was. last lock.start (all.noted.begun ∙ new.of_lock.1))
 
-  pub worker_ended : {state : D → DiskState} (turns : ℕ) (d : Caller (CoreState D)) → callers ≤ c.number → turns < 2 ^ 32 → AreRunnable lines → Helped state turns c d → TellsEnd lines turns c.number d
+  pub worker_ended : {state : D → DiskState} (turns : ℕ) (d : Caller (CoreState D)) → callers ≤ c.number → turns < 2 ^ 32 → AreRunnable lines → Helped state turns c d → TellsEnd state lock.start lines turns c.number d
   worker_ended turns d above few runnable helped =
       let told = helped.counted 0 0 (new_has_helped above) in
       let took = told.0 in
@@ -100,4 +103,4 @@ module _ {D : Type 0} (lines : List Line) (lock : Lock (CoreState D)) (c : Calle
       let is : ((facts_of k.value).part d.number).turns ≡ took = k.part.0 ∙ turns_few took (omega (arith, told.1, few)) in
       tells turns d [] (HasHelped (turns_after took 0) (0 + took)) helped.went k (sym (lines_none c.number lines runnable above)) (λ below. absurd (omega (arith, below, above)))
       (λ up some. ⊎_elim (λ (all : took ≡ turns). omega (arith, all, some, is)) (λ early. omega (arith, early.0, is)) told.3)
-      (λ up. (omega (arith, is, told.1), omega (arith, k.part.1, is)))
+      (λ up. (omega (arith, is, told.1), omega (arith, k.part.1, is))) (λ below. absurd (omega (arith, below, above)))

@@ -1,5 +1,6 @@
 -- Runs of a script by callers and workers.
 use Rattle.std.specs.Prelude.{◌≡◌, ◌⊎◌, ℕ, zero, suc, ◌+◌, ◌-◌, ◌<◌, ◌≤◌, Bool, true, None, List, [], ◌∷◌, map, slice_index}
+use mathlib.Core.List.{IsPrefix}
 use Rattle.blsm_model.specs.Facts.{entries_of}
 use Rattle.blsm_model.specs.Format.{callers}
 use Rattle.blsm_model.specs.Scripts.{IsOfScript, lines_of}
@@ -12,7 +13,7 @@ use Rattle.turn_lock.specs.Callers.{Held, Lock}
 use Rattle.turn_lock.specs.Tallies.{In, IsOf, Spares}
 use Rattle.turn_lock.specs.Views.{counted_up, size}
 use Rattle.tree_machine.specs.Machine.{seats, turn_more}
-use Rattle.tree_core.specs.Calls.{CameSince}
+use Rattle.tree_core.specs.Calls.{CameSince, Leaves}
 use Rattle.tree_core.specs.Core.{CoreState, IsCore}
 use Rattle.tree_core.specs.Notes.{HasLeft, OwesNothing}
 use Rattle.tree_session.specs.Lines.{HasRoomFor, Rests}
@@ -61,24 +62,38 @@ pub record HasEnded {D : Type 0} (lines : List Line) (turns : ℕ) (halted : Boo
   pub helped : callers ≤ i → 0 < turns → 0 < ((facts_of core).part i).turns
   pub few : callers ≤ i → (((facts_of core).part i).turns ≤ turns) × (((facts_of core).part i).quanta ≤ ((facts_of core).part i).turns)
 
--- a caller has this number, and knows what its job left
-abbrev pub TellsEnd : {D : Type 0} → List Line → ℕ → ℕ → Held (CoreState D) → Type 0
-TellsEnd {D} lines turns i d = (core : CoreState D) × In (i, core) d.me.0.own × HasEnded lines turns d.me.0.halted i core
+-- A caller left by a call that made this of the core, to which some calls from the start on had led.
+pub record LeftAs {D : Type 0} (state : D → DiskState) (start : CoreState D) (i : ℕ) (core : CoreState D) : Type 0 where
+  pub before : CoreState D
+  pub came : CameSince state start before
+  pub leaves : Leaves state i before core
+
+-- a caller has this number, and knows what its job left: by the core that it gave back last, which is that of its leave, where it is one of the callers
+abbrev pub TellsEnd : {D : Type 0} → (D → DiskState) → CoreState D → List Line → ℕ → ℕ → Held (CoreState D) → Type 0
+TellsEnd {D} state start lines turns i d = (core : CoreState D) × In (i, core) d.me.0.own × HasEnded lines turns d.me.0.halted i core × (i < callers → LeftAs state start i core)
 
 pub record Starts {D : Type 0} (lock : Lock (CoreState D)) (more : ℕ) (c : Held (CoreState D)) : Type 0 where
   pub new : IsNew lock c
   pub last : c.next + more ≤ seats
   pub spare : Spares lock c
 
-pub record Ends {D : Type 0} (lines : List Line) (turns : ℕ) (lock : Lock (CoreState D)) (more : ℕ) (c d : Held (CoreState D)) : Type 0 where
+pub record Ends {D : Type 0} (state : D → DiskState) (lines : List Line) (turns : ℕ) (lock : Lock (CoreState D)) (more : ℕ) (c d : Held (CoreState D)) : Type 0 where
   pub of_lock : IsOf lock d
   pub sized : size d.me.0 ≡ size c.me.0
-  pub own : TellsEnd lines turns c.number d
-  pub others : (i : ℕ) → c.next ≤ i → i < c.next + more → TellsEnd lines turns i d
+  pub own : TellsEnd state lock.start lines turns c.number d
+  pub others : (i : ℕ) → c.next ≤ i → i < c.next + more → TellsEnd state lock.start lines turns i d
   -- of the numbers behind these nobody did anything
   pub spare : d.me.0.spare ≡ counted_up (c.next + more) (24 - (c.next + more)) lock.start
 
 -- ---- a run
+
+-- What a caller had seen when it left: the history that its leave found is a front of the one in the end, and has all of the caller's entries. So of what
+-- two callers had seen the shorter begins the longer.
+pub record SawFront {D : Type 0} (state : D → DiskState) (seat : ℕ) (start end : CoreState D) : Type 0 where
+  pub core : CoreState D
+  pub left : LeftAs state start seat core
+  pub front : IsPrefix core.held.book.book.entries end.held.book.book.entries
+  pub own : entries_of seat end.held.book.book.entries ≡ entries_of seat core.held.book.book.entries
 
 -- Each caller did its lines and left, and each worker took a turn, where they take any, no more turns than it may, and no more quanta than turns. No
 -- other worker's seat took any. From the start on some calls of the core led here.
@@ -87,6 +102,7 @@ pub record RunsAll {D : Type 0} (state : D → DiskState) (lines : List Line) (w
   pub came : CameSince state start end
   pub keeps : IsCore end.held (state end.disk)
   pub left : (seat : ℕ) → seat < callers → HasLeft seat end.held.book
+  pub saw : (seat : ℕ) → seat < callers → SawFront state seat start end
   pub idle : (seat : ℕ) → seat < callers → (work_in seat end.held.book).turns ≡ 0
   pub even : end.held.book.stopped ≡ None → (seat : ℕ) → seat < callers → OwesNothing seat end.held
   pub helped : 0 < turns → (i : ℕ) → i < workers → 0 < slice_index end.held.book.seats.turns i

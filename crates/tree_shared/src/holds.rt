@@ -1,5 +1,5 @@
 //! One hold of the lock each: the value is taken, one call of the core is made, and the value is given back.
-ghost use Rattle.std.specs.Prelude.{◌≡◌, ◌≢◌, ◌+◌, ◌<◌, ◌≤◌, ℕ, List, [], ◌∷◌, IsTrue, true};
+ghost use Rattle.std.specs.Prelude.{◌≡◌, ◌≢◌, ◌+◌, ◌<◌, ◌≤◌, ℕ, List, [], ◌∷◌, Some, IsTrue, true};
 ghost use Rattle.blsm_model.specs.Format.{callers, most_rows, most_turns};
 ghost use Rattle.blsm_model.specs.Scripts.{rows_of};
 ghost use Rattle.blsm_model.specs.Stored.{as_reply};
@@ -10,9 +10,11 @@ ghost use Rattle.tree_machine.specs.Machine.{seats, turn_more};
 ghost use Rattle.blsm_model.specs.Legal.{is_write, TailsFit};
 ghost use Rattle.turn_lock.specs.Tallies.{IsOf};
 ghost use Rattle.tree_core.specs.Answers.{reply_to_drop, reply_to_get, reply_to_hold, reply_to_next, reply_to_write};
+ghost use Rattle.tree_core.specs.Core.{CoreState};
 ghost use Rattle.tree_core.specs.Scanned.{Counts, scanned_by};
 ghost use Rattle.tree_core.specs.declared.answers.Admission.TheVariants as admission;
 ghost use Rattle.tree_core.specs.declared.answers.Payment.TheVariants as payment;
+ghost use Rattle.tree_shared.specs.Runs.{LeftAs};
 ghost use Rattle.tree_shared.specs.Seats.{Answered, Comes, DidOn, KnowsOf, HasHelped, IsFinished, IsFree, IsGone, IsOwing, IsWorking};
 
 use blsm_model::{Key, Op, ShortReply};
@@ -201,7 +203,8 @@ pub(crate) fn leave<R: Wait, D: Disk + Drop>(
 )
     requires comes { Comes lock.now (IsFree 0 0) caller.old }
     ensures did { DidOn D.state caller.old [] caller.new }
-    ensures gone { KnowsOf IsGone caller.new }
+    // It knows its part by the core that its leave made.
+    ensures gone { (knows : KnowsOf IsGone caller.new) × ((start : CoreState D) → caller.new.me.0.start ≡ Some start → LeftAs D.state start caller.new.number knows.value) }
 {
     let seat = caller.number();
     let mut core = lock.take(rt, caller);

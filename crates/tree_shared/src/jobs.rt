@@ -103,7 +103,7 @@ fn run_one<R: Wait, D: Disk + Drop, G: Gate>(
     ensures same { IsOf lock.now result }
     ensures sized { size result.me.0 ≡ size caller.me.0 }
     ensures spare { result.me.0.spare ≡ caller.me.0.spare }
-    ensures ends { TellsEnd script.now turns caller.number result }
+    ensures ends { TellsEnd D.state lock.now.start script.now turns caller.number result }
 {
     if caller.number() < CALLERS {
         do_lines(rt, alloc, lock, &mut caller, script, gate);
@@ -128,7 +128,7 @@ fn run_rest<R: Threads + Wait + Sync, D: Disk + Send + Drop, G: Gate + Sync>(
     requires starts { Starts lock.now more first }
     requires fresh { IsFresh script.now lock.now.start }
     requires runnable { AreRunnable script.now }
-    ensures { Ends script.now turns lock.now more first result }
+    ensures { Ends D.state script.now turns lock.now more first result }
 {
     if more == 0 {
         return run_one(rt, alloc, lock, first, script, turns, gate);
@@ -138,11 +138,11 @@ fn run_rest<R: Threads + Wait + Sync, D: Disk + Send + Drop, G: Gate + Sync>(
         rt,
         || -> Caller<Core<D>>
             requires { IsSync R.row × (0 < more) × Starts lock.now (more - 1) first × IsFresh script.now lock.now.start × AreRunnable script.now }
-            ensures { Ends script.entry.now turns lock.entry.now (more - 1) first result }
+            ensures { Ends D.state script.entry.now turns lock.entry.now (more - 1) first result }
         { run_rest(rt, alloc, lock, first, more - 1, script, turns, gate) },
         || -> Caller<Core<D>>
             requires { IsNew lock.now other × IsFresh script.now lock.now.start × AreRunnable script.now }
-            ensures { IsOf lock.entry.now result × (size result.me.0 ≡ size other.me.0) × TellsEnd script.entry.now turns other.number result }
+            ensures { IsOf lock.entry.now result × (size result.me.0 ≡ size other.me.0) × TellsEnd D.state lock.entry.now.start script.entry.now turns other.number result }
         { run_one(rt, alloc, lock, other, script, turns, gate) },
     );
     lock.join(&mut first, other);

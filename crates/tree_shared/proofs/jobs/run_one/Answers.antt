@@ -10,7 +10,7 @@ worker-requires-clause-knows g c = (0, 0, new_has_helped c.args.script.now c.arg
 
 pub returns-then-number-lt-CALLERS-clause-ends : goal.returns-then-number-lt-CALLERS-clause-ends
 returns-then-number-lt-CALLERS-clause-ends g c =
-    caller_ended c.args.script.now c.args.lock.now c.args.caller c.requires.fresh c.requires.new c.args.turns c.do_lines.new.caller c.leave.new.caller (omega arith) c.do_lines.ensures.ran c.leave.ensures.did c.leave.ensures.gone
+    caller_ended c.args.script.now c.args.lock.now c.args.caller c.requires.fresh c.requires.new c.args.turns c.do_lines.new.caller c.leave.new.caller (omega arith) c.do_lines.ensures.ran c.leave.ensures.did c.leave.ensures.gone.0 c.leave.ensures.gone.1
 
 pub returns-else-number-lt-CALLERS-clause-ends : goal.returns-else-number-lt-CALLERS-clause-ends
 returns-else-number-lt-CALLERS-clause-ends g c =
