@@ -2,7 +2,8 @@ mod Examples
 pub mod CursorLemmas
 pub mod FindLemmas
 pub mod GivenLemmas
-mod AheadLemmas
+pub mod AheadLemmas
 mod FullLemmas
 mod RebuildLemmas
 pub mod BelowLemmas
+pub mod PartLemmas

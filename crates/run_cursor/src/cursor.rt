@@ -101,6 +101,24 @@ impl Cursor {
         }
     }
 
+    /// The component from the page on that `advance` reads next, as a component of its own, where it reads one then. A cursor that is
+    /// started over it stands where this one stands: it has the same entries ahead, on the same pages. It calls no device.
+    pub fn from_here(&self) -> Option<Component>
+        ensures part { IfSome result (λ part. (self.now.behind ≡ []) × (0 < part.pages) × (started part ≡ record self.now { head = None })) }
+        ensures none { IfNone result (self.now.behind ≡ [] → self.now.pages ≡ 0) }
+        // Where the cursor has entries ahead, the part reads as these.
+        ensures list { (sizes : Sizes) (rest : Entries) (file : List ℕ) → page_count sizes ≤ no_page → (ahead : HasAhead sizes self.now rest file)
+            → IfSome result (λ part. (list : HasList sizes part rest file) × (list.pages ≡ ahead.coming)) }
+    {
+        let first = self.next_page()?;
+        Some(Component {
+            first,
+            pages: self.pages,
+            entries: self.entries,
+            weight: self.weight,
+        })
+    }
+
     // The entry behind the head on its page, and its length in bytes.
     fn behind(&self) -> (Key, Rec, usize)
         requires { 0 < length self.now.behind }
