@@ -1,7 +1,7 @@
 //! The page that takes entries.
 ghost use Rattle.std.specs.Prelude.{◌≡◌, ◌+◌, ◌≤◌, ◌++◌, List, ℕ, length, drop};
 ghost use Rattle.record_delta.specs.Records.{weight};
-ghost use Rattle.entry_codec.specs.Spelling.{IsEntry};
+ghost use Rattle.entry_codec.specs.Spelling.{spelling, IsEntry};
 ghost use Rattle.page_file.specs.Page.{most_used};
 ghost use Rattle.run_writer.specs.Buffer.{empty_buffer, with_entry, sealed};
 
@@ -42,6 +42,37 @@ fn put(out: &mut [u8], at: usize, bytes: &[u8])
     out[at..at + bytes.len()].copy_from_slice(bytes);
 }
 
+// Spells an entry at a place, and gives its length in bytes. What stands before it stays.
+fn spell(out: &mut [u8], at: usize, key: &Key, rec: &Rec) -> usize
+    requires { at + weight key.now rec.now ≤ length out.old }
+    ensures written { (front behind : List ℕ) → length front ≡ at → out.old ≡ front ++ behind
+        → out.new ≡ front ++ (spelling key.now rec.now ++ drop (weight key.now rec.now) behind) }
+    ensures len { result ≡ length (spelling key.now rec.now) }
+    ensures weight { result ≡ weight key.now rec.now }
+    ensures entry { IsEntry key.now rec.now }
+{
+    if out.len() - at < Op::MAX_WEIGHT as usize {
+        return spell_apart(out, at, key, rec);
+    }
+    encode(key, rec, &mut out[at..])
+}
+
+// The same where the longest entry has no room.
+#[inline(never)]
+fn spell_apart(out: &mut [u8], at: usize, key: &Key, rec: &Rec) -> usize
+    requires { at + weight key.now rec.now ≤ length out.old }
+    ensures written { (front behind : List ℕ) → length front ≡ at → out.old ≡ front ++ behind
+        → out.new ≡ front ++ (spelling key.now rec.now ++ drop (weight key.now rec.now) behind) }
+    ensures len { result ≡ length (spelling key.now rec.now) }
+    ensures weight { result ≡ weight key.now rec.now }
+    ensures entry { IsEntry key.now rec.now }
+{
+    let mut entry = [0; Op::MAX_WEIGHT as usize];
+    let length = encode(key, rec, &mut entry);
+    put(out, at, &entry[..length]);
+    length
+}
+
 impl PageBuffer {
     /// A buffer without entries.
     pub fn new() -> PageBuffer
@@ -75,9 +106,7 @@ impl PageBuffer {
         ensures put { self.new ≡ with_entry key.now rec.now self.old }
         ensures entry { IsEntry key.now rec.now }
     {
-        let mut entry = [0; Op::MAX_WEIGHT as usize];
-        let length = encode(key, rec, &mut entry);
-        put(&mut self.bytes, self.used as usize, &entry[..length]);
+        let length = spell(&mut self.bytes, self.used as usize, key, rec);
         self.used += length as u16;
         self.count += 1;
     }
