@@ -3,11 +3,13 @@
 #![tactic(auto)]
 
 mod above;
+mod lent;
 mod nodes;
 mod steps;
 mod table;
 mod ways;
 
 pub use above::Above;
+pub use lent::LentEntry;
 pub use steps::Steps;
 pub use table::Table;

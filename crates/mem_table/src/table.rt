@@ -10,6 +10,7 @@ ghost use Rattle.record_delta.specs.Entries.{AreSorted, entries_weight, record_o
 ghost use Rattle.mem_table.specs.Entries.{StandFor};
 ghost use Rattle.mem_table.specs.Tables.{IsFoldedIn, place_in, arrived_with};
 
+use crate::lent::LentEntry;
 use crate::nodes::{NONE, Node};
 use crate::steps::Steps;
 use crate::ways::{add_under, find, find_above, find_in};
@@ -182,8 +183,18 @@ impl Table {
     pub fn least_above(&self, key: Option<Key>) -> Option<(Key, Rec)>
         ensures { result ≡ first_of (above key self.now.entries) }
     {
-        match find_above(&self.nodes, &self.store, self.root, &key, None) {
-            Some(place) => Some(self.store.entry(place)),
+        match self.first_above(&key) {
+            Some(first) => Some(first.copy()),
+            None => None,
+        }
+    }
+
+    /// The same entry, where it lies.
+    pub fn first_above(&self, key: &Option<Key>) -> Option<LentEntry<'_>>
+        ensures { result ≡ first_of (above key.now self.now.entries) }
+    {
+        match find_above(&self.nodes, &self.store, self.root, key, None) {
+            Some(place) => Some(LentEntry::at(&self.store, place)),
             None => None,
         }
     }

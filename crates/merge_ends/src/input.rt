@@ -11,17 +11,17 @@ ghost use Rattle.merge_ends.specs.Input.{head_above, left_in, IsReady, IsBehind,
 use blsm_model::{Geometry, Key};
 use disk_trait::Disk;
 use page_file::Broken;
-use record_delta::{Stream, weight};
+use record_delta::weight;
 use run_cursor::Cursor;
 
 // Whether a cursor is at an entry above a key.
 fn is_above(cursor: &Cursor, at: &Option<Key>) -> bool
     ensures { result ≡ head_above at.now cursor.now.head }
 {
-    match (cursor.head(), at) {
+    match (cursor.peek(), at) {
         (None, _) => false,
         (Some(_), None) => true,
-        (Some((key, _)), Some(low)) => *low < key,
+        (Some((key, _)), Some(low)) => *low < *key,
     }
 }
 
@@ -38,8 +38,8 @@ pub fn left_above(cursor: &Cursor, at: &Option<Key>) -> u64
     ensures { result ≡ left_in at.now cursor.now }
 {
     let behind = cursor.weight_left();
-    match cursor.head() {
-        Some((key, rec)) if is_above(cursor, at) => weight(&key, &rec) + behind,
+    match cursor.peek() {
+        Some((key, rec)) if is_above(cursor, at) => weight(key, rec) + behind,
         _ => behind,
     }
 }

@@ -28,10 +28,9 @@ use crate::output::put;
 use bloom_bits::{Fences, Filter};
 use blsm_model::{Component, Geometry, Key};
 use disk_trait::Disk;
-use merge_step::{a_merge_goes_on, least_of_heads};
+use merge_step::a_merge_goes_on;
 use page_file::{Broken, one_order};
 use page_space::{Role, Space};
-use record_delta::Stream;
 use refusal::Failed;
 use run_cursor::Cursor;
 use run_writer::{Writer, where_a_run_writes};
@@ -188,8 +187,7 @@ impl Merge {
         a_merge_goes_on();
         newer.go_above(disk, geo, &self.at)?;
         go_above(&mut self.older, disk, geo, &self.at)?;
-        let first = newer.first_above(self.cursor());
-        let Some((key, rec, weight)) = least_of_heads(first, self.older.head()) else {
+        let Some((key, rec, weight)) = newer.group_with(&self.at, &self.older) else {
             return Ok(0);
         };
         let _pages = geo.pages();

@@ -1,7 +1,8 @@
 //! The least key of two runs.
-ghost use Rattle.std.specs.Prelude.{◌≡◌, ◌≤◌, ◌+◌, ◌*◌, IfSome, Some, None};
+ghost use Rattle.std.specs.Prelude.{◌≡◌, ◌≤◌, ◌+◌, ◌*◌, IfSome, Some, None, option_map};
 ghost use Rattle.blsm_model.specs.Format.{least_weight, most_weight};
 ghost use Rattle.merge_step.specs.Group.{least_of, group_of};
+ghost use Rattle.blsm_model.specs.declared.key.Key.{Key};
 ghost use Rattle.blsm_model.specs.Keys.{key_cmp};
 ghost use Rattle.record_delta.specs.declared.record.Rec.{Rec};
 ghost use Rattle.record_delta.specs.Records.{weight as weight_with};
@@ -36,6 +37,44 @@ pub fn least_of_heads(
         (None, None) => None,
         (Some(entry), None) | (None, Some(entry)) => Some(alone(entry)),
         (Some(newer), Some(older)) => Some(least(newer, older)),
+    }
+}
+
+/// The same of entries that are lent: what is taken is copied, and what isn't is only looked at.
+pub fn least_of_lent(
+    newer: Option<(&Key, &Rec)>,
+    older: Option<(&Key, &Rec)>,
+) -> Option<(Key, Rec, u64)>
+    ensures group { result ≡ group_of (option_map (λ e. (e.0.now, e.1.now)) newer.entry) (option_map (λ e. (e.0.now, e.1.now)) older.entry) }
+    ensures some { IfSome result (λ g. least_weight ≤ g.2) }
+    ensures light { IfSome result (λ g. (g.2 ≤ 2 * most_weight) × (weight_with g.0 g.1 ≤ g.2)) }
+    ensures grows { IfSome result (λ g. (rec : Rec) → option_map {U = Key × Rec} (λ e. (e.0.now, e.1.now)) newer.entry ≡ Some (g.0, rec) → weight_with g.0 rec ≤ weight_with g.0 g.1) }
+{
+    match (newer, older) {
+        (None, None) => None,
+        (Some((key, rec)), None) | (None, Some((key, rec))) => Some(alone(copied(key, rec))),
+        (Some((key, rec)), Some((other, below))) => Some(lesser(key, rec, other, below)),
+    }
+}
+
+// An entry of one's own.
+fn copied(key: &Key, rec: &Rec) -> (Key, Rec)
+    ensures { result ≡ (key.now, rec.now) }
+{
+    (key.copy(), rec.copy())
+}
+
+// The lesser of a newer entry and an older one, or one of both.
+fn lesser(key: &Key, rec: &Rec, other: &Key, below: &Rec) -> (Key, Rec, u64)
+    ensures entry { result ≡ least_of (key_cmp key.now other.now) (key.now, rec.now) (other.now, below.now) }
+    ensures some { least_weight ≤ result.2 }
+    ensures light { (result.2 ≤ 2 * most_weight) × (weight_with result.0 result.1 ≤ result.2) }
+    ensures grows { (given : Rec) → key.now ≡ result.0 → rec.now ≡ given → weight_with result.0 given ≤ weight_with result.0 result.1 }
+{
+    match key.cmp(other) {
+        Ordering::Less => alone(copied(key, rec)),
+        Ordering::Equal => both(copied(key, rec), copied(other, below)),
+        Ordering::Greater => alone(copied(other, below)),
     }
 }
 

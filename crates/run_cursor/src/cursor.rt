@@ -1,5 +1,5 @@
 //! A cursor over a component.
-ghost use Rattle.std.specs.Prelude.{◌≡◌, ◌≢◌, ◌↔◌, ◌+◌, ◌<◌, ◌≤◌, ◌++◌, [], ℕ, List, Option, Ok, Err, length, IsTrue, IsErr, OnOk, IfSome, IfNone};
+ghost use Rattle.std.specs.Prelude.{◌≡◌, ◌≢◌, ◌↔◌, ◌+◌, ◌<◌, ◌≤◌, ◌++◌, [], ℕ, List, Option, Ok, Err, length, IsTrue, IsErr, OnOk, IfSome, IfNone, option_map};
 ghost use Rattle.blsm_model.specs.declared.component.Component.{Component};
 ghost use Rattle.blsm_model.specs.declared.key.Key.{Key};
 ghost use Rattle.blsm_model.specs.Sizes.{Sizes};
@@ -86,6 +86,16 @@ impl Cursor {
         ensures { result ≡ self.now.weight }
     {
         self.weight
+    }
+
+    /// The entry that the cursor is at, where it lies; `None` before the first `advance`, and at the end.
+    pub fn peek(&self) -> Option<(&Key, &Rec)>
+        ensures { option_map (λ e. (e.0.now, e.1.now)) result ≡ self.now.head }
+    {
+        match &self.head {
+            Some((key, rec)) => Some((key, rec)),
+            None => None,
+        }
     }
 
     /// The number of the page that `advance` reads next, where it reads one then.

@@ -1,14 +1,21 @@
 //! A pass.
-ghost use Rattle.std.specs.Prelude.{◌≡◌, ◌≢◌, ◌↔◌, ◌⊎◌, ◌+◌, ◌/◌, ◌≤◌, [], ◌∷◌, ℕ, Bool, List, Option, None, Ok, Err, length, IsTrue, IsErr, IfOk, OnOk};
+ghost use Rattle.std.specs.Prelude.{◌≡◌, ◌≢◌, ◌↔◌, ◌⊎◌, ◌+◌, ◌*◌, ◌/◌, ◌≤◌, [], ◌∷◌, ℕ, Bool, List, Option, Some, None, Ok, Err, length, IsTrue, IsErr, IfOk, IfSome, OnOk};
+ghost use Rattle.std.specs.declared.cmp.Ordering.TheVariants.{Less};
 ghost use Rattle.std.specs.List.{Contains};
 ghost use Rattle.blsm_model.specs.Components.{empty_component};
+ghost use Rattle.blsm_model.specs.declared.key.Key.{Key};
+ghost use Rattle.blsm_model.specs.Keys.{key_cmp};
+ghost use Rattle.blsm_model.specs.Format.{least_weight, most_weight};
 ghost use Rattle.blsm_model.specs.Sizes.{Sizes};
 ghost use Rattle.blsm_model.specs.Geometry.{page_count, file_length};
 ghost use Rattle.bloom_bits.specs.BitSet.{BitState, cleared};
 ghost use Rattle.bloom_bits.specs.Fences.{FencesState};
 ghost use Rattle.bloom_bits.specs.Filter.{rounded};
 ghost use Rattle.bloom_bits.specs.Guides.{Guide, KeepSized};
+ghost use Rattle.record_delta.specs.declared.record.Rec.{Rec};
+ghost use Rattle.record_delta.specs.Records.{weight as weight_with};
 ghost use Rattle.record_delta.specs.Entries.{Entries, entries_weight, folded_over, above};
+ghost use Rattle.merge_step.specs.Group.{group_of};
 ghost use Rattle.page_space.specs.Space.{SpaceState, HasRole, IsFree};
 ghost use Rattle.page_file.specs.Component.{numbers_of, HasList};
 ghost use Rattle.page_file.specs.File.{Writes};
@@ -20,12 +27,14 @@ ghost use Rattle.snow_merge.specs.Pass.{started, Covers, IsPass, progress_of_pas
 use bloom_bits::{Fences, Filter};
 use blsm_model::{Component, Geometry, Key};
 use disk_trait::Disk;
-use mem_table::Table;
+use mem_table::{LentEntry, Table};
 use merge_ends::{Merge, Newer};
+use merge_step::least_of_lent;
 use page_file::Broken;
 use page_space::{Role, Space};
 use record_delta::Rec;
 use refusal::Failed;
+use run_cursor::Cursor;
 use std::marker::Model;
 
 /// A pass. Contracts see the run that it writes, its cursor over C1, the greatest key that it took, and the one up to which all is on closed pages
@@ -49,6 +58,31 @@ struct InMemory<'a> {
     table: &'a Table,
 }
 
+// Whether a cursor is at an entry whose key is below that of the table's, which isn't taken then.
+fn is_past_head(first: &LentEntry, older: &Cursor) -> bool
+    ensures { IsTrue result → (head : Key × Rec) × (older.now.head ≡ Some head) × (key_cmp head.0 first.now.0 ≡ Less) }
+{
+    match older.peek() {
+        Some((key, _)) => first.compare(key).is_lt(),
+        None => false,
+    }
+}
+
+// The group of the table's entry and of the one at which the cursor is. The table's is copied only where it is taken.
+#[tactic(auto, using(crate::proofs::PassLemmas::skipped))]
+fn group_from(first: &LentEntry, older: &Cursor) -> Option<(Key, Rec, u64)>
+    ensures group { result ≡ group_of (Some first.now) older.now.head }
+    ensures some { IfSome result (λ g. least_weight ≤ g.2) }
+    ensures light { IfSome result (λ g. (g.2 ≤ 2 * most_weight) × (weight_with g.0 g.1 ≤ g.2)) }
+    ensures grows { IfSome result (λ g. (rec : Rec) → Some first.now ≡ Some (g.0, rec) → weight_with g.0 rec ≤ weight_with g.0 g.1) }
+{
+    if is_past_head(first, older) {
+        return least_of_lent(None, older.peek());
+    }
+    let (key, rec) = first.copy();
+    least_of_lent(Some((&key, &rec)), older.peek())
+}
+
 impl Newer for InMemory<'_> {
     ghost run = { λ _. None };
 
@@ -63,10 +97,13 @@ impl Newer for InMemory<'_> {
         Ok(())
     }
 
-    fn first_above(&self, at: Option<Key>) -> Option<(Key, Rec)> {
+    fn group_with(&self, at: &Option<Key>, older: &Cursor) -> Option<(Key, Rec, u64)> {
         // A table is sorted.
         let _weight = self.table.weight();
-        self.table.least_above(at)
+        let Some(first) = self.table.first_above(at) else {
+            return least_of_lent(None, older.peek());
+        };
+        group_from(&first, older)
     }
 
     fn left_above(&self, _at: &Option<Key>) -> u64 {

@@ -94,10 +94,7 @@ returns-in_err-go_above-2-clause-numbers g c =
 -- ---- nothing is left
 
 none_is : (g : _) (c : goal.In_default g) → group_of (first_of (above c.self.inside.at (at_hand (g.N.Newer.run c.go_above.new.self) (g.N.Newer.table c.go_above.new.self)))) c.go_above-2.new.cursor.head ≡ None
-none_is g c =
-    let hand = at_hand (g.N.Newer.run c.go_above.new.self) (g.N.Newer.table c.go_above.new.self) in
-    subst (λ (x : Option (Key × Rec)). group_of x c.go_above-2.new.cursor.head ≡ None) (c.first_above-first.ensures.first ∙ ap (λ (k : Option Key). first_of (above k hand)) c.cursor.ensures)
-    (subst (λ (x : Option (Key × Rec)). group_of c.first_above-first.result x ≡ None) c.head.ensures (sym c.in_default.ensures.group))
+none_is g c = sym c.in_default.ensures.group
 
 pub returns-in_default-clause-lists : goal.returns-in_default-clause-lists
 returns-in_default-clause-lists g c = λ overs unders over under honest merging other.
@@ -138,7 +135,7 @@ returns-in_default-clause-lists g c = λ overs unders over under honest merging 
         closed_is = old.closed_is;
         left_is = λ some. old.left_is some ∙ sym (same_above c.self.inside.closed (g.N.Newer.run c.args.newer.now) input over under c.go_above.ensures.same_kind);
       },
-      newer_sorted sizes new space role at input table overs over c.first_above-first.ensures.sorted here,
+      newer_sorted sizes new space role at input table overs over c.group_with.ensures.sorted here,
       inr (subst (λ (k : Option Key). NoneAbove k over under) at_is ends, at_is, refl),
     )
 
@@ -177,11 +174,7 @@ may : (g : _) (c : In-Some g) → MayGoOn c.args.geo.now (stage (progress (recor
 may g c = subst (λ (s : MergeState). MayGoOn c.args.geo.now (stage (progress s (g.N.Newer.run c.args.newer.now) (g.N.Newer.table c.args.newer.now)) c.args.space.now c.args.filter.now c.args.fences.now (g.D.Disk.state c.args.disk.now))) (sym c.self.view_is) c.requires.runs
 
 group : (g : _) (c : In-Some g) → group_of (first_of (above c.self.inside.at (at_hand (g.N.Newer.run c.go_above.new.self) (g.N.Newer.table c.go_above.new.self)))) c.go_above-2.new.cursor.head ≡ Some (c.in-Some.key, c.in-Some.rec, c.in-Some.weight)
-group g c =
-    let hand = at_hand (g.N.Newer.run c.go_above.new.self) (g.N.Newer.table c.go_above.new.self) in
-    let group = Some (c.in-Some.key, c.in-Some.rec, c.in-Some.weight) in
-    subst (λ (x : Option (Key × Rec)). group_of x c.go_above-2.new.cursor.head ≡ group) (c.first_above-first.ensures.first ∙ ap (λ (k : Option Key). first_of (above k hand)) c.cursor.ensures)
-    (subst (λ (x : Option (Key × Rec)). group_of c.first_above-first.result x ≡ group) c.head.ensures (sym c.in-Some.ensures.group))
+group g c = sym c.in-Some.ensures.group
 
 -- what was counted when it was found
 counted : (g : _) (c : In-Some g) → Counts 0 (pages_ahead (cursors_with (g.N.Newer.run c.args.newer.now) c.self.inside.older)) (pages_ahead (cursors_with (g.N.Newer.run c.go_above.new.self) c.go_above-2.new.cursor))
@@ -196,7 +189,7 @@ counted g c =
 taken : (g : _) (c : In-Some g) → IsTaken c.self.inside.at (at_hand (g.N.Newer.run c.go_above.new.self) (g.N.Newer.table c.go_above.new.self)) (from_head c.go_above-2.new.cursor.head []) c.in-Some.key c.in-Some.rec c.in-Some.weight
 taken g c =
     group_taken c.a_merge_goes_on.ensures (g.N.Newer.run c.go_above.new.self) (g.N.Newer.table c.go_above.new.self) c.go_above-2.new.cursor c.self.inside.at c.in-Some.key c.in-Some.rec c.in-Some.weight
-    c.first_above-first.ensures.sorted c.in_ok-go_above-2.ensures.ready.0 (group g c)
+    c.group_with.ensures.sorted c.in_ok-go_above-2.ensures.ready.0 (group g c)
 
 -- it weighs no more than what is gone of what was left
 light : (g : _) (c : In-Some g) → weight c.in-Some.key c.in-Some.rec + (newer_left (Some c.in-Some.key) (g.N.Newer.run c.go_above.new.self) (g.N.Newer.table c.go_above.new.self) + left_in (Some c.in-Some.key) c.go_above-2.new.cursor)
@@ -323,7 +316,7 @@ returns-clause-lists g c = λ overs unders over under honest merging other.
     let both : group_of (first_of (above at over)) (first_of (above at under)) ≡ Some (key, rec, weighs) =
     ap (λ (x : Option (Key × Rec)). group_of x (first_of (above at under))) (newer_first sizes mid.bytes space role at input table overs over c.in_ok-go_above.ensures.ready.0 upper)
     ∙ ap (group_of (first_of (above at (at_hand input table)))) (head_is sizes mid.bytes space role at older under c.in_ok-go_above-2.ensures.ready.0 lower) ∙ group g arm in
-    let sorted = newer_sorted sizes mid.bytes space role at input table overs over c.first_above-first.ensures.sorted upper in
+    let sorted = newer_sorted sizes mid.bytes space role at input table overs over c.group_with.ensures.sorted upper in
     let taken = c.a_merge_goes_on.ensures at over under key rec weighs sorted lower.sorted both in
     let mid_honest : mid.is_honest ≡ true = second.effect.goes_on.is_honest ∙ still in
     let after_honest : after.is_honest ≡ true = c.put.ensures.writes.effect.goes_on.is_honest ∙ mid_honest in
@@ -401,11 +394,10 @@ returns-clause-covers g c = λ covers.
     let hand = at_hand input table in
     let older = c.go_above-2.new.cursor in
     let old = subst (λ (s : MergeState). Covers c.args.settles s (g.N.Newer.run c.args.newer.now) (g.N.Newer.table c.args.newer.now)) (sym c.self.view_is) covers in
-    let first = c.first_above-first.ensures.first ∙ ap (λ (k : Option Key). first_of (above k hand)) c.cursor.ensures in
     let behind =
     turned_behind at closed _ c.component-pages.result.pages c.component.result.pages writer c.put.new.writer c.closed_behind-self-inside.ensures
     (ap (λ (k : Component). k.pages) c.component-pages.ensures.component) (ap (λ (k : Component). k.pages) c.component.ensures.component) in
-    let less = gave_less (taken g arm) (λ given is. c.in-Some.ensures.grows given (first ∙ is)) in
+    let less = gave_less (taken g arm) (λ given is. c.in-Some.ensures.grows given is) in
     record {
       up = closed_up_more turned at closed c.closed_behind-self-inside.result key behind (taken g arm).above_at old.up;
       light = λ plain none.
