@@ -14,7 +14,9 @@ use Rattle.page_space.specs.PageSet.{Members}
 use Rattle.page_space.specs.Space.{SpaceState}
 use Rattle.gated_log.specs.Lane.{lane_region}
 use Rattle.scan_view.specs.Pins.{beside_pins}
-use Rattle.tree_runs.specs.Laws.{HeadIsBeside, HeadIsUnpinned, used_region}
+use Rattle.tree_runs.specs.Laws.{used_region}
+use Rattle.tree_runs.proofs.BesideLemmas.{head_is_beside}
+use Rattle.scan_view.proofs.StayLemmas.{head_beside}
 
 -- a file of the right length keeps it
 pub stays_long : {region : Region} {most : ℕ} {old new : DiskState} (before after : Sizes) → after ≡ before → (IsTrue old.tells_bytes → length old.bytes ≡ file_length before)
@@ -33,12 +35,12 @@ pub sum_fits : (sizes : Sizes) (one other x y : ℕ) → IsGeometry sizes → on
 sum_fits sizes one other x y geometry small little is are = omega (arith, capacity_small sizes geometry, small, little, is, are)
 
 -- a lane stands before the pages
-pub lane_beside : (sizes : Sizes) (space : SpaceState) (lane : ℕ) → HeadIsBeside → lane < 3 → IsWithin (lane_region sizes lane) (outside (used_region sizes space))
-lane_beside sizes space lane head below =
+pub lane_beside : (sizes : Sizes) (space : SpaceState) (lane : ℕ) → lane < 3 → IsWithin (lane_region sizes lane) (outside (used_region sizes space))
+lane_beside sizes space lane below =
     let before : region_length sizes * lane ≤ region_length sizes * 2 = mul-le-mul_left (region_length sizes) (omega (arith, below)) in
-    head sizes space (region_start sizes lane) (region_length sizes) (omega (arith, before))
+    head_is_beside sizes space (region_start sizes lane) (region_length sizes) (omega (arith, before))
 
-pub lane_unpinned : (sizes : Sizes) (pins : List Members) (lane : ℕ) → HeadIsUnpinned → lane < 3 → IsWithin (lane_region sizes lane) (beside_pins sizes pins)
-lane_unpinned sizes pins lane head below =
+pub lane_unpinned : (sizes : Sizes) (pins : List Members) (lane : ℕ) → lane < 3 → IsWithin (lane_region sizes lane) (beside_pins sizes pins)
+lane_unpinned sizes pins lane below =
     let before : region_length sizes * lane ≤ region_length sizes * 2 = mul-le-mul_left (region_length sizes) (omega (arith, below)) in
-    head sizes pins (region_start sizes lane) (region_length sizes) (omega (arith, before))
+    head_beside sizes pins (region_start sizes lane) (region_length sizes) (omega (arith, before))

@@ -14,7 +14,8 @@ use Rattle.tree_file.specs.Tree.{Tree, HoldsTree}
 use Rattle.tree_log.specs.Log.{appended, lane_for, with_entry}
 use Rattle.tree_runs.specs.Runs.{AreRunning}
 use Rattle.tree_runs.specs.Holding.{AreOf}
-use Rattle.tree_runs.specs.Laws.{HeadIsBeside, HeadIsUnpinned, IsBesideRuns, RunsStay, EntriesJoin, EntriesWait}
+use Rattle.tree_runs.specs.Laws.{IsBesideRuns}
+use Rattle.tree_runs.proofs.BesideLemmas.{runs_stay, entries_join, entries_wait}
 use Rattle.core_moves.specs.declared.held.Held.{Held}
 use Rattle.core_moves.specs.Held.{IsOne, goes_ahead}
 use Rattle.core_moves.proofs.AffectLemmas.{lane_beside, lane_unpinned}
@@ -24,32 +25,32 @@ lane_below true held one = subst (λ (roles : List ℕ). Rattle.blsm_model.specs
 lane_below false held one = subst (λ (roles : List ℕ). Rattle.blsm_model.specs.Lanes.b_of roles < 3) (sym one.roles) one.apart.b_below
 
 -- the log's lanes are beside the pages
-pub beside : {end most : ℕ} {old new : DiskState} (ahead : Bool) (held : Held) → HeadIsBeside → IsOne held
+pub beside : {end most : ℕ} {old new : DiskState} (ahead : Bool) (held : Held) → IsOne held
     → Affects (lane_region held.log.lanes.sizes (lane_for ahead held.log)) end most old new → IsTrue old.is_honest → IsBesideRuns held.runs old.bytes new.bytes
-beside {end} {most} {old} {new} ahead held head one effect honest =
+beside {end} {most} {old} {new} ahead held one effect honest =
     same_wider (subst (λ (s : Sizes). (i : ℕ) → lane_region s (lane_for ahead held.log) i → Rattle.disk_trait.specs.Region.outside (Rattle.tree_runs.specs.Laws.used_region held.runs.sizes held.runs.space) i) (sym one.lanes)
-    (lane_beside held.runs.sizes held.runs.space (lane_for ahead held.log) head (lane_below ahead held one))) (effect.bytes honest)
+    (lane_beside held.runs.sizes held.runs.space (lane_for ahead held.log) (lane_below ahead held one))) (effect.bytes honest)
 
 -- and beside those that seats pin
-pub lane_beside_pins : (ahead : Bool) (held : Held) → HeadIsUnpinned → IsOne held
+pub lane_beside_pins : (ahead : Bool) (held : Held) → IsOne held
     → IsWithin (lane_region held.log.lanes.sizes (lane_for ahead held.log)) (beside_pins held.runs.sizes held.runs.space.pins)
-lane_beside_pins ahead held head one =
+lane_beside_pins ahead held one =
     subst (λ (s : Sizes). IsWithin (lane_region s (lane_for ahead held.log)) (beside_pins held.runs.sizes held.runs.space.pins)) (sym one.lanes)
-    (lane_unpinned held.runs.sizes held.runs.space.pins (lane_for ahead held.log) head (lane_below ahead held one))
+    (lane_unpinned held.runs.sizes held.runs.space.pins (lane_for ahead held.log) (lane_below ahead held one))
 
 -- the merges run on
-pub runs_on : {end most : ℕ} {old new : DiskState} (ahead : Bool) (held : Held) → HeadIsBeside → RunsStay → IsOne held
+pub runs_on : {end most : ℕ} {old new : DiskState} (ahead : Bool) (held : Held) → IsOne held
     → Affects (lane_region held.log.lanes.sizes (lane_for ahead held.log)) end most old new → AreRunning old.is_honest old.bytes held.runs → AreRunning new.is_honest new.bytes held.runs
-runs_on {end} {most} {old} {new} ahead held head stay one effect running =
+runs_on {end} {most} {old} {new} ahead held one effect running =
     subst (λ (h : Bool). AreRunning h new.bytes held.runs) (sym effect.goes_on.is_honest)
-    (stay held.runs old.is_honest old.bytes new.bytes (λ honest. beside ahead held head one effect honest) running)
+    (runs_stay held.runs old.is_honest old.bytes new.bytes (λ honest. beside ahead held one effect honest) running)
 
 -- and over the lists with the entry
-pub joined : {end most : ℕ} {old new : DiskState} (ahead : Bool) (held : Held) (tree : Tree) (key : Key) (rec : Rec) → HeadIsBeside → EntriesJoin → EntriesWait → IsOne held
+pub joined : {end most : ℕ} {old new : DiskState} (ahead : Bool) (held : Held) (tree : Tree) (key : Key) (rec : Rec) → IsOne held
     → goes_ahead key held ≡ ahead → Affects (lane_region held.log.lanes.sizes (lane_for ahead held.log)) end most old new → IsTrue old.is_honest
     → AreOf held.runs tree held.log.a.entries old.bytes → HoldsTree held.runs.sizes (appended ahead (key, rec) tree) new.bytes
     → AreOf held.runs (appended ahead (key, rec) tree) (with_entry ahead key rec held.log).a.entries new.bytes
-joined {end} {most} {old} {new} true held tree key rec head joins waits one is effect honest are holds =
-    joins held.runs tree held.log.a.entries old.bytes new.bytes key rec (beside true held head one effect honest) is are holds
-joined {end} {most} {old} {new} false held tree key rec head joins waits one is effect honest are holds =
-    waits held.runs tree held.log.a.entries old.bytes new.bytes key rec (beside false held head one effect honest) are holds
+joined {end} {most} {old} {new} true held tree key rec one is effect honest are holds =
+    entries_join held.runs tree held.log.a.entries old.bytes new.bytes key rec (beside true held one effect honest) is are holds
+joined {end} {most} {old} {new} false held tree key rec one is effect honest are holds =
+    entries_wait held.runs tree held.log.a.entries old.bytes new.bytes key rec (beside false held one effect honest) are holds

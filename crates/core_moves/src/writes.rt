@@ -22,7 +22,6 @@ use blsm_model::Key;
 use disk_trait::Disk;
 use record_delta::{Rec, weight};
 use refusal::Failed;
-use tree_runs::others_may_write;
 
 // Whether the key is above this one, or there is none.
 fn is_above(low: &Option<Key>, key: &Key) -> bool
@@ -78,7 +77,6 @@ impl Held {
         ensures effect { Affects (beside_pins self.old.runs.sizes self.old.runs.space.pins) (file_length self.old.runs.sizes) 4 (D.state disk.old) (D.state disk.new) }
         ensures faults { TellsFaults result (D.state disk.old) (D.state disk.new) }
     {
-        others_may_write();
         let ahead = self.goes_ahead(key);
         self.log.append(disk, ahead, key, rec)?;
         let weight = weight(key, rec);

@@ -18,7 +18,7 @@ use std::alloc::Global;
 use tree_log::LoggedTables;
 use tree_reading::{Found, Place, Unreadable};
 use tree_runs::{GuideRoom, MergeRoom, Runs};
-use tree_settling::{an_opening_has_all_before_it, settle};
+use tree_settling::settle;
 
 /// The components and the log of a store that was read.
 #[derive(Drop)]
@@ -46,8 +46,6 @@ fn begin(found: Found, room: MergeRoom, guides: GuideRoom) -> Begun
         lanes,
         ..
     } = found;
-    let _half = geometry.half();
-    an_opening_has_all_before_it();
     let runs = Runs::open(&geometry, catalogue, space, room, guides);
     let log = LoggedTables::open(a, b, lanes);
     Begun { runs, log }

@@ -13,7 +13,6 @@ use blsm_model::Geometry;
 use disk_trait::Disk;
 use refusal::Failed;
 use thiserror::Error;
-use tree_file::a_first_tree;
 
 /// Why no store was made.
 #[derive(Clone, Copy, PartialEq, Eq, Debug, Drop, Error)]
@@ -56,7 +55,6 @@ pub fn make_store<D: Disk>(disk: &mut D, geometry: &Geometry) -> Result<(), NotM
     ensures effect { Affects (span 0 (file_length geometry.now)) (file_length geometry.now) (making_calls geometry.now + 1) (D.state disk.old) (D.state disk.new) }
     ensures faults { TellsFaultsBy (Err NotMade.Fault) result (D.state disk.old) (D.state disk.new) }
 {
-    a_first_tree();
     let length = disk.len()?;
     if length > 0 {
         return Err(NotMade::NotEmpty(length));

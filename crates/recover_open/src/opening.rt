@@ -22,7 +22,6 @@ use refusal::NoMemory;
 use scan_view::{Holds, RowRoom};
 use std::alloc::Global;
 use tree_core::{Core, Parts};
-use tree_file::one_tree;
 use tree_log::LoggedTables;
 use tree_reading::{Found, Unreadable, read_tree};
 use tree_runs::{MergeRoom, Runs};
@@ -85,7 +84,6 @@ fn open_tree<D: Disk>(alloc: Global, disk: &mut D, room: MergeRoom) -> Result<Be
     ensures effect { StaysInside (D.state disk.old) (D.state disk.new) }
     ensures faults { TellsFaultsBy (Err Unreadable.Fault) result (D.state disk.old) (D.state disk.new) }
 {
-    one_tree();
     let found = read_synced(alloc, disk)?;
     settle_found(alloc, disk, found, room)
 }

@@ -3,6 +3,6 @@ mod RunLemmas
 mod WriterLemmas
 mod GuideLemmas
 mod GrowthLemmas
-mod RegionLemmas
+pub mod RegionLemmas
 mod Examples
 pub mod ClosedLemmas

@@ -13,8 +13,6 @@ use refusal::NoMemory;
 use script_text::generate;
 use std::alloc::Global;
 use store_run::{Finished, run_in_order};
-use tree_file::one_tree;
-use tree_reading::a_map_is_read;
 
 // The disk of an empty store of the default geometry. It has room for the store's file and no more, and no call within it fails.
 fn made(alloc: Global) -> Result<FaultlessDisk, NoMemory>
@@ -34,8 +32,6 @@ pub fn try_seed(alloc: Global, seed: u64, count: u32) -> Result<(FaultlessDisk, 
     requires { count ≤ most_lines }
     ensures { IfOk result (λ tried. IsTrialOf seed count (run_of tried.1) tried.0) }
 {
-    one_tree();
-    a_map_is_read();
     let script = generate(alloc, seed, count)?;
     let disk = made(alloc)?;
     let (disk, outcome) = run_in_order(alloc, disk, script.lines(), script.room());

@@ -30,7 +30,6 @@ use Rattle.tree_machine.specs.declared.step.Kind.{Kind}
 use Rattle.tree_machine.specs.declared.step.Kind.TheVariants as kind
 use Rattle.tree_file.specs.Tree.{Tree}
 use Rattle.tree_runs.specs.Holding.{AreOf}
-use Rattle.tree_runs.specs.Laws.{RunsStay}
 use Rattle.core_moves.specs.declared.held.Held.{Held}
 use Rattle.core_moves.specs.Moves.{with_book}
 use Rattle.core_moves.specs.Needs.{IsOn}
@@ -99,11 +98,11 @@ hold_does {D} {mid} {after} state seat low high answer old b core timed can move
         (λ opening m honest stands ok. hold_steps state opening seat low high answer old mid after m timed honest (notes_below seat 0 old.held.book can) moves because rows stands ok)
 
 pub next_does : {D : Type 0} {after : List (Option HoldState)} (state : D → DiskState) (seat n : ℕ) (answer : Scanned) (old : CoreState D) (disk : D) (b : BookState) → IsCore old.held (state old.disk) → AreFew old.held.runs.sizes old.holds
-    → IsTimed (state disk) → RunsStay → may_note_in seat n old.held.book ≡ true → 0 < n → n ≤ most_rows → ((other : ℕ) → other ≢ seat → hold_of other after ≡ hold_of other old.holds)
+    → IsTimed (state disk) → may_note_in seat n old.held.book ≡ true → 0 < n → n ≤ most_rows → ((other : ℕ) → other ≢ seat → hold_of other after ≡ hold_of other old.holds)
     → ScansBecause answer seat n (undisked old.held old.holds) (undisked old.held after) (state old.disk) (state disk) → (answer ≡ scanned.Fault → (state disk).faults < 2 ^ 64) → GivesRows seat n answer old after (state old.disk) (state disk)
     → OnlyReads (file_length old.held.runs.sizes) (pages_behind (hold_of seat old.holds)) (state old.disk) (state disk) → (ScansNone answer → disk ≡ old.disk)
     → b ≡ noted_in seat (op.Next n) (reply_to_next answer) old.held.book → ReadsOn state seat n answer old (record { disk = disk; held = with_book b old.held; holds = after })
-next_does {D} {after} state seat n answer old disk b core few timed stay note some within others because counted gives reads untouched is =
+next_does {D} {after} state seat n answer old disk b core few timed note some within others because counted gives reads untouched is =
     subst (λ (x : BookState). ReadsOn state seat n answer old (record { disk = disk; held = with_book x old.held; holds = after })) (sym is)
     (record { goes = goes; cause = next_cause old.held after answer seat n old disk noted (state old.disk) (state disk) because; book = refl; others = leaves_others old disk noted moves; runs = refl; few = few seat; reads = reads; untouched = untouched })
   where
@@ -114,7 +113,7 @@ next_does {D} {after} state seat n answer old disk b core few timed stay note so
     moves = next_moves seat old.held old.holds after others
 
     goes : GoesOnAs state seat (kind.Next n) (Replied (reply_to_next answer)) old (after_it disk old.held after seat (op.Next n) (reply_to_next answer) old.held)
-    goes = hold_goes state seat (reply_to_next answer) old disk core timed (next_kind seat n) moves reads (reads_on old.held stay reads)
+    goes = hold_goes state seat (reply_to_next answer) old disk core timed (next_kind seat n) moves reads (reads_on old.held reads)
         (next_room answer seat n (undisked old.held old.holds) (undisked old.held after) (state old.disk) (state disk) old.held.book because note) (may_next seat n old.held note some within)
         (λ opening m honest stands ok. next_steps state opening seat n answer old after disk m reads honest (notes_below seat n old.held.book note) moves because counted gives stands ok)
 

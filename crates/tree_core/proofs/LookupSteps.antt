@@ -33,7 +33,6 @@ use Rattle.tree_file.specs.Tree.{Tree, HoldsTree}
 use Rattle.tree_runs.specs.Holding.{AreGuided}
 use Rattle.tree_runs.specs.Lookups.{CountsYes, HidesOlder}
 use Rattle.tree_runs.specs.Runs.{filter_of}
-use Rattle.tree_runs.specs.Laws.{RunsStay}
 use Rattle.core_moves.specs.declared.held.Held.{Held}
 use Rattle.core_moves.specs.Moves.{with_book}
 use Rattle.core_pace.proofs.EventLemmas.{entry_is_told}
@@ -123,18 +122,18 @@ get_steps {end} {most} {d} {d2} opening seat key found held m reads honest becau
 
 -- ---- the call
 
-pub get_does : {D : Type 0} (state : D → DiskState) (seat : ℕ) (key : Key) (found : Lookup) (old : CoreState D) (disk : D) (b : BookState) → IsCore old.held (state old.disk) → IsTimed (state disk) → RunsStay → may_note_in seat 0 old.held.book ≡ true
+pub get_does : {D : Type 0} (state : D → DiskState) (seat : ℕ) (key : Key) (found : Lookup) (old : CoreState D) (disk : D) (b : BookState) → IsCore old.held (state old.disk) → IsTimed (state disk) → may_note_in seat 0 old.held.book ≡ true
     → FindsBecause found key old.held (state old.disk) (state disk) → (found ≡ lookup.Fault → (state disk).faults < 2 ^ 64)
     → ((tree : Tree) → IsTrue (state old.disk).is_honest → HoldsTree old.held.runs.sizes tree (state old.disk).bytes → tree.catalogue ≡ old.held.runs.catalogue → AreGuided old.held.runs.guides old.held.runs.tags tree → old.held.book.stopped ≡ None
     → found ≢ lookup.Fault → reply_to_get found ≡ answer_to_get (found_in key old.held tree))
     → ((n : ℕ) → CountsFilters key old.held n → OnlyReads (file_length old.held.runs.sizes) n (state old.disk) (state disk)) → (HidesOlder (newest_in key old.held) → disk ≡ old.disk) → (LooksNone found → disk ≡ old.disk) → b ≡ noted_in seat (Get key) (reply_to_get found) old.held.book
     → Gets state seat key found old (record { disk = disk; held = with_book b old.held; holds = old.holds })
-get_does {D} state seat key found old disk b core timed stay can because counted value reads hidden untouched is =
+get_does {D} state seat key found old disk b core timed can because counted value reads hidden untouched is =
     subst (λ (x : BookState). Gets state seat key found old (record { disk = disk; held = with_book x old.held; holds = old.holds })) (sym is)
     (record { goes = goes.0; beside = goes.1; cause = because; held = refl; reads = reads; hidden = hidden; untouched = untouched })
   where
     goes : GoesOnAs state seat (kind.Look (Get key)) (Replied (reply_to_get found)) old (record { disk = disk; held = with_book (noted_in seat (Get key) (reply_to_get found) old.held.book) old.held; holds = old.holds }) × BesideHolds state seat (kind.Look (Get key)) (Replied (reply_to_get found)) old (record { disk = disk; held = with_book (noted_in seat (Get key) (reply_to_get found) old.held.book) old.held; holds = old.holds })
-    goes = book_goes state seat (kind.Look (Get key)) (Replied (reply_to_get found)) old disk (noted_in seat (Get key) (reply_to_get found) old.held.book) 1 core timed (reads 3 (three_count key old.held)) (reads_on old.held stay (reads 3 (three_count key old.held))) refl refl can (omega arith)
+    goes = book_goes state seat (kind.Look (Get key)) (Replied (reply_to_get found)) old disk (noted_in seat (Get key) (reply_to_get found) old.held.book) 1 core timed (reads 3 (three_count key old.held)) (reads_on old.held (reads 3 (three_count key old.held))) refl refl can (omega arith)
         (note_keeps seat (Get key) (reply_to_get found) old.held.book) refl refl
         (λ pace told. entry_is_told old.held.book pace seat (Get key) (reply_to_get found) (λ done. refl) (get_has_room seat key found old.held.book can) told) (λ pace. refl)
         (λ opening m honest s ok. get_steps opening seat key found old.held m (reads 3 (three_count key old.held)) honest because counted (λ tree holds catalogue guided. value tree honest holds catalogue guided) s ok)

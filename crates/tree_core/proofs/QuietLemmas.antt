@@ -31,7 +31,7 @@ use Rattle.seat_book.specs.State.{BookState, book_of}
 use Rattle.tree_file.specs.Tree.{Tree, HoldsTree}
 use Rattle.tree_file.proofs.StandLemmas.{stands_read}
 use Rattle.tree_runs.specs.Holding.{AreOf, StandOver}
-use Rattle.tree_runs.specs.Laws.{RunsStay}
+use Rattle.tree_runs.proofs.BesideLemmas.{runs_stay}
 use Rattle.core_moves.specs.declared.held.Held.{Held}
 use Rattle.core_moves.specs.Held.{IsOne}
 use Rattle.core_moves.specs.Moves.{with_book}
@@ -79,8 +79,8 @@ read_holds held space b pace d d2 holds counts stopped told on = record {
       record { paced = mapped_paced (with_book b held) space pace (book_is_paced held b pace live.paced counts told); on = record { running = still.running; long = still.long } };
 }
 
-pub reads_on : {end most : ℕ} {d d2 : DiskState} (held : Held) → RunsStay → OnlyReads end most d d2 → IsOn held d → IsOn held d2
-reads_on {end} {most} {d} {d2} held stay reads on = grind (arith, common_steps, nat_tests)
+pub reads_on : {end most : ℕ} {d d2 : DiskState} (held : Held) → OnlyReads end most d d2 → IsOn held d → IsOn held d2
+reads_on {end} {most} {d} {d2} held reads on = grind (arith, common_steps, nat_tests, runs_stay)
 
 -- ---- by lists
 

@@ -36,7 +36,6 @@ use refusal::NoMemory;
 use scan_view::{Holds, RowRoom};
 use seat_book::SeatBook;
 use std::alloc::Global;
-use tree_runs::others_may_write;
 
 // The hold is made, in place of an earlier one, or all stays.
 fn take_hold(
@@ -198,7 +197,6 @@ impl<D: Disk + Drop> Core<D> {
         // The answer tells how many rows the entry has.
         ensures counts { Counts result (rows_noted self.new.held.book.book) }
     {
-        others_may_write();
         let scan = read_on(
             &self.held,
             &mut self.holds,

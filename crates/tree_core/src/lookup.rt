@@ -21,7 +21,6 @@ use core_moves::Held;
 use disk_trait::Disk;
 use page_file::Broken;
 use record_delta::{Rec, settle};
-use tree_runs::others_may_write;
 
 // What a record answers, which was found or not.
 fn answer(rec: Option<Rec>) -> Lookup
@@ -87,7 +86,6 @@ impl<D: Disk + Drop> Core<D> {
         requires { IsTrue (may_note_in seat 0 self.old.held.book) }
         ensures { Gets D.state seat key.now result self.old self.new }
     {
-        others_may_write();
         let found = look_up(&self.held, &mut self.disk, key);
         self.held
             .book

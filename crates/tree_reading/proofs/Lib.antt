@@ -11,4 +11,4 @@ mod FaultLemmas
 mod LanesLemmas
 mod ReadingLemmas
 mod ReportLemmas
-mod FirstLemmas
+pub mod FirstLemmas

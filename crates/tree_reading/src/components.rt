@@ -15,7 +15,6 @@ use crate::pages::walk;
 use disk_trait::Disk;
 use page_file::Broken;
 use page_space::{Role, Space};
-use tree_runs::each_claims_its_own;
 
 // Walks C1, C1' and C2, whose pages get the tags 0, 1 and 2.
 fn walk_all<D: Disk>(disk: &mut D, head: &Head, space: &mut Space) -> Result<(), Broken>
@@ -29,7 +28,6 @@ fn walk_all<D: Disk>(disk: &mut D, head: &Head, space: &mut Space) -> Result<(),
     ensures reads { Reads (file_length head.now.geometry)
         (2 * head.now.catalogue.c1.pages + 2 * head.now.catalogue.c1x.pages + 2 * head.now.catalogue.c2.pages) result (D.state disk.old) (D.state disk.new) }
 {
-    each_claims_its_own();
     let catalogue = &head.catalogue;
     walk(
         disk,

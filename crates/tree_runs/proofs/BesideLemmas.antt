@@ -19,7 +19,7 @@ use Rattle.tree_file.specs.Places.{appended_a, appended_b}
 use Rattle.tree_runs.specs.Runs.{GuideState, RunsState, guide_at, PassHasTag, DeepHasTag}
 use Rattle.tree_runs.specs.Holding.{AreOf, AreTagged, IsGuidedBy, IsPassOver, IsDeepOver, cursor_of_pass}
 use Rattle.tree_runs.specs.Laws.{used_region, IsBesideRuns, HeadIsBeside, RunsStay, ListsStay, EntriesJoin, EntriesWait, LeftGrows}
-use Rattle.tree_runs.proofs.KeptMerges.{KeepsRun, KeepsPages, KeepsPushed, KeepsAhead, pass_runs_still, deep_runs_still, pass_over_still, deep_over_still}
+use Rattle.tree_runs.proofs.KeptMerges.{KeepsRun, KeepsPages, pass_runs_still, deep_runs_still, pass_over_still, deep_over_still}
 
 pub head_is_beside : HeadIsBeside
 head_is_beside sizes space at n ends i inside used = before_apart sizes used.1.0 at n ends i used.1.2 inside
@@ -33,11 +33,11 @@ keeps_used runs honest old new tag same = record { no_more = λ n has. has; tagg
 pages_used : (runs : RunsState) (tag : ℕ) → KeepsPages runs.sizes runs.space runs.space (outside (used_region runs.sizes runs.space)) tag
 pages_used runs tag = record { tagged = λ n has. has; apart = λ i out there. out (tag, there) }
 
-pub runs_stay : KeepsPushed → RunsStay
-runs_stay pushed runs honest old new same running = record {
+pub runs_stay : RunsStay
+runs_stay runs honest old new same running = record {
   in_order = running.in_order;
-  pass = pass_runs_still pushed runs.tags.pass (guide_at runs.guides runs.tags.pass) runs.pass (keeps_used runs honest old new runs.tags.pass same) running.in_order.pass_tag running.pass;
-  deep = deep_runs_still pushed runs.tags.deep (guide_at runs.guides runs.tags.deep) runs.deep (keeps_used runs honest old new runs.tags.deep same) running.in_order.deep_tag running.deep;
+  pass = pass_runs_still runs.tags.pass (guide_at runs.guides runs.tags.pass) runs.pass (keeps_used runs honest old new runs.tags.pass same) running.in_order.pass_tag running.pass;
+  deep = deep_runs_still runs.tags.deep (guide_at runs.guides runs.tags.deep) runs.deep (keeps_used runs honest old new runs.tags.deep same) running.in_order.deep_tag running.deep;
 }
 
 -- which tag a running merge's pages have
@@ -62,10 +62,10 @@ grown_over sizes file space guide None a grown c1 same over = tt
 grown_over sizes file space guide (Some snow) a grown c1 same over = grown_merge (merge_of snow) a grown (entries_of c1) same over
 
 -- over the tree's lists and this table, where the file holds a tree of the same components
-over_tree : KeepsPushed → KeepsAhead → (runs : RunsState) (tree next : Tree) (a grown : Entries) (old new : List ℕ) → IsBesideRuns runs old new
+over_tree : (runs : RunsState) (tree next : Tree) (a grown : Entries) (old new : List ℕ) → IsBesideRuns runs old new
     → up_to (cursor_of_pass runs.pass) grown ≡ up_to (cursor_of_pass runs.pass) a → AreOf runs tree a old → HoldsTree runs.sizes next new
     → next.catalogue ≡ tree.catalogue → next.c1 ≡ tree.c1 → next.c1x ≡ tree.c1x → next.c2 ≡ tree.c2 → AreOf runs next grown new
-over_tree pushed ahead runs tree next a grown old new same behind is holds catalogue c1 c1x c2 = record {
+over_tree runs tree next a grown old new same behind is holds catalogue c1 c1x c2 = record {
   holds = holds;
   catalogue = catalogue ∙ is.catalogue;
   c1 = subst (λ (ps : List RunPage). AreTagged runs.space runs.tags.c1 ps) (sym c1) is.c1;
@@ -73,10 +73,10 @@ over_tree pushed ahead runs tree next a grown old new same behind is holds catal
   c2 = subst (λ (ps : List RunPage). AreTagged runs.space runs.tags.c2 ps) (sym c2) is.c2;
   pass = subst (λ (ps : List RunPage). IsPassOver runs.sizes new runs.space (guide_at runs.guides runs.tags.pass) runs.pass grown ps) (sym c1)
       (grown_over runs.sizes new runs.space (guide_at runs.guides runs.tags.pass) runs.pass a grown tree.c1 behind
-      (pass_over_still pushed ahead (guide_at runs.guides runs.tags.pass) runs.pass a tree.c1 (keeps_used runs true old new (tag_of_pass runs.pass) (λ told. same)) (pages_used runs runs.tags.c1) (pass_has_it runs.pass) is.c1 is.pass));
+      (pass_over_still (guide_at runs.guides runs.tags.pass) runs.pass a tree.c1 (keeps_used runs true old new (tag_of_pass runs.pass) (λ told. same)) (pages_used runs runs.tags.c1) (pass_has_it runs.pass) is.c1 is.pass));
   deep = subst (λ (ps : List RunPage). IsDeepOver runs.sizes new runs.space (guide_at runs.guides runs.tags.deep) runs.deep ps next.c2) (sym c1x)
       (subst (λ (ps : List RunPage). IsDeepOver runs.sizes new runs.space (guide_at runs.guides runs.tags.deep) runs.deep tree.c1x ps) (sym c2)
-      (deep_over_still pushed ahead (guide_at runs.guides runs.tags.deep) runs.deep tree.c1x tree.c2 (keeps_used runs true old new (tag_of_deep runs.deep) (λ told. same)) (pages_used runs runs.tags.c1x) (pages_used runs runs.tags.c2) (deep_has_it runs.deep) is.c1x is.c2 is.deep));
+      (deep_over_still (guide_at runs.guides runs.tags.deep) runs.deep tree.c1x tree.c2 (keeps_used runs true old new (tag_of_deep runs.deep) (λ told. same)) (pages_used runs runs.tags.c1x) (pages_used runs runs.tags.c2) (deep_has_it runs.deep) is.c1x is.c2 is.deep));
   guided = record {
     c1 = subst (λ (ps : List RunPage). IsGuidedBy (guide_at runs.guides runs.tags.c1) ps) (sym c1) is.guided.c1;
     c1x = subst (λ (ps : List RunPage). IsGuidedBy (guide_at runs.guides runs.tags.c1x) ps) (sym c1x) is.guided.c1x;
@@ -84,17 +84,17 @@ over_tree pushed ahead runs tree next a grown old new same behind is holds catal
   };
 }
 
-pub lists_stay : KeepsPushed → KeepsAhead → ListsStay
-lists_stay pushed ahead runs tree a old new same is holds =
-    over_tree pushed ahead runs tree tree a a old new same refl is holds refl refl refl refl
+pub lists_stay : ListsStay
+lists_stay runs tree a old new same is holds =
+    over_tree runs tree tree a a old new same refl is holds refl refl refl refl
 
-pub entries_join : KeepsPushed → KeepsAhead → EntriesJoin
-entries_join pushed ahead runs tree a old new key rec same is_ahead is holds =
-    over_tree pushed ahead runs tree (appended_a (key, rec) tree) a (with_record key rec a) old new same (grown_ahead (cursor_of_pass runs.pass) key rec a is_ahead) is holds refl refl refl refl
+pub entries_join : EntriesJoin
+entries_join runs tree a old new key rec same is_ahead is holds =
+    over_tree runs tree (appended_a (key, rec) tree) a (with_record key rec a) old new same (grown_ahead (cursor_of_pass runs.pass) key rec a is_ahead) is holds refl refl refl refl
 
-pub entries_wait : KeepsPushed → KeepsAhead → EntriesWait
-entries_wait pushed ahead runs tree a old new key rec same is holds =
-    over_tree pushed ahead runs tree (appended_b (key, rec) tree) a a old new same refl is holds refl refl refl refl
+pub entries_wait : EntriesWait
+entries_wait runs tree a old new key rec same is holds =
+    over_tree runs tree (appended_b (key, rec) tree) a a old new same refl is holds refl refl refl refl
 
 -- ---- numbers
 

@@ -21,7 +21,7 @@ use Rattle.tree_file.specs.Tree.{Tree, live_pages}
 use Rattle.tree_runs.specs.Runs.{RunsState, AreRuns, AreRunning, guide_at, page_share}
 use Rattle.tree_runs.specs.Holding.{AreOf}
 use Rattle.tree_runs.proofs.StayLemmas.{live_tagged}
-use Rattle.tree_runs.proofs.KeptMerges.{KeepsRun, KeepsPages, KeepsPushed, KeepsAhead, pass_runs_still, deep_runs_still, pass_over_still, deep_over_still}
+use Rattle.tree_runs.proofs.KeptMerges.{KeepsRun, KeepsPages, pass_runs_still, deep_runs_still, pass_over_still, deep_over_still}
 use Rattle.tree_runs.proofs.BesideLemmas.{tag_of_pass, tag_of_deep, pass_has_it, deep_has_it}
 
 -- The same pages have each tag; no run that is written has a pinned one, and no seat pins more than its share.
@@ -72,24 +72,24 @@ runs_repinned runs after is are = record {
   guides = are.guides;
 }
 
-pub running_repinned : KeepsPushed → (runs : RunsState) (after : SpaceState) → Repinned runs after → (honest : Bool) (file : List ℕ) → AreRunning honest file runs
+pub running_repinned : (runs : RunsState) (after : SpaceState) → Repinned runs after → (honest : Bool) (file : List ℕ) → AreRunning honest file runs
     → AreRunning honest file (record runs { space = after })
-running_repinned pushed runs after is honest file running = record {
+running_repinned runs after is honest file running = record {
   in_order = runs_repinned runs after is running.in_order;
-  pass = pass_runs_still pushed runs.tags.pass (guide_at runs.guides runs.tags.pass) runs.pass (keeps_run file runs.tags.pass is) running.in_order.pass_tag running.pass;
-  deep = deep_runs_still pushed runs.tags.deep (guide_at runs.guides runs.tags.deep) runs.deep (keeps_run file runs.tags.deep is) running.in_order.deep_tag running.deep;
+  pass = pass_runs_still runs.tags.pass (guide_at runs.guides runs.tags.pass) runs.pass (keeps_run file runs.tags.pass is) running.in_order.pass_tag running.pass;
+  deep = deep_runs_still runs.tags.deep (guide_at runs.guides runs.tags.deep) runs.deep (keeps_run file runs.tags.deep is) running.in_order.deep_tag running.deep;
 }
 
-pub lists_repinned : KeepsPushed → KeepsAhead → (runs : RunsState) (after : SpaceState) → Repinned runs after → (tree : Tree) (a : Entries) (file : List ℕ) → AreOf runs tree a file
+pub lists_repinned : (runs : RunsState) (after : SpaceState) → Repinned runs after → (tree : Tree) (a : Entries) (file : List ℕ) → AreOf runs tree a file
     → AreOf (record runs { space = after }) tree a file
-lists_repinned pushed ahead runs after is tree a file of = record {
+lists_repinned runs after is tree a file of = record {
   holds = of.holds;
   catalogue = of.catalogue;
   c1 = λ n has. has_now is runs.tags.c1 n (of.c1 n has);
   c1x = λ n has. has_now is runs.tags.c1x n (of.c1x n has);
   c2 = λ n has. has_now is runs.tags.c2 n (of.c2 n has);
-  pass = pass_over_still pushed ahead (guide_at runs.guides runs.tags.pass) runs.pass a tree.c1 (keeps_run file (tag_of_pass runs.pass) is) (keeps_pages runs.tags.c1 is) (pass_has_it runs.pass) of.c1 of.pass;
-  deep = deep_over_still pushed ahead (guide_at runs.guides runs.tags.deep) runs.deep tree.c1x tree.c2 (keeps_run file (tag_of_deep runs.deep) is) (keeps_pages runs.tags.c1x is) (keeps_pages runs.tags.c2 is)
+  pass = pass_over_still (guide_at runs.guides runs.tags.pass) runs.pass a tree.c1 (keeps_run file (tag_of_pass runs.pass) is) (keeps_pages runs.tags.c1 is) (pass_has_it runs.pass) of.c1 of.pass;
+  deep = deep_over_still (guide_at runs.guides runs.tags.deep) runs.deep tree.c1x tree.c2 (keeps_run file (tag_of_deep runs.deep) is) (keeps_pages runs.tags.c1x is) (keeps_pages runs.tags.c2 is)
       (deep_has_it runs.deep) of.c1x of.c2 of.deep;
   guided = of.guided;
 }

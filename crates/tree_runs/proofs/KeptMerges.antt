@@ -16,8 +16,10 @@ use Rattle.record_delta.specs.Entries.{Entries, folded_over, up_to}
 use Rattle.page_space.specs.Space.{SpaceState, HasRole}
 use Rattle.page_file.specs.Component.{RunPage, numbers_of, entries_of}
 use Rattle.page_file.specs.File.{page_start, AreSamePages}
-use Rattle.run_cursor.specs.Cursor.{CursorState, HasAhead}
-use Rattle.run_writer.specs.Writer.{WriterState, HasPushed, role_region, loose_region}
+use Rattle.run_cursor.specs.Cursor.{CursorState}
+use Rattle.run_cursor.proofs.AheadLemmas.{ahead_kept}
+use Rattle.run_writer.specs.Writer.{WriterState, HasPushed, role_region}
+use Rattle.run_writer.proofs.RegionLemmas.{pushed_kept}
 use Rattle.merge_ends.specs.Input.{IsInput}
 use Rattle.merge_ends.specs.Output.{HasRun}
 use Rattle.snow_merge.specs.Pass.{SnowState}
@@ -38,19 +40,7 @@ pub record KeepsPages (sizes : Sizes) (space after : SpaceState) (region : Regio
   pub tagged : (n : ℕ) → HasRole space tag n → HasRole after tag n
   pub apart : AreApart region (role_region sizes space tag)
 
--- The list that was pushed stays where other pages are written and other tags change hands: a law of runs.
-abbrev pub KeepsPushed : Type 0
-KeepsPushed =
-    (sizes : Sizes) (honest : Bool) (old new : List ℕ) (space after : SpaceState) (writer : WriterState) (filter : BitState) (fences : FencesState) (entries : Entries) → ((n : ℕ) → HasRole space writer.role n → HasRole after writer.role n)
-    → (IsTrue honest → IsSameOutside (loose_region sizes space writer) old new) → HasPushed sizes honest old space writer filter fences entries → HasPushed sizes honest new after writer filter fences entries
-
--- What a cursor has ahead it still has where the pages that it hasn't read read the same: a law of cursors.
-abbrev pub KeepsAhead : Type 0
-KeepsAhead =
-    (sizes : Sizes) (cursor : CursorState) (rest : Entries) (old new : List ℕ) (before : HasAhead sizes cursor rest old) → AreSamePages sizes (numbers_of before.coming) old new
-    → (now : HasAhead sizes cursor rest new) × (now.coming ≡ before.coming)
-
-module _ (pushed_kept : KeepsPushed) {sizes : Sizes} {honest : Bool} {region : Region} {old new : List ℕ} {space after : SpaceState} where
+module _ {sizes : Sizes} {honest : Bool} {region : Region} {old new : List ℕ} {space after : SpaceState} where
   pushed_still : {tag : ℕ} {writer : WriterState} {filter : BitState} {fences : FencesState} (entries : Entries) → KeepsRun sizes honest region old new space after tag → writer.role ≡ tag
       → HasPushed sizes honest old space writer filter fences entries → HasPushed sizes honest new after writer filter fences entries
   pushed_still {tag} {writer} {filter} {fences} entries keeps role pushed =
@@ -69,7 +59,7 @@ module _ (pushed_kept : KeepsPushed) {sizes : Sizes} {honest : Bool} {region : R
   deep_runs_still tag guide merge h1 h2 h3 = grind (arith, common_steps, nat_tests, run_still)
 
 -- the lists, on an honest disk
-module _ (pushed_kept : KeepsPushed) (ahead_kept : KeepsAhead) {sizes : Sizes} {region : Region} {old new : List ℕ} {space after : SpaceState} where
+module _ {sizes : Sizes} {region : Region} {old new : List ℕ} {space after : SpaceState} where
   input_still : {tag of_input role : ℕ} {at : Option Key} {cursor : CursorState} {entries : Entries} (pages : List RunPage) (keeps : KeepsRun sizes true region old new space after tag) → role ≡ tag
       → KeepsPages sizes space after region of_input → AreTagged space of_input pages
       → IsInput sizes old space role at cursor (numbers_of pages) entries → IsInput sizes new after role at cursor (numbers_of pages) entries
@@ -96,7 +86,7 @@ module _ (pushed_kept : KeepsPushed) (ahead_kept : KeepsAhead) {sizes : Sizes} {
   pass_over_still guide (Some snow) a c1 keeps stays role tagged over = record {
     newer_is = over.newer_is;
     older_is = input_still c1 keeps role stays tagged over.older_is;
-    run = run_still pushed_kept keeps role over.run;
+    run = run_still keeps role over.run;
     out_is = over.out_is;
     closed_up = over.closed_up;
     closed_is = over.closed_is;
@@ -111,7 +101,7 @@ module _ (pushed_kept : KeepsPushed) (ahead_kept : KeepsAhead) {sizes : Sizes} {
   deep_over_still guide (Some merge) c1x c2 keeps newer older role tagged tagged_c2 over = record {
     newer_is = input_still c1x keeps role newer tagged over.newer_is;
     older_is = input_still c2 keeps role older tagged_c2 over.older_is;
-    run = run_still pushed_kept keeps role over.run;
+    run = run_still keeps role over.run;
     out_is = over.out_is;
     closed_up = over.closed_up;
     closed_is = over.closed_is;

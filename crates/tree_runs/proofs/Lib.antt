@@ -7,7 +7,7 @@ mod QuantumLemmas
 mod FindLemmas
 mod ToldLemmas
 mod GuideLemmas
-mod BesideLemmas
+pub mod BesideLemmas
 mod HoldLemmas
 pub mod QuantaLemmas
 mod InstallLemmas
@@ -18,3 +18,4 @@ mod CatalogLemmas
 mod SwapLemmas
 mod NextTrees
 mod Swapped
+pub mod ClaimLemmas

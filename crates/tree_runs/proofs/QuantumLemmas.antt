@@ -26,7 +26,7 @@ use Rattle.tree_runs.specs.Runs.{GuideState, RunsState, Tags, AreGuides, AreRuns
 use Rattle.tree_runs.specs.Holding.{IsPassOver, IsDeepOver, StandOver, KeepsAllButPass, KeepsAllButDeep, PassTook, DeepTook}
 use Rattle.tree_runs.proofs.CountLemmas.{within_more, other_size}
 use Rattle.tree_runs.proofs.GuideLemmas.{WritesGuide, all_guided_still}
-use Rattle.tree_runs.proofs.KeptMerges.{KeepsPushed, KeepsAhead, deep_runs_still, pass_runs_still, deep_over_still, pass_over_still}
+use Rattle.tree_runs.proofs.KeptMerges.{deep_runs_still, pass_runs_still, deep_over_still, pass_over_still}
 use Rattle.tree_runs.proofs.StayLemmas.{one_tag_after, tag_kept, keeps_other, pages_other, role_is_beside, not_live, run_filled}
 
 -- ---- results
@@ -128,11 +128,11 @@ pass_in_order runs after guides snow next is are shape takes size role filled re
     }
 
 -- On any disk.
-pub pass_ran : KeepsPushed → (runs : RunsState) (after : SpaceState) (guides : List GuideState) (guide : GuideState) (snow next : SnowState) (a : Entries) (result : Result ℕ Broken) (old new : DiskState) → runs.pass ≡ Some snow
+pub pass_ran : (runs : RunsState) (after : SpaceState) (guides : List GuideState) (guide : GuideState) (snow next : SnowState) (a : Entries) (result : Result ℕ Broken) (old new : DiskState) → runs.pass ≡ Some snow
     → AreRunning old.is_honest old.bytes runs → IsSpace after → WritesGuide runs.sizes runs.tags.pass runs.guides guides guide
     → PassQuantum runs.sizes runs.space after (guide_at runs.guides runs.tags.pass) guide snow next a result old new
     → OnOk result (AreRunning new.is_honest new.bytes (passed runs after guides next))
-pass_ran pushed runs after guides guide snow next a result old new is running shape writes quantum =
+pass_ran runs after guides guide snow next a result old new is running shape writes quantum =
     both_ok result quantum.on.runs quantum.on.size
     (λ goes size. record {
       in_order = pass_in_order runs after guides snow next is running.in_order shape works.takes
@@ -140,7 +140,7 @@ pass_ran pushed runs after guides guide snow next a result old new is running sh
           (run_filled runs.sizes new.is_honest new.bytes after next.writer guide.filter guide.fences goes.running.run.out goes.running.run.pushed) writes.reserved;
       pass = subst (λ (g : GuideState). PassRuns runs.sizes new.is_honest new.bytes after g (Some next)) (sym writes.here) goes.running;
       deep = subst (λ (g : GuideState). DeepRuns runs.sizes new.is_honest new.bytes after g runs.deep) (sym (writes.others runs.tags.deep (λ same. running.in_order.tags.pass_deep (sym same))))
-          (deep_runs_still pushed runs.tags.deep (guide_at runs.guides runs.tags.deep) runs.deep
+          (deep_runs_still runs.tags.deep (guide_at runs.guides runs.tags.deep) runs.deep
           (keeps_other runs.sizes runs.tags.deep (λ same. running.in_order.tags.pass_deep (sym same)) (one_tag_after works.takes running.in_order.one_tag) works.takes
           (λ told. works.effect.bytes (subst IsTrue works.effect.goes_on.is_honest told)))
           running.in_order.deep_tag (subst (λ (b : Bool). DeepRuns runs.sizes b old.bytes runs.space (guide_at runs.guides runs.tags.deep) runs.deep) (sym works.effect.goes_on.is_honest) running.deep));
@@ -153,10 +153,10 @@ pass_ran pushed runs after guides guide snow next a result old new is running sh
     works = pass_works runs after (guide_at runs.guides runs.tags.pass) guide snow next a result old new is running.in_order quantum
 
 -- On an honest disk.
-pub pass_stands : KeepsPushed → KeepsAhead → (runs : RunsState) (after : SpaceState) (guides : List GuideState) (guide : GuideState) (snow next : SnowState) (a : Entries) (result : Result ℕ Broken) (old new : DiskState) → runs.pass ≡ Some snow → AreRuns runs → IsSpace after
+pub pass_stands : (runs : RunsState) (after : SpaceState) (guides : List GuideState) (guide : GuideState) (snow next : SnowState) (a : Entries) (result : Result ℕ Broken) (old new : DiskState) → runs.pass ≡ Some snow → AreRuns runs → IsSpace after
     → WritesGuide runs.sizes runs.tags.pass runs.guides guides guide → PassQuantum runs.sizes runs.space after (guide_at runs.guides runs.tags.pass) guide snow next a result old new → IsTimed new → (tree : Tree) → IsTrue old.is_honest → StandOver runs tree a old → result ≢ Err Fault
     → (n : ℕ) × (result ≡ Ok n) × StandOver (passed runs after guides next) tree a new × PassTook runs.sizes.quantum runs.pass (Some next) a (entries_of tree.c1) n
-pass_stands pushed ahead runs after guides guide snow next a result old new is are shape writes quantum timed tree honest stand other =
+pass_stands runs after guides guide snow next a result old new is are shape writes quantum timed tree honest stand other =
     let over = subst (λ (p : Option SnowState). IsPassOver runs.sizes old.bytes runs.space (guide_at runs.guides runs.tags.pass) p a tree.c1) is stand.are_of.pass in
     let took = quantum.took (numbers_of tree.c1) (entries_of tree.c1) honest over other in
     let stood = (tree_stays runs tree a runs.tags.pass (runs.sizes.quantum / 7 + 2) after old new are (pass_is_run runs are) shape works honest timed stand).0 in (
@@ -172,7 +172,7 @@ pass_stands pushed ahead runs after guides guide snow next a result old new is a
           c2 = λ n has. tag_kept works.takes runs.tags.c2 are.tags.c2_pass n (stand.are_of.c2 n has);
           pass = subst (λ (g : GuideState). IsPassOver runs.sizes new.bytes after g (Some next) a tree.c1) (sym writes.here) took.2;
           deep = subst (λ (g : GuideState). IsDeepOver runs.sizes new.bytes after g runs.deep tree.c1x tree.c2) (sym (writes.others runs.tags.deep (λ same. are.tags.pass_deep (sym same))))
-              (deep_over_still pushed ahead (guide_at runs.guides runs.tags.deep) runs.deep tree.c1x tree.c2 (keeps_other runs.sizes runs.tags.deep (λ same. are.tags.pass_deep (sym same)) one_tag works.takes (λ told. works.effect.bytes honest))
+              (deep_over_still (guide_at runs.guides runs.tags.deep) runs.deep tree.c1x tree.c2 (keeps_other runs.sizes runs.tags.deep (λ same. are.tags.pass_deep (sym same)) one_tag works.takes (λ told. works.effect.bytes honest))
               (pages_other runs.sizes runs.tags.c1x are.tags.c1x_pass one_tag works.takes) (pages_other runs.sizes runs.tags.c2 are.tags.c2_pass one_tag works.takes) are.deep_tag stand.are_of.c1x stand.are_of.c2 stand.are_of.deep);
           guided = all_guided_still runs.guides guides runs.tags tree writes.others are.tags.c1_pass are.tags.c1x_pass are.tags.c2_pass stand.are_of.guided;
         };
@@ -236,18 +236,18 @@ deep_in_order runs after guides merge next is are shape takes size role filled r
     }
 
 -- On any disk.
-pub deep_ran : KeepsPushed → (runs : RunsState) (after : SpaceState) (guides : List GuideState) (guide : GuideState) (merge next : DeepState) (result : Result ℕ Broken) (old new : DiskState) → runs.deep ≡ Some merge
+pub deep_ran : (runs : RunsState) (after : SpaceState) (guides : List GuideState) (guide : GuideState) (merge next : DeepState) (result : Result ℕ Broken) (old new : DiskState) → runs.deep ≡ Some merge
     → AreRunning old.is_honest old.bytes runs → IsSpace after → WritesGuide runs.sizes runs.tags.deep runs.guides guides guide
     → DeepQuantum runs.sizes runs.space after (guide_at runs.guides runs.tags.deep) guide merge next result old new
     → OnOk result (AreRunning new.is_honest new.bytes (deepened runs after guides next))
-deep_ran pushed runs after guides guide merge next result old new is running shape writes quantum =
+deep_ran runs after guides guide merge next result old new is running shape writes quantum =
     both_ok result quantum.on.runs quantum.on.size
     (λ goes size. record {
       in_order = deep_in_order runs after guides merge next is running.in_order shape works.takes
           (subst (λ (r : ℕ). role_size after r + merge.writer.component.pages ≡ role_size runs.space r + next.writer.component.pages) role size) (quantum.on.role ∙ role)
           (run_filled runs.sizes new.is_honest new.bytes after next.writer guide.filter guide.fences goes.running.run.out goes.running.run.pushed) writes.reserved;
       pass = subst (λ (g : GuideState). PassRuns runs.sizes new.is_honest new.bytes after g runs.pass) (sym (writes.others runs.tags.pass running.in_order.tags.pass_deep))
-          (pass_runs_still pushed runs.tags.pass (guide_at runs.guides runs.tags.pass) runs.pass
+          (pass_runs_still runs.tags.pass (guide_at runs.guides runs.tags.pass) runs.pass
           (keeps_other runs.sizes runs.tags.pass running.in_order.tags.pass_deep (one_tag_after works.takes running.in_order.one_tag) works.takes
           (λ told. works.effect.bytes (subst IsTrue works.effect.goes_on.is_honest told)))
           running.in_order.pass_tag (subst (λ (b : Bool). PassRuns runs.sizes b old.bytes runs.space (guide_at runs.guides runs.tags.pass) runs.pass) (sym works.effect.goes_on.is_honest) running.pass));
@@ -261,10 +261,10 @@ deep_ran pushed runs after guides guide merge next result old new is running sha
     works = deep_works runs after (guide_at runs.guides runs.tags.deep) guide merge next result old new is running.in_order quantum
 
 -- On an honest disk.
-pub deep_stands : KeepsPushed → KeepsAhead → (runs : RunsState) (after : SpaceState) (guides : List GuideState) (guide : GuideState) (merge next : DeepState) (result : Result ℕ Broken) (old new : DiskState) → runs.deep ≡ Some merge → AreRuns runs → IsSpace after
+pub deep_stands : (runs : RunsState) (after : SpaceState) (guides : List GuideState) (guide : GuideState) (merge next : DeepState) (result : Result ℕ Broken) (old new : DiskState) → runs.deep ≡ Some merge → AreRuns runs → IsSpace after
     → WritesGuide runs.sizes runs.tags.deep runs.guides guides guide → DeepQuantum runs.sizes runs.space after (guide_at runs.guides runs.tags.deep) guide merge next result old new → IsTimed new → (tree : Tree) (a : Entries) → IsTrue old.is_honest → StandOver runs tree a old → result ≢ Err Fault
     → (n : ℕ) × (result ≡ Ok n) × StandOver (deepened runs after guides next) tree a new × DeepTook runs.sizes.quantum runs.deep (Some next) (entries_of tree.c1x) (entries_of tree.c2) n
-deep_stands pushed ahead runs after guides guide merge next result old new is are shape writes quantum timed tree a honest stand other =
+deep_stands runs after guides guide merge next result old new is are shape writes quantum timed tree a honest stand other =
     let over = subst (λ (d : Option DeepState). IsDeepOver runs.sizes old.bytes runs.space (guide_at runs.guides runs.tags.deep) d tree.c1x tree.c2) is stand.are_of.deep in
     let took = quantum.took (numbers_of tree.c1x) (numbers_of tree.c2) (entries_of tree.c1x) (entries_of tree.c2) honest over other in
     let stood = (tree_stays runs tree a runs.tags.deep (runs.sizes.quantum / 4 + 3) after old new are (deep_is_run runs are) shape works honest timed stand).0 in (
@@ -279,7 +279,7 @@ deep_stands pushed ahead runs after guides guide merge next result old new is ar
           c1x = λ n has. tag_kept works.takes runs.tags.c1x are.tags.c1x_deep n (stand.are_of.c1x n has);
           c2 = λ n has. tag_kept works.takes runs.tags.c2 are.tags.c2_deep n (stand.are_of.c2 n has);
           pass = subst (λ (g : GuideState). IsPassOver runs.sizes new.bytes after g runs.pass a tree.c1) (sym (writes.others runs.tags.pass are.tags.pass_deep))
-              (pass_over_still pushed ahead (guide_at runs.guides runs.tags.pass) runs.pass a tree.c1 (keeps_other runs.sizes runs.tags.pass are.tags.pass_deep one_tag works.takes (λ told. works.effect.bytes honest))
+              (pass_over_still (guide_at runs.guides runs.tags.pass) runs.pass a tree.c1 (keeps_other runs.sizes runs.tags.pass are.tags.pass_deep one_tag works.takes (λ told. works.effect.bytes honest))
               (pages_other runs.sizes runs.tags.c1 are.tags.c1_deep one_tag works.takes) are.pass_tag stand.are_of.c1 stand.are_of.pass);
           deep = subst (λ (g : GuideState). IsDeepOver runs.sizes new.bytes after g (Some next) tree.c1x tree.c2) (sym writes.here) took.2;
           guided = all_guided_still runs.guides guides runs.tags tree writes.others are.tags.c1_deep are.tags.c1x_deep are.tags.c2_deep stand.are_of.guided;

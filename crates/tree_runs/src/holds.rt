@@ -18,9 +18,7 @@ use crate::runs::Runs;
 use blsm_model::Key;
 use mem_table::Table;
 use refusal::NoMemory;
-use run_cursor::what_is_ahead;
-use run_writer::where_a_run_writes;
-use scan_view::{Hold, pins_stay};
+use scan_view::Hold;
 use std::alloc::Global;
 
 impl Runs {
@@ -54,11 +52,8 @@ impl Runs {
         ensures running { (honest : Bool) (file : List ℕ) → AreRunning honest file self.old → AreRunning honest file self.new }
         ensures lists { (tree : Tree) (table : Entries) (file : List ℕ) → AreOf self.old tree table file → AreOf self.new tree table file }
     {
-        what_is_ahead();
-        where_a_run_writes();
-        pins_stay();
         let now = self.catalogue;
-        let hold = Hold::build(
+        Hold::build(
             alloc,
             seat,
             low,
@@ -72,10 +67,7 @@ impl Runs {
             self.c1,
             self.c1x,
             self.c2,
-        );
-        // A map keeps its shape.
-        let _pages = self.space.pages();
-        hold
+        )
     }
 
     /// Drops the pins of a caller's seat. Its pages that are no component's and no run's, and that no other seat pins, are free then.
@@ -87,8 +79,6 @@ impl Runs {
         ensures running { (honest : Bool) (file : List ℕ) → AreRunning honest file self.old → AreRunning honest file self.new }
         ensures lists { (tree : Tree) (table : Entries) (file : List ℕ) → AreOf self.old tree table file → AreOf self.new tree table file }
     {
-        what_is_ahead();
-        where_a_run_writes();
         self.space.unpin(seat);
     }
 }

@@ -2,9 +2,6 @@
 //! they stand for the laws that their clauses name.
 ghost use Rattle.tree_runs.specs.Laws.{HeadIsBeside, HeadIsUnpinned, RunsStay, ListsStay, EntriesJoin, EntriesWait, LeftGrows, ClaimsAdd, TakenAreRead};
 
-use run_cursor::what_is_ahead;
-use run_writer::where_a_run_writes;
-
 /// What others write, the log and the catalogue, is beside the pages of the components and the runs, and beside those of holds. So the merges go on over the same
 /// lists, and over table A with each entry that joins it ahead of the pass.
 pub fn others_may_write()
@@ -15,10 +12,7 @@ pub fn others_may_write()
     ensures joins { EntriesJoin }
     ensures waits { EntriesWait }
     ensures left { LeftGrows }
-{
-    what_is_ahead();
-    where_a_run_writes();
-}
+{}
 
 /// Where the pages of C1, C1' and C2 are claimed in a map that has none in use, each of them while it is free, no page has two tags, and
 /// each component has as many as it claimed.

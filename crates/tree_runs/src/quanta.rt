@@ -10,8 +10,6 @@ use crate::runs::Runs;
 use disk_trait::Disk;
 use mem_table::Table;
 use page_file::Broken;
-use run_cursor::what_is_ahead;
-use run_writer::where_a_run_writes;
 
 impl Runs {
     /// The pass takes a quantum of table A and C1, and gives the weight that it took.
@@ -34,8 +32,6 @@ impl Runs {
         ensures runs { IsSome self.new.pass }
         ensures others { KeepsAllButPass self.old self.new }
     {
-        what_is_ahead();
-        where_a_run_writes();
         let merges = &mut *self.merges;
         match &mut merges.pass {
             Some(snow) => {
@@ -71,8 +67,6 @@ impl Runs {
         ensures runs { IsSome self.new.deep }
         ensures others { KeepsAllButDeep self.old self.new }
     {
-        what_is_ahead();
-        where_a_run_writes();
         let merges = &mut *self.merges;
         match &mut merges.deep {
             Some(deep) => {

@@ -24,8 +24,6 @@ use disk_trait::Disk;
 use mem_table::Table;
 use page_file::no_component;
 use refusal::Failed;
-use run_cursor::what_is_ahead;
-use run_writer::{a_run_has_room, where_a_run_writes};
 
 // Commits the catalogue after the newest one: closes what must be closed before, and writes it.
 fn commit_next<D: Disk>(
@@ -68,8 +66,6 @@ impl Runs {
         ensures effect { Affects (beside_pins self.old.sizes self.old.space.pins) (file_length self.old.sizes) 9 (D.state disk.old) (D.state disk.new) }
         ensures faults { TellsFaults result (D.state disk.old) (D.state disk.new) }
     {
-        what_is_ahead();
-        where_a_run_writes();
         let made = self.finish_deep(disk)?;
         let next = self.after_deep(made);
         commit_next(disk, &self.geometry, &self.catalogue, &next)?;
@@ -100,8 +96,6 @@ impl Runs {
         ensures effect { Affects (beside_pins self.old.sizes self.old.space.pins) (file_length self.old.sizes) 9 (D.state disk.old) (D.state disk.new) }
         ensures faults { TellsFaults result (D.state disk.old) (D.state disk.new) }
     {
-        what_is_ahead();
-        where_a_run_writes();
         let made = self.finish_pass(disk, a)?;
         let rotates = self.geometry.c1_mark() <= made.weight;
         let next = self.after_pass(made, rotates);
@@ -192,8 +186,6 @@ impl Runs {
             → IsGuidedBy (guide_at self.old.guides self.old.tags.c1) tree.c1 → IsGuidedBy (guide_at self.old.guides self.old.tags.deep) run
             → IsPassOver self.old.sizes file self.old.space (guide_at self.old.guides self.old.tags.pass) self.old.pass a tree.c1 → AreOf self.new (with_components next.now tree.c1 [] run tree) a file }
     {
-        what_is_ahead();
-        where_a_run_writes();
         self.catalogue = *next;
         self.space.release(self.c1x);
         self.space.release(self.c2);
@@ -216,8 +208,6 @@ impl Runs {
             → IsGuidedBy (guide_at self.old.guides self.old.tags.pass) run → IsGuidedBy (guide_at self.old.guides self.old.tags.c1x) tree.c1x → IsGuidedBy (guide_at self.old.guides self.old.tags.c2) tree.c2
             → IsDeepOver self.old.sizes file self.old.space (guide_at self.old.guides self.old.tags.deep) self.old.deep tree.c1x tree.c2 → AreOf self.new (with_pass next.now run tree.c1x tree.c2 tree) a file }
     {
-        what_is_ahead();
-        where_a_run_writes();
         self.catalogue = *next;
         self.space.release(self.c1);
         (self.c1, self.pass) = (self.pass, self.c1);
@@ -292,7 +282,6 @@ impl Runs {
         let merges = &mut *self.merges;
         match &mut merges.deep {
             Some(deep) => {
-                a_run_has_room();
                 deep.finish(disk, &self.geometry)
             }
             None => unreachable!(),
@@ -313,7 +302,6 @@ impl Runs {
         let merges = &mut *self.merges;
         match &mut merges.pass {
             Some(snow) => {
-                a_run_has_room();
                 snow.finish(disk, &self.geometry, a)
             }
             None => unreachable!(),

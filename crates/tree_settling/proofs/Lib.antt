@@ -6,3 +6,4 @@ pub mod PassLemmas
 pub mod StepLemmas
 pub mod TakenLemmas
 pub mod ToldLemmas
+pub mod LightLemmas

@@ -1,10 +1,11 @@
+use Rattle.tree_settling.proofs.LightLemmas.{all_before_it}
 use Rattle.recover_open.proofs.BeginLemmas.{has_begun, begins_in}
 use Rattle.recover_open.proofs.beginning.begin.Goals as goal
 
 pub returns-clause-numbers : goal.returns-clause-numbers
 returns-clause-numbers c =
     let found = c.requires.found in
-    has_begun c.an_opening_has_all_before_it.ensures c.args.found c.args.guides found.0 found.1 c.open-runs.result c.open-log.result found.2 c.open-runs.ensures.opened c.open-log.ensures
+    has_begun all_before_it c.args.found c.args.guides found.0 found.1 c.open-runs.result c.open-log.result found.2 c.open-runs.ensures.opened c.open-log.ensures
 
 pub returns-clause-lists : goal.returns-clause-lists
 returns-clause-lists c = λ file holds guided.

@@ -1,6 +1,7 @@
 use Rattle.std.proofs.Common.{IsTrue, sym, subst}
 use Rattle.disk_trait.specs.Reads.{OnlyReads}
 use Rattle.disk_trait.proofs.ReadLemmas.{only_reads_call}
+use Rattle.tree_file.proofs.OneTree.{first_holds}
 use Rattle.recover_open.proofs.MakingLemmas.{leaves_behind, unsynced_behind, effect_behind, made_empty}
 use Rattle.recover_open.proofs.making.make_store.Goals as goal
 use Rattle.recover_open.proofs.making.make_store.Goals.{After-make_store}
@@ -10,7 +11,7 @@ looked g c = let e = c.len.ensures in only_reads_call (g.met.D.Disk.timed c.args
 
 pub returns-in_err-make_store-clause-leaves : goal.returns-in_err-make_store-clause-leaves
 returns-in_err-make_store-clause-leaves g c = λ honest none.
-    leaves_behind c.a_first_tree.ensures.holds c.args.geometry.now (g.met.D.Disk.timed c.args.disk.now) (g.met.D.Disk.timed c.len.new.self) honest (looked g (goal.at.returns-in_err-make_store-clause-leaves g c).After-make_store)
+    leaves_behind first_holds c.args.geometry.now (g.met.D.Disk.timed c.args.disk.now) (g.met.D.Disk.timed c.len.new.self) honest (looked g (goal.at.returns-in_err-make_store-clause-leaves g c).After-make_store)
     (c.make_store.ensures.half_made (subst IsTrue (sym c.len.ensures.passes.goes_on.is_honest) honest))
 
 pub returns-in_err-make_store-clause-unsynced : goal.returns-in_err-make_store-clause-unsynced
@@ -24,11 +25,11 @@ returns-in_err-make_store-clause-effect g c =
 
 pub returns-clause-made : goal.returns-clause-made
 returns-clause-made g c = λ honest.
-    made_empty c.a_first_tree.ensures.holds c.args.geometry.now c.in_ok-make_store.ensures.made (subst IsTrue (sym c.len.ensures.passes.goes_on.is_honest) honest)
+    made_empty first_holds c.args.geometry.now c.in_ok-make_store.ensures.made (subst IsTrue (sym c.len.ensures.passes.goes_on.is_honest) honest)
 
 pub returns-clause-leaves : goal.returns-clause-leaves
 returns-clause-leaves g c = λ honest none.
-    leaves_behind c.a_first_tree.ensures.holds c.args.geometry.now (g.met.D.Disk.timed c.args.disk.now) (g.met.D.Disk.timed c.len.new.self) honest (looked g (goal.at.returns-clause-leaves g c).After-make_store)
+    leaves_behind first_holds c.args.geometry.now (g.met.D.Disk.timed c.args.disk.now) (g.met.D.Disk.timed c.len.new.self) honest (looked g (goal.at.returns-clause-leaves g c).After-make_store)
     (c.make_store.ensures.half_made (subst IsTrue (sym c.len.ensures.passes.goes_on.is_honest) honest))
 
 pub returns-clause-unsynced : goal.returns-clause-unsynced

@@ -1,5 +1,6 @@
 use Rattle.std.proofs.Common.{sym, subst, IsTrue, List, ℕ}
 use Rattle.std.specs.Prelude.{IfErr, IfOk}
+use Rattle.tree_file.proofs.OneTree.{one_map, one_size}
 use Rattle.tree_reading.specs.Reading.{HoldsFound, IsWhy}
 use Rattle.tree_settling.specs.Settling.{CallsFew}
 use Rattle.recover_open.specs.Opening.{StandsEmpty, TellsSettled, most_opening_calls}
@@ -55,7 +56,7 @@ returns-clause-keeps g c = λ sizes pairs honest reads.
     let holds = still g c honest in
     let first = keeps_read sizes pairs reads (r.same honest) (r.kept honest) (r.synced honest) in
     keeps_settled sizes pairs (timed c.read_synced.new.disk) (timed c.settle_found.new.disk) first c.settle_found.ensures.effect.syncs
-    (keeps_same c.in_ok-found.found sizes pairs c.one_tree.ensures.sizes c.one_tree.ensures.map holds first.reads (told g c honest holds).keeps)
+    (keeps_same c.in_ok-found.found sizes pairs one_size one_map holds first.reads (told g c honest holds).keeps)
 
 pub returns-clause-untouched : goal.returns-clause-untouched
 returns-clause-untouched g c = λ honest none.

@@ -9,16 +9,16 @@ pub returns-clause-pins : goal.returns-clause-pins
 returns-clause-pins c = head_beside
 
 pub returns-clause-running : goal.returns-clause-running
-returns-clause-running c = runs_stay c.where_a_run_writes.ensures.pushed
+returns-clause-running c = runs_stay
 
 pub returns-clause-lists : goal.returns-clause-lists
-returns-clause-lists c = lists_stay c.where_a_run_writes.ensures.pushed c.what_is_ahead.ensures
+returns-clause-lists c = lists_stay
 
 pub returns-clause-joins : goal.returns-clause-joins
-returns-clause-joins c = entries_join c.where_a_run_writes.ensures.pushed c.what_is_ahead.ensures
+returns-clause-joins c = entries_join
 
 pub returns-clause-waits : goal.returns-clause-waits
-returns-clause-waits c = entries_wait c.where_a_run_writes.ensures.pushed c.what_is_ahead.ensures
+returns-clause-waits c = entries_wait
 
 pub returns-clause-left : goal.returns-clause-left
 returns-clause-left c = left_grows

@@ -38,7 +38,7 @@ returns-in_err-append-clause-becomes g c = λ tree honest is_of over.
     (subst (λ (b : Bool). Becomes held.runs.sizes tree (appended b (c.args.key.now, c.args.rec.now) tree) false old new) c.goes_ahead-ahead.ensures becomes, tt)
 
 pub returns-in_err-append-clause-effect : goal.returns-in_err-append-clause-effect
-returns-in_err-append-clause-effect g c = affects_wider (lane_beside_pins c.goes_ahead-ahead.result c.args.self.now c.others_may_write.ensures.pins c.requires.one) (omega arith) (omega arith) (subst (λ (s : Sizes). Affects (lane_region c.args.self.now.log.lanes.sizes (lane_for c.goes_ahead-ahead.result c.args.self.now.log)) (file_length s) 4 (g.D.Disk.state c.args.disk.now) (g.D.Disk.state c.append.new.disk)) c.requires.one.lanes c.append.ensures.effect)
+returns-in_err-append-clause-effect g c = affects_wider (lane_beside_pins c.goes_ahead-ahead.result c.args.self.now c.requires.one) (omega arith) (omega arith) (subst (λ (s : Sizes). Affects (lane_region c.args.self.now.log.lanes.sizes (lane_for c.goes_ahead-ahead.result c.args.self.now.log)) (file_length s) 4 (g.D.Disk.state c.args.disk.now) (g.D.Disk.state c.append.new.disk)) c.requires.one.lanes c.append.ensures.effect)
 
 pub spring_after-self-requires : goal.spring_after-self-requires
 spring_after-self-requires g c = λ no.
@@ -60,7 +60,7 @@ returns-clause-becomes g c = λ tree honest is_of over.
     (c.in_ok-append.ensures.becomes tree honest is_of stands) in
     let then = becomes.stands refl in
     let effect = subst (λ (b : Bool). Affects (lane_region held.log.lanes.sizes (lane_for b held.log)) (file_length held.log.lanes.sizes) 4 old new) refl c.append.ensures.effect in
-    let are = joined c.goes_ahead-ahead.result held tree c.args.key.now c.args.rec.now c.others_may_write.ensures.head c.others_may_write.ensures.joins c.others_may_write.ensures.waits c.requires.one
+    let are = joined c.goes_ahead-ahead.result held tree c.args.key.now c.args.rec.now c.requires.one
     (sym c.goes_ahead-ahead.ensures) effect honest over.are_of then.reads in
     subst (λ (b : Bool). Becomes held.runs.sizes tree (appended b entry tree) true old new × StandOver held.runs (appended b entry tree) c.append.new.self.a.entries new) c.goes_ahead-ahead.ensures (
       becomes,
@@ -69,13 +69,13 @@ returns-clause-becomes g c = λ tree honest is_of over.
 
 pub returns-clause-on : goal.returns-clause-on
 returns-clause-on g c = record {
-  running = runs_on c.goes_ahead-ahead.result c.args.self.now c.others_may_write.ensures.head c.others_may_write.ensures.running c.requires.one c.append.ensures.effect c.requires.on.running;
+  running = runs_on c.goes_ahead-ahead.result c.args.self.now c.requires.one c.append.ensures.effect c.requires.on.running;
   long = stays_long c.args.self.now.runs.sizes c.args.self.now.runs.sizes refl c.requires.on.long
       (subst (λ (s : Sizes). Affects (lane_region c.args.self.now.log.lanes.sizes (lane_for c.goes_ahead-ahead.result c.args.self.now.log)) (file_length s) 4 (g.D.Disk.state c.args.disk.now) (g.D.Disk.state c.append.new.disk)) c.requires.one.lanes c.append.ensures.effect);
 }
 
 pub returns-clause-effect : goal.returns-clause-effect
-returns-clause-effect g c = affects_wider (lane_beside_pins c.goes_ahead-ahead.result c.args.self.now c.others_may_write.ensures.pins c.requires.one) (omega arith) (omega arith) (subst (λ (s : Sizes). Affects (lane_region c.args.self.now.log.lanes.sizes (lane_for c.goes_ahead-ahead.result c.args.self.now.log)) (file_length s) 4 (g.D.Disk.state c.args.disk.now) (g.D.Disk.state c.append.new.disk)) c.requires.one.lanes c.append.ensures.effect)
+returns-clause-effect g c = affects_wider (lane_beside_pins c.goes_ahead-ahead.result c.args.self.now c.requires.one) (omega arith) (omega arith) (subst (λ (s : Sizes). Affects (lane_region c.args.self.now.log.lanes.sizes (lane_for c.goes_ahead-ahead.result c.args.self.now.log)) (file_length s) 4 (g.D.Disk.state c.args.disk.now) (g.D.Disk.state c.append.new.disk)) c.requires.one.lanes c.append.ensures.effect)
 
 pub returns-clause-ends : goal.returns-clause-ends
 returns-clause-ends g c = c.in_ok-append.ensures.ends

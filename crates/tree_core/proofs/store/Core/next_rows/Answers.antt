@@ -34,7 +34,7 @@ returns-clause-reads g c =
     sym (told_by_entry scan.result scan.new.room seat n old.held.book) ∙ ap (λ (b : BookState). scanned_in scan.result b) (sym c.note_scan.ensures) in
     subst (λ (s : CoreState g.row.D.Denot). may_note_in seat n s.held.book ≡ true → ReadsOn state seat n (scanned_in scan.result c.note_scan.new.book) s new) c.self.view_is
     (λ note. subst (λ (answer : Scanned). ReadsOn state seat n answer (record { disk = old.disk; held = old.held; holds = old.holds }) new) told
-    (next_does state seat n gave (record { disk = old.disk; held = old.held; holds = old.holds }) scan.new.disk c.note_scan.new.book c.self.invariant.0 c.self.invariant.1 (g.met.D.Disk.timed scan.new.disk) c.others_may_write.ensures.running
+    (next_does state seat n gave (record { disk = old.disk; held = old.held; holds = old.holds }) scan.new.disk c.note_scan.new.book c.self.invariant.0 c.self.invariant.1 (g.met.D.Disk.timed scan.new.disk)
     note c.requires.some c.requires.few e.others e.cause e.counted (λ rows honest runs has whole. e.rows rows honest runs has whole) e.reads (λ none. e.untouched none) c.note_scan.ensures)) c.requires.note
 
 pub returns-clause-counts : goal.returns-clause-counts

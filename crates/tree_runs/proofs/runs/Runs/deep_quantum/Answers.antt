@@ -86,12 +86,12 @@ returns-clause-told g c =
     record {
       stands = λ tree honest stand. tree_stays runs tree a runs.tags.deep (runs.sizes.quantum / 4 + 3) after old new are (deep_is_run runs are) c.pages-pages.ensures.shape works honest timed stand;
       lists = λ tree honest stand other.
-          let stands = deep_stands c.where_a_run_writes.ensures.pushed c.what_is_ahead.ensures runs after (guides_after g c) (guide_after g c) c.in-Some.deep next
+          let stands = deep_stands runs after (guides_after g c) (guide_after g c) c.in-Some.deep next
           c.quantum-taken.result old new (deep_is g c) are c.pages-pages.ensures.shape (writes g c) (quantum_is g c) timed tree a honest stand other in
           (stands.0, stands.1, subst (λ (r : RunsState). StandOver r tree a new) (sym is_new) stands.2, stands.3);
       running =
           subst (λ (r : RunsState). OnOk c.quantum-taken.result (AreRunning new.is_honest new.bytes r)) (sym is_new)
-          (deep_ran c.where_a_run_writes.ensures.pushed runs after (guides_after g c) (guide_after g c) c.in-Some.deep next
+          (deep_ran runs after (guides_after g c) (guide_after g c) c.in-Some.deep next
           c.quantum-taken.result old new (deep_is g c) c.requires.running c.pages-pages.ensures.shape (writes g c) (quantum_is g c));
       damaged = λ n is tells.
           subst (λ (r : RunsState). DeepMeetsDamage r.sizes r.deep n new.bytes) (sym is_new)

@@ -8,6 +8,7 @@ use Rattle.page_space.specs.Space.{HasRole}
 use Rattle.page_file.specs.Component.{HasList, entries_of, numbers_of}
 use Rattle.page_file.specs.File.{Writes}
 use Rattle.run_writer.specs.Writer.{IsInside, role_region}
+use Rattle.run_writer.proofs.RegionLemmas.{open_inside}
 use Rattle.deep_merge.specs.Merge.{DeepState, IsMerge}
 use Rattle.merge_ends.specs.Progress.{IsRunning}
 use Rattle.tree_runs.specs.declared.runs.Merges.{Merges}
@@ -23,7 +24,7 @@ finish-requires-clause-inside g c =
     let runs = subst (λ (o : Option DeepState). DeepRuns now.sizes d.is_honest d.bytes now.space (guide_at now.guides now.tags.deep) o) is c.requires.running.deep in
     let order = c.requires.running.in_order in
     subst (λ (s : RunsState). IsInside (page_count s.sizes) c.in-Some.deep.writer) (sym c.self.view_is)
-    (c.a_run_has_room.ensures.inside now.sizes d.is_honest d.bytes now.space c.in-Some.deep.writer (filter_of now now.tags.deep) (fences_of_tag now now.tags.deep) runs.run.out runs.run.pushed order.shape order.pages)
+    (open_inside now.sizes d.is_honest d.bytes now.space c.in-Some.deep.writer (filter_of now now.tags.deep) (fences_of_tag now now.tags.deep) runs.run.out runs.run.pushed order.shape order.pages)
 
 pub returns-clause-list : goal.returns-clause-list
 returns-clause-list g c = λ c1x c2 honest over.

@@ -12,12 +12,12 @@ use Rattle.tree_runs.proofs.QuantumLemmas.{both_ok}
 use Rattle.tree_runs.proofs.runs.Runs.hold.Goals as goal
 
 pub returns-clause-exact : goal.returns-clause-exact
-returns-clause-exact c = subst (λ (r : RunsState). OnOk c.build-hold.result (Pins c.args.seat r.tags.c1 r.tags.c1x r.tags.c2 r.space c.build-hold.new.space)) c.self.view_is c.build-hold.ensures.pins
+returns-clause-exact c = subst (λ (r : RunsState). OnOk c.build.result (Pins c.args.seat r.tags.c1 r.tags.c1x r.tags.c2 r.space c.build.new.space)) c.self.view_is c.build.ensures.pins
 
-repinned : (c : goal.After-pages-pages) → Repinned c.args.self.now c.build-hold.new.space
+repinned : (c : goal.After-build) → Repinned c.args.self.now c.build.new.space
 repinned c =
-    built_repinned c.args.self.now c.build-hold.new.space c.args.seat c.build-hold.result c.requires.runs c.requires.live (returns-clause-exact c)
-    (subst (λ (r : RunsState). OnErr c.build-hold.result (c.build-hold.new.space ≡ r.space)) c.self.view_is c.build-hold.ensures.kept)
+    built_repinned c.args.self.now c.build.new.space c.args.seat c.build.result c.requires.runs c.requires.live (returns-clause-exact c)
+    (subst (λ (r : RunsState). OnErr c.build.result (c.build.new.space ≡ r.space)) c.self.view_is c.build.ensures.kept)
 
 pub returns-clause-rows : goal.returns-clause-rows
 returns-clause-rows c = λ tree table file of.
@@ -31,21 +31,21 @@ returns-clause-rows c = λ tree table file of.
     let three : HasList runs.sizes now.c2 (entries_of tree.c2) file =
     record { pages = tree.c2; reads = subst (λ (k : Catalog). ReadsAs runs.sizes k.c2 tree.c2 file) is of.holds.c2; entries_are = refl } in
     let pins = returns-clause-exact c in
-    rows_pinned runs.sizes c.build-hold.new.space.pins c.args.seat _ file (live_pages tree) c.build-hold.result
-    (c.build-hold.ensures.rows runs.sizes (entries_of tree.c1) (entries_of tree.c1x) (entries_of tree.c2) file one two three)
-    (both_ok c.build-hold.result pins pins (λ pins again. live_pinned runs c.build-hold.new.space c.args.seat tree table file pins of))
+    rows_pinned runs.sizes c.build.new.space.pins c.args.seat _ file (live_pages tree) c.build.result
+    (c.build.ensures.rows runs.sizes (entries_of tree.c1) (entries_of tree.c1x) (entries_of tree.c2) file one two three)
+    (both_ok c.build.result pins pins (λ pins again. live_pinned runs c.build.new.space c.args.seat tree table file pins of))
 
 pub returns-clause-running : goal.returns-clause-running
 returns-clause-running c = λ honest file running.
-    subst (λ (s : RunsState). AreRunning honest file (record s { space = c.build-hold.new.space })) (sym c.self.view_is)
-    (running_repinned c.where_a_run_writes.ensures.pushed c.args.self.now c.build-hold.new.space (repinned c) honest file running)
+    subst (λ (s : RunsState). AreRunning honest file (record s { space = c.build.new.space })) (sym c.self.view_is)
+    (running_repinned c.args.self.now c.build.new.space (repinned c) honest file running)
 
 pub returns-clause-lists : goal.returns-clause-lists
 returns-clause-lists c = λ tree table file of.
-    subst (λ (s : RunsState). AreOf (record s { space = c.build-hold.new.space }) tree table file) (sym c.self.view_is)
-    (lists_repinned c.where_a_run_writes.ensures.pushed c.what_is_ahead.ensures c.args.self.now c.build-hold.new.space (repinned c) tree table file of)
+    subst (λ (s : RunsState). AreOf (record s { space = c.build.new.space }) tree table file) (sym c.self.view_is)
+    (lists_repinned c.args.self.now c.build.new.space (repinned c) tree table file of)
 
 pub returns-clause-few : goal.returns-clause-few
 returns-clause-few c =
-    few_held c.args.self.now c.args.low.now c.args.high.now c.args.b.now.entries c.args.a.now.entries c.build-hold.result c.requires.runs c.requires.live
-    (subst (λ (r : RunsState). IfOk c.build-hold.result (λ hold. hold ≡ held_from c.args.low.now c.args.high.now c.args.b.now.entries c.args.a.now.entries r.catalogue.c1 r.catalogue.c1x r.catalogue.c2)) c.self.view_is c.build-hold.ensures.hold)
+    few_held c.args.self.now c.args.low.now c.args.high.now c.args.b.now.entries c.args.a.now.entries c.build.result c.requires.runs c.requires.live
+    (subst (λ (r : RunsState). IfOk c.build.result (λ hold. hold ≡ held_from c.args.low.now c.args.high.now c.args.b.now.entries c.args.a.now.entries r.catalogue.c1 r.catalogue.c1x r.catalogue.c2)) c.self.view_is c.build.ensures.hold)

@@ -28,7 +28,7 @@ returns-clause-goes_on c = λ honest file runs.
     let inside = c.self.inside in
     let at = goal.at.returns-clause-goes_on c in
     let was = subst (λ (s : RunsState). AreRuns s × PassRuns s.sizes honest file s.space (guide_at s.guides s.tags.pass) s.pass) (sym c.self.view_is) (c.requires.runs, runs) in
-    let still = pass_runs_still c.where_a_run_writes.ensures.pushed inside.pass (guide_at inside.guides.items inside.pass) inside.merges.value.pass
+    let still = pass_runs_still inside.pass (guide_at inside.guides.items inside.pass) inside.merges.value.pass
     (keeps_two {sizes = inside.geometry} {honest = honest} file inside.pass (gone at.After-release) (gone_too at.After-release-2) (λ i. was.0.tags.c1x_pass (sym i)) (λ i. was.0.tags.c2_pass (sym i))) was.0.pass_tag was.1 in
     subst (λ (s : RunsState). PassRuns s.sizes honest file c.release-2.new.self (guide_at inside.guides.items inside.pass) c.deref_mut-merges.result.now.pass) c.self.view_is
     (subst (λ (m : Merges). PassRuns inside.geometry honest file c.release-2.new.self (guide_at inside.guides.items inside.pass) m.pass) (sym c.deref_mut-merges.ensures.value) still)
@@ -43,7 +43,7 @@ returns-clause-lists c = λ tree run a file holds c1 made guided guided_run over
     × IsGuidedBy (guide_at s.guides s.tags.c1) tree.c1 × IsGuidedBy (guide_at s.guides s.tags.deep) run × IsPassOver s.sizes file s.space (guide_at s.guides s.tags.pass) s.pass a tree.c1)
     (sym c.self.view_is) (c.requires.runs, holds, c1, made, guided, guided_run, over) in
     let tags = was.0.tags in
-    let still = pass_over_still c.where_a_run_writes.ensures.pushed c.what_is_ahead.ensures (guide_at inside.guides.items inside.pass) inside.merges.value.pass a tree.c1
+    let still = pass_over_still (guide_at inside.guides.items inside.pass) inside.merges.value.pass a tree.c1
     (keeps_two {sizes = inside.geometry} {honest = true} file inside.pass first second (λ i. tags.c1x_pass (sym i)) (λ i. tags.c2_pass (sym i)))
     (pages_two inside.c1 first second tags.c1_c1x tags.c1_c2) was.0.pass_tag was.2 was.6 in
     record {

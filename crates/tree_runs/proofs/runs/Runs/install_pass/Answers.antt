@@ -24,7 +24,7 @@ pub returns-clause-goes_on : goal.returns-clause-goes_on
 returns-clause-goes_on c = λ honest file runs.
     let inside = c.self.inside in
     let was = subst (λ (s : RunsState). AreRuns s × DeepRuns s.sizes honest file s.space (guide_at s.guides s.tags.deep) s.deep) (sym c.self.view_is) (c.requires.runs, runs) in
-    let still = deep_runs_still c.where_a_run_writes.ensures.pushed inside.deep (guide_at inside.guides.items inside.deep) inside.merges.value.deep
+    let still = deep_runs_still inside.deep (guide_at inside.guides.items inside.deep) inside.merges.value.deep
     (keeps_one {sizes = inside.geometry} {honest = honest} file inside.deep (gone (goal.at.returns-clause-goes_on c).After-release) (λ i. was.0.tags.c1_deep (sym i))) was.0.deep_tag was.1 in
     subst (λ (s : RunsState). DeepRuns s.sizes honest file c.release.new.self (guide_at inside.guides.items inside.deep) c.deref_mut-merges.result.now.deep) c.self.view_is
     (subst (λ (m : Merges). DeepRuns inside.geometry honest file c.release.new.self (guide_at inside.guides.items inside.deep) m.deep) (sym c.deref_mut-merges.ensures.value) still)
@@ -38,7 +38,7 @@ returns-clause-lists c = λ tree run a file holds c1x c2 made guided_run guided_
     (sym c.self.view_is) (c.requires.runs, holds, made, c1x, c2, guided_run, guided_c1x, guided_c2, over) in
     let tags = was.0.tags in
     let gone = gone (goal.at.returns-clause-lists c).After-release in
-    let still = deep_over_still c.where_a_run_writes.ensures.pushed c.what_is_ahead.ensures (guide_at inside.guides.items inside.deep) inside.merges.value.deep tree.c1x tree.c2
+    let still = deep_over_still (guide_at inside.guides.items inside.deep) inside.merges.value.deep tree.c1x tree.c2
     (keeps_one {sizes = inside.geometry} {honest = true} file inside.deep gone (λ i. tags.c1_deep (sym i)))
     (pages_one inside.c1x gone (λ i. tags.c1_c1x (sym i))) (pages_one inside.c2 gone (λ i. tags.c1_c2 (sym i))) was.0.deep_tag was.3 was.4 was.8 in
     record {

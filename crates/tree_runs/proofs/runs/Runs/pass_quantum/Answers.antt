@@ -86,12 +86,12 @@ returns-clause-told g c =
     record {
       stands = λ tree honest stand. tree_stays runs tree a runs.tags.pass (runs.sizes.quantum / 7 + 2) after old new are (pass_is_run runs are) c.pages-pages.ensures.shape works honest timed stand;
       lists = λ tree honest stand other.
-          let stands = pass_stands c.where_a_run_writes.ensures.pushed c.what_is_ahead.ensures runs after (guides_after g c) (guide_after g c) c.in-Some.snow next a
+          let stands = pass_stands runs after (guides_after g c) (guide_after g c) c.in-Some.snow next a
           c.quantum-taken.result old new (pass_is g c) are c.pages-pages.ensures.shape (writes g c) (quantum_is g c) timed tree honest stand other in
           (stands.0, stands.1, subst (λ (r : RunsState). StandOver r tree a new) (sym is_new) stands.2, stands.3);
       running =
           subst (λ (r : RunsState). OnOk c.quantum-taken.result (AreRunning new.is_honest new.bytes r)) (sym is_new)
-          (pass_ran c.where_a_run_writes.ensures.pushed runs after (guides_after g c) (guide_after g c) c.in-Some.snow next a
+          (pass_ran runs after (guides_after g c) (guide_after g c) c.in-Some.snow next a
           c.quantum-taken.result old new (pass_is g c) c.requires.running c.pages-pages.ensures.shape (writes g c) (quantum_is g c));
       damaged = λ n is tells.
           subst (λ (r : RunsState). PassMeetsDamage r.sizes r.pass n new.bytes) (sym is_new)

@@ -91,7 +91,7 @@ returns-clause-running g c =
     let still : new.is_honest ≡ old.is_honest = effect.goes_on.is_honest in
     let keeps = swap_keeps new.is_honest now now.tags.deep now.tags.pass (λ told. subst IsTrue still told) are c.requires.roles (λ is. are.tags.pass_deep (sym is)) effect in
     let was = subst (λ (h : Bool). PassRuns now.sizes h old.bytes now.space (guide_at now.guides now.tags.pass) now.pass) (sym still) c.requires.running.pass in
-    let here = pass_runs_still c.where_a_run_writes.ensures.pushed now.tags.pass (guide_at now.guides now.tags.pass) now.pass keeps are.pass_tag was in
+    let here = pass_runs_still now.tags.pass (guide_at now.guides now.tags.pass) now.pass keeps are.pass_tag was in
     let there = c.install_deep.ensures.goes_on new.is_honest new.bytes (subst (λ (s : RunsState). PassRuns s.sizes new.is_honest new.bytes s.space (guide_at s.guides s.tags.pass) s.pass) (sym c.finish_deep.ensures.same) here) in
     record {
       in_order = c.install_deep.ensures.runs;
@@ -108,7 +108,7 @@ returns-clause-lists g c = λ tree a honest over.
     let done = committed g (goal.at.returns-clause-lists g c).After-commit_next tree a honest over in
     let next_tree = with_components c.after_deep-next.result tree.c1 [] done.list.pages tree in
     let stands = done.becomes.stands (ap is_ok c.in_ok-commit_next.was) in
-    let pass = pass_over_still c.where_a_run_writes.ensures.pushed c.what_is_ahead.ensures (guide_at now.guides now.tags.pass) now.pass a tree.c1
+    let pass = pass_over_still (guide_at now.guides now.tags.pass) now.pass a tree.c1
     (swap_keeps true now now.tags.deep now.tags.pass (λ told. honest) are c.requires.roles (λ is. are.tags.pass_deep (sym is)) (effect g (goal.at.returns-clause-lists g c).After-commit_next))
     (swap_pages now now.tags.deep now.tags.c1 are c.requires.roles (λ is. are.tags.c1_deep (sym is))) are.pass_tag over.are_of.c1 over.are_of.pass in
     let found = subst (λ (s : RunsState). HoldsTree s.sizes next_tree new.bytes × AreTagged s.space s.tags.c1 tree.c1 × AreTagged s.space s.tags.deep done.list.pages

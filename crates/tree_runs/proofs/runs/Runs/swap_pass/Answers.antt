@@ -147,7 +147,7 @@ returns-else-rotates-clause-running g c =
     let still : new.is_honest ≡ old.is_honest = effect.goes_on.is_honest in
     let keeps = swap_keeps new.is_honest now now.tags.pass now.tags.deep (λ told. subst IsTrue still told) are c.requires.roles are.tags.pass_deep effect in
     let was = subst (λ (h : Bool). DeepRuns now.sizes h old.bytes now.space (guide_at now.guides now.tags.deep) now.deep) (sym still) c.requires.running.deep in
-    let here = deep_runs_still c.where_a_run_writes.ensures.pushed now.tags.deep (guide_at now.guides now.tags.deep) now.deep keeps are.deep_tag was in
+    let here = deep_runs_still now.tags.deep (guide_at now.guides now.tags.deep) now.deep keeps are.deep_tag was in
     let there = c.install_pass.ensures.goes_on new.is_honest new.bytes (subst (λ (s : RunsState). DeepRuns s.sizes new.is_honest new.bytes s.space (guide_at s.guides s.tags.deep) s.deep) (sym c.finish_pass.ensures.same) here) in
     record {
       in_order = c.install_pass.ensures.runs;
@@ -168,7 +168,7 @@ returns-else-rotates-clause-lists g c = λ tree honest over.
     let done = committed g (goal.at.returns-else-rotates-clause-lists g c).After-commit_next false light_now tree honest over in
     let next_tree = with_pass c.after_pass-next.result done.list.pages tree.c1x tree.c2 tree in
     let stands = done.becomes.stands (ap is_ok c.in_ok-commit_next.was) in
-    let deep = deep_over_still c.where_a_run_writes.ensures.pushed c.what_is_ahead.ensures (guide_at now.guides now.tags.deep) now.deep tree.c1x tree.c2
+    let deep = deep_over_still (guide_at now.guides now.tags.deep) now.deep tree.c1x tree.c2
     (swap_keeps true now now.tags.pass now.tags.deep (λ told. honest) are c.requires.roles are.tags.pass_deep (effect g (goal.at.returns-else-rotates-clause-lists g c).After-commit_next))
     (swap_pages now now.tags.pass now.tags.c1x are c.requires.roles (λ is. are.tags.c1x_pass (sym is)))
     (swap_pages now now.tags.pass now.tags.c2 are c.requires.roles (λ is. are.tags.c2_pass (sym is))) are.deep_tag over.are_of.c1x over.are_of.c2 over.are_of.deep in

@@ -13,9 +13,9 @@ repinned c =
 pub returns-clause-running : goal.returns-clause-running
 returns-clause-running c = λ honest file running.
     subst (λ (s : RunsState). AreRunning honest file (record s { space = c.unpin.new.self })) (sym c.self.view_is)
-    (running_repinned c.where_a_run_writes.ensures.pushed c.args.self.now c.unpin.new.self (repinned c) honest file running)
+    (running_repinned c.args.self.now c.unpin.new.self (repinned c) honest file running)
 
 pub returns-clause-lists : goal.returns-clause-lists
 returns-clause-lists c = λ tree table file of.
     subst (λ (s : RunsState). AreOf (record s { space = c.unpin.new.self }) tree table file) (sym c.self.view_is)
-    (lists_repinned c.where_a_run_writes.ensures.pushed c.what_is_ahead.ensures c.args.self.now c.unpin.new.self (repinned c) tree table file of)
+    (lists_repinned c.args.self.now c.unpin.new.self (repinned c) tree table file of)
