@@ -1,7 +1,8 @@
 -- The calls of the core that led to what is printed, and what they say on every disk.
-use Rattle.std.specs.Prelude.{◌≡◌, ℕ, ◌+◌, List, ◌∷◌, ◌++◌, Some}
+use Rattle.std.specs.Prelude.{◌≡◌, ℕ, ◌+◌, ◌<◌, List, ◌∷◌, ◌++◌, Some}
 use Rattle.std.proofs.Common.{refl, subst, sym, arith}
 use Rattle.refusal.specs.Count.{HasRisenBy}
+use Rattle.blsm_model.specs.Format.{callers}
 use Rattle.blsm_model.specs.declared.history.Entry.{Entry}
 use Rattle.blsm_model.specs.declared.history.Why.TheVariants.{BadPage}
 use Rattle.blsm_model.specs.declared.room.Room.{Room}
@@ -16,6 +17,7 @@ use Rattle.core_chain.specs.Damage.{StopsAtPage}
 use Rattle.core_chain.specs.Holds.{TellHolds}
 use Rattle.core_chain.specs.Replies.{IsNoted}
 use Rattle.core_chain.specs.Tells.{ChainTells, lookups_failed}
+use Rattle.tree_shared.specs.Runs.{SawFront}
 use Rattle.store_run.specs.Run.{HasCauses, Run, WasOpened, run_at}
 
 -- what the laws of chains say of them
@@ -24,6 +26,7 @@ pub record AreCaused {D : Type 0} (state : D → DiskState) (calls : List (Step 
   pub tells : ChainTells state calls old new
   pub replies : (front behind : List Entry) (e : Entry) → new.held.book.book.entries ≡ front ++ e ∷ behind → IsNoted state calls old new front e
   pub holds : TellHolds new.held.book.book.entries
+  pub saw : (seat : ℕ) → seat < callers → SawFront state seat old new
   pub stops : (page : ℕ) → new.held.book.stopped ≡ Some (BadPage page) → StopsAtPage state calls old new page
 
 unfoldable pub causes_of : {D : Type 0} (state : D → DiskState) (room : Room) (first : D) (calls : List (Step × CoreState D)) (old new : CoreState D) → WasOpened state room first old → AreCaused state calls old new
@@ -41,6 +44,7 @@ causes_of state room first calls old new began caused = record {
   no_others = caused.tells.no_others;
   replies = caused.replies;
   holds = caused.holds;
+  saw = caused.saw;
   stops = caused.stops;
 }
 

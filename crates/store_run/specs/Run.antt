@@ -30,6 +30,7 @@ use Rattle.core_chain.specs.Damage.{StopsAtPage}
 use Rattle.core_chain.specs.Holds.{TellHolds}
 use Rattle.core_chain.specs.Replies.{IsNoted}
 use Rattle.core_chain.specs.Start.{IsUnasked}
+use Rattle.tree_shared.specs.Runs.{SawFront}
 use Rattle.core_chain.specs.Tells.{calls_of_all, lookups_failed}
 use Rattle.core_pace.specs.Opening.{IsOpened}
 use Rattle.recover_open.specs.Opening.{HasLengthOf, most_opening_calls, no_entries}
@@ -150,5 +151,7 @@ pub record HasCauses {D : Type 0} (state : D → DiskState) (room : Room) (run :
   pub replies : (front behind : List Entry) (e : Entry) → run.entries ≡ front ++ e ∷ behind → IsNoted state calls opened end front e
   -- no reply denies a hold or makes one up, and a next's rows are of the range that its caller holds, and rise on from those that were given before
   pub holds : TellHolds run.entries
+  -- what each caller had seen when it left is a front of the history
+  pub saw : (seat : ℕ) → seat < callers → SawFront state seat opened end
   -- a page that stopped the store was damaged by its bytes when a merge came to it
   pub stops : (page : ℕ) → run.totals.stopped ≡ Some (BadPage page) → StopsAtPage state calls opened end page

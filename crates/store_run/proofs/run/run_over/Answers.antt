@@ -104,6 +104,7 @@ returns-in-Ok-run_all-clause-causes g c =
       tells = c.calls_tell.ensures came.calls old unasked came.are;
       replies = λ front behind e within. c.calls_note.ensures came.calls old front behind e none came.are within;
       holds = (c.calls_tell_holds.ensures came.calls old none (holds_none old c.in-Ok.ensures.none) came.are).replies;
+      saw = λ seat below. c.in-Ok-run_all.ensures.saw seat below;
       stops = λ page stopped. c.calls_meet_damage.ensures came.calls old page (ap (λ (b : BookState). b.stopped) opened.book) came.are stopped;
     })
     c.finish-disk.result.0 c.finish-disk.ensures.disk (run_of c.finish-disk.result.1) (c.finish-disk.ensures.finished ∙ ap (λ (n : ℕ). run_at n new.held) c.charge-charge.ensures)
@@ -142,6 +143,7 @@ returns-in-Ok-run_all-clause-headline g c = λ honest.
       tells = c.calls_tell.ensures calls old unasked are;
       replies = λ front behind e within. c.calls_note.ensures calls old front behind e none are within;
       holds = (c.calls_tell_holds.ensures calls old none (holds_none old c.in-Ok.ensures.none) are).replies;
+      saw = λ seat below. runs.saw seat below;
       stops = λ page stopped. c.calls_meet_damage.ensures calls old page (ap (λ (b : BookState). b.stopped) opened.book) are stopped;
     })
     (λ opening m stands. c.calls_are_steps.ensures opening calls old m c.kept.ensures.core are honest_then stands)
