@@ -27,7 +27,12 @@ pub fn do_one<R: Wait>(rt: &R, lock: &TurnLock<Tally>, caller: &mut Caller<Tally
 }
 
 /// Notes so many entries, in as many holds of the lock.
-fn note_all<R: Wait>(rt: &R, lock: &TurnLock<Tally>, caller: &mut Caller<Tally>, count: u32)
+pub(crate) fn note_all<R: Wait>(
+    rt: &R,
+    lock: &TurnLock<Tally>,
+    caller: &mut Caller<Tally>,
+    count: u32,
+)
     requires lock { IsOf lock.now caller.old }
     requires number { caller.old.number < 16 }
     requires room { HasRoomFor (λ t. tally_facts t.annals) count caller.old }

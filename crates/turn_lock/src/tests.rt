@@ -5,6 +5,7 @@ ghost use Rattle.turn_lock.specs.declared.tally.Tally.{Tally};
 ghost use Rattle.turn_lock.specs.Callers.{Idles, MayGive};
 ghost use Rattle.turn_lock.specs.Tallies.{WorksOnce, tally_facts, HasRoomFor, IsOf, IsReady};
 
+use crate::shared::note_all;
 use crate::{Caller, Tally, TurnLock, do_one, run_all};
 use blsm_model::{Annals, Op, Room};
 use std::alloc::Global;
@@ -98,5 +99,21 @@ fn a_caller_waits_for_its_turn(rt: HostRuntime) -> Result<(), Fail> {
     let value = lock.take(&rt, &mut one);
     assert_eq!(rt; value.annals.len(), 2);
     assert_eq!(rt; [value.annals.seat(0), value.annals.seat(1)], [0, 1]);
+    Ok(())
+}
+
+// A caller looks, notes ten entries, and looks again. Another one noted the first entry.
+#[test]
+fn a_caller_looks_notes_and_looks_again(rt: HostRuntime) -> Result<(), Fail> {
+    let Ok((lock, mut one)) = TurnLock::new(rt.alloc(), tally(rt.alloc())?) else {
+        panic!(rt; "no memory");
+    };
+    let mut two = lock.split(&mut one);
+    do_one(&rt, &lock, &mut two, 0);
+    let before = lock.look_front(&mut one);
+    note_all(&rt, &lock, &mut one, 10);
+    let behind = lock.look_front(&mut one);
+    let peak = lock.look_bytes(&mut one);
+    assert_eq!(rt; [before, behind, peak], [1, 11, 0]);
     Ok(())
 }
