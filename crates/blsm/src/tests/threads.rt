@@ -1,11 +1,18 @@
 // Callers and workers on threads, whose lines come in any order that the rules allow.
 use super::asserts::{assert_same, assert_that};
 use super::gates::{Fifteen, OneWorker};
-use super::turns::run_gated;
-use super::{NAME, add, heavy_text, shelf_with_default, shelf_with_store};
+use super::turns::{outcome_gated, run_gated};
+use super::{
+    CHECK, NAME, RUN, add, check, heavy_text, run_text, shelf_of, shelf_with_default,
+    shelf_with_smallest, shelf_with_store,
+};
 use blsm_model::NoGate;
+use disk_mem::{MemDisk, MemShelf};
+use disk_trait::Shelf;
 use std::alloc::Global;
 use std::process::Abort;
+use std::sync::Wait;
+use std::thread::Threads;
 
 // Caller 2 reads what it wrote, or what caller 1 wrote between.
 #[test]
@@ -149,4 +156,62 @@ fn a_worker_merges_behind_a_caller(rt: HostRuntime) {
         &rt,
         text.ends_with(" => ok q3\nend c0 16896 of 65536 callers 3 workers 2 swaps 1 0\n"),
     );
+}
+
+// The number of an image with all writes.
+const ALL: u64 = 2_000_000_000_000_999_999;
+
+// Where the third page of a store of the smallest geometry has the number of its used bytes.
+const USED: u64 = 4_096 + 3 * 4 * 17_408 + 2 * 4_096 + 2;
+
+// A call of the disk behind an opening, and before the last of 33 puts.
+const CALL: u64 = 100;
+
+// The disk of a name, as one on which no call was answered, whose third page has too many used bytes from that call on.
+fn damaged_later(rt: &impl Abort, shelf: &mut MemShelf) -> MemDisk {
+    let Ok(disk) = shelf.fetch(NAME, false) else {
+        rt.abort()
+    };
+    let Ok(mut disk) = disk.image(ALL) else {
+        rt.abort()
+    };
+    if disk.poke(CALL, USED, &[0x0f, 0xf9]).is_err() {
+        rt.abort()
+    }
+    disk
+}
+
+// A store of the smallest geometry whose C1 has 32 puts on five pages, seven on each of the first four, of which the third will be damaged.
+fn shelf_with_c1<R: Abort + Threads + Wait + Sync>(rt: &R, alloc: Global) -> MemShelf {
+    let mut shelf = shelf_with_smallest(rt, alloc);
+    let mut script = puts(rt, alloc, 32);
+    add(rt, &mut script, "1 work 6");
+    let text = run_text(rt, alloc, &mut shelf, &RUN, script.as_bytes());
+    assert_that(
+        rt,
+        text.ends_with(
+            "33 1 work 6 => did 6 q4\nend c0 16384 of 34816 callers 4 workers 0 swaps 1 0\n",
+        ),
+    );
+    let disk = damaged_later(rt, &mut shelf);
+    shelf_of(rt, alloc, disk)
+}
+
+// The last put owes 12 bytes for each of its own, which are two quanta of four keys, as C1 has the same ones: they end on the second page. So does
+// the worker's first one, and its second one meets the third page, which stops the store. No line tells of it.
+#[test]
+fn a_page_that_only_a_worker_meets(rt: HostRuntime) {
+    let alloc = rt.alloc();
+    let mut shelf = shelf_with_c1(&rt, alloc);
+    let gate = OneWorker::new(33, 3);
+    let script = puts(&rt, alloc, 33);
+    let (status, text) = outcome_gated(&rt, alloc, &mut shelf, "1", &script, &gate);
+    assert_that(&rt, !gate.gave_up());
+    assert_same(&rt, status, 6);
+    check_cheap(&rt, &text, 33);
+    assert_that(
+        &rt,
+        text.ends_with(" => ok q2\nend c0 16896 of 34816 callers 2 workers 1 swaps 0 0\n"),
+    );
+    check(&rt, alloc, &mut shelf, &CHECK, b"", (6, "damaged page 2\n"));
 }

@@ -98,6 +98,26 @@ pub fn in_turn(rt: &impl Abort, alloc: Global, script: &str, free: u64) -> InTur
     }
 }
 
+// Runs a script with so many workers beside this gate, and answers its status and its text.
+pub fn outcome_gated<R: Abort + Threads + Wait + Sync, G: Gate + Sync>(
+    rt: &R,
+    alloc: Global,
+    shelf: &mut MemShelf,
+    workers: &str,
+    script: &str,
+    gate: &G,
+) -> (u8, String) {
+    let words = owned(rt, alloc, &["blsm", "run", NAME, "--workers", workers]);
+    let Ok(mut source) = FaultlessSource::new(alloc, script.as_bytes()) else {
+        rt.abort()
+    };
+    let Ok(mut sink) = FaultlessSink::new(alloc, TEXT_LIMIT) else {
+        rt.abort()
+    };
+    let status = blsm_run(rt, alloc, &words, &mut source, &mut sink, shelf, gate);
+    (status.code(), text_in(rt, alloc, sink.bytes()))
+}
+
 // Runs a script with so many workers beside this gate, and answers its text. All is done well.
 pub fn run_gated<R: Abort + Threads + Wait + Sync, G: Gate + Sync>(
     rt: &R,
@@ -107,16 +127,9 @@ pub fn run_gated<R: Abort + Threads + Wait + Sync, G: Gate + Sync>(
     script: &str,
     gate: &G,
 ) -> String {
-    let words = owned(rt, alloc, &["blsm", "run", NAME, "--workers", workers]);
-    let Ok(mut source) = FaultlessSource::new(alloc, script.as_bytes()) else {
-        rt.abort()
-    };
-    let Ok(mut sink) = FaultlessSink::new(alloc, TEXT_LIMIT) else {
-        rt.abort()
-    };
-    let status = blsm_run(rt, alloc, &words, &mut source, &mut sink, shelf, gate);
-    assert_same(rt, status.code(), 0);
-    text_in(rt, alloc, sink.bytes())
+    let (status, text) = outcome_gated(rt, alloc, shelf, workers, script, gate);
+    assert_same(rt, status, 0);
+    text
 }
 
 // Runs a script whose lines are done in the order in which they stand, but for the first so many, and answers its text.
