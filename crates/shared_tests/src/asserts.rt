@@ -11,6 +11,13 @@ pub fn assert_that(rt: &impl Abort, is_so: bool)
     assert!(rt; is_so);
 }
 
+/// It is so, at this case.
+pub fn assert_that_at<P: Debug + Drop>(rt: &impl Abort, is_so: bool, at: P)
+    ensures { IsTrue is_so }
+{
+    assert!(rt; is_so, "at {at:?}");
+}
+
 /// Both are the same.
 pub fn assert_same<T: PartialEq + Debug + Drop>(rt: &impl Abort, found: T, wanted: T) {
     assert_eq!(rt; found, wanted);

@@ -1,6 +1,8 @@
 // A plain judge of histories: the list of the writes, and the rows that each caller holds, entry by entry.
 use crate::asserts::{assert_same, assert_that};
-use blsm_model::{Annals, CALLERS, Key, Line, Op, Reply, Row, Write, value_of};
+use blsm_model::{Annals, CALLERS, Key, Line, Op, Reply, Row, Why, Write, value_of};
+use disk_mem::MemDisk;
+use disk_trait::Disk;
 use std::alloc::Global;
 use std::process::Abort;
 
@@ -11,11 +13,18 @@ struct Held {
     given: usize,
 }
 
-/// The writes that were done, in order, and what each caller holds.
+/// The writes that were done, in order, what each caller holds, and how the store failed.
 #[derive(Drop)]
 pub struct Judge {
     writes: Vec<Write>,
+    // The same, with the write that may be there or not.
+    tried: Vec<Write>,
     held: Vec<Option<Held>>,
+    // How many lookups and nexts failed.
+    faults: u64,
+    // Why the store stopped, and whether a reply told of it.
+    stopped: Option<Why>,
+    is_told: bool,
 }
 
 // Puts a row in its place by its key, where no row has the key.
@@ -31,6 +40,23 @@ fn place(rt: &impl Abort, rows: &mut Vec<Row>, row: Row) {
     }
     assert!(rt; at <= rows.len());
     assert_that(rt, rows.insert(at, row).is_ok());
+}
+
+// Whether lookups found what these writes left.
+fn have_found(writes: &[Write], annals: &Annals) -> bool {
+    let count = annals.len() as u32;
+    for place in 0..count {
+        if let Op::Get(key) = annals.op(place) {
+            let wanted = match value_of(writes, key) {
+                Some(value) => Reply::Is(value),
+                None => Reply::Absent,
+            };
+            if annals.reply(place) != wanted {
+                return false;
+            }
+        }
+    }
+    true
 }
 
 // The rows of a range after these writes.
@@ -69,14 +95,19 @@ impl Held {
 }
 
 impl Judge {
-    pub fn new(rt: &impl Abort, alloc: Global) -> Judge {
+    /// A judge of a run over a new store, which this stopped.
+    pub fn new(rt: &impl Abort, alloc: Global, stopped: Option<Why>) -> Judge {
         let mut held = Vec::new(alloc);
         for _ in 0..CALLERS {
             assert_that(rt, held.push(None).is_ok());
         }
         Judge {
             writes: Vec::new(alloc),
+            tried: Vec::new(alloc),
             held,
+            faults: 0,
+            stopped,
+            is_told: false,
         }
     }
 
@@ -112,8 +143,53 @@ impl Judge {
         }
     }
 
+    // A write was done.
+    fn write(&mut self, rt: &impl Abort, done: Write, tried: Write) {
+        assert_that(rt, self.writes.push(done).is_ok());
+        assert_that(rt, self.tried.push(tried).is_ok());
+    }
+
+    // A write may be there or not: the store stops.
+    fn try_write(&mut self, rt: &impl Abort, tried: Write) {
+        assert_that(rt, self.tried.push(tried).is_ok());
+        self.stop(rt);
+    }
+
+    // The first reply that tells of the stop.
+    fn stop(&mut self, rt: &impl Abort) {
+        assert_that(rt, !self.is_told);
+        self.is_told = true;
+    }
+
+    // Whether a reply tells of a call that failed, or of the stop, as each does from then on.
+    fn fails(&mut self, rt: &impl Abort, op: &Op, reply: &Reply) -> bool {
+        match (op, reply) {
+            (_, Reply::Stopped(why)) => {
+                assert_same(rt, self.stopped, Some(*why));
+                self.is_told = true;
+            }
+            (Op::Get(_) | Op::Next(_), Reply::Fault) => {
+                assert_that(rt, !self.is_told);
+                self.faults = self.faults.saturating_add(1);
+            }
+            (Op::Work(_), Reply::Fault) => self.stop(rt),
+            (Op::Put(..) | Op::Add(..) | Op::Tail(..) | Op::Del(_), Reply::FaultLost) => {
+                self.stop(rt)
+            }
+            (Op::Put(..) | Op::Add(..) | Op::Tail(..) | Op::Del(_), Reply::FaultUnsure) => {
+                self.try_write(rt, op.write())
+            }
+            _ => return false,
+        }
+        true
+    }
+
     // The reply is right, and the map is that after the command.
     fn judge(&mut self, rt: &impl Abort, alloc: Global, seat: u32, op: &Op, reply: &Reply) {
+        if self.fails(rt, op, reply) {
+            return;
+        }
+        assert_that(rt, !self.is_told);
         match op {
             Op::Get(key) => self.get(rt, key, reply),
             Op::Hold(low, high) => {
@@ -128,7 +204,7 @@ impl Judge {
             },
             Op::Put(..) | Op::Add(..) | Op::Tail(..) | Op::Del(_) => {
                 assert_that(rt, *reply == Reply::Done);
-                assert_that(rt, self.writes.push(op.write()).is_ok());
+                self.write(rt, op.write(), op.write());
             }
         }
     }
@@ -140,6 +216,24 @@ impl Judge {
             let reply = annals.reply(place);
             self.judge(rt, alloc, annals.seat(place), annals.op(place), &reply);
         }
+    }
+
+    /// Each call of the disk that failed was told by a lookup or a next, but for the last one where the store stopped.
+    pub fn check_faults(&self, rt: &impl Abort, disk: &MemDisk) {
+        let told = match self.stopped {
+            Some(_) => self.faults.saturating_add(1),
+            None => self.faults,
+        };
+        assert_same(rt, disk.faults(), told);
+        if let Some(why) = self.stopped {
+            assert_same(rt, why, Why::Faulted(told));
+        }
+        assert_that(rt, self.stopped.is_some() || !self.is_told);
+    }
+
+    /// Whether lookups found what the writes left that were done, with the one that may be there or without.
+    pub fn allows(&self, annals: &Annals) -> bool {
+        have_found(&self.writes, annals) || have_found(&self.tried, annals)
     }
 }
 

@@ -4,11 +4,11 @@
 #[cfg(test)]
 mod asserts;
 #[cfg(test)]
-mod gates;
-#[cfg(test)]
 mod judge;
 #[cfg(test)]
 mod random;
+#[cfg(test)]
+mod stops;
 #[cfg(test)]
 mod stores;
 #[cfg(test)]

@@ -1,4 +1,4 @@
-// Scripts that are made: by a seed, or of like lines.
+// Scripts that are made by a seed, and lookups.
 ghost use Rattle.std.specs.Prelude.{◌<◌};
 
 use crate::asserts::assert_that;
@@ -7,12 +7,12 @@ use script_text::Script;
 use std::alloc::{AllocError, Global};
 use std::process::Abort;
 
-// Knuth's linear congruential generator.
+/// Knuth's linear congruential generator.
 #[derive(Drop)]
-struct Draws(u64);
+pub struct Draws(pub u64);
 
 impl Draws {
-    fn below(&mut self, limit: u64) -> u64
+    pub fn below(&mut self, limit: u64) -> u64
         requires { 0 < limit }
         ensures { result < limit }
     {
@@ -61,32 +61,6 @@ pub fn any_script(rt: &impl Abort, alloc: Global, seed: u64, lines: u32) -> Scri
     for _ in 0..lines {
         assert_that(rt, add_line(alloc, &mut text, &mut draws).is_ok());
     }
-    script(rt, alloc, text.as_bytes())
-}
-
-// Puts of a caller, each of another key and of the greatest weight, 512 bytes.
-fn add_puts(alloc: Global, text: &mut String, caller: u32, count: u32) -> Result<(), AllocError> {
-    for n in 0..count {
-        let line = format!(in alloc; "{caller} put k{n:063} {caller} {LETTERS}\n")?;
-        text.push_str(&line)?;
-    }
-    Ok(())
-}
-
-/// Callers 1 to 15 have a put each, and caller 16 has so many.
-pub fn each_puts(rt: &impl Abort, alloc: Global, count: u32) -> Script {
-    let mut text = String::new(alloc);
-    for caller in 1..16 {
-        assert_that(rt, add_puts(alloc, &mut text, caller, 1).is_ok());
-    }
-    assert_that(rt, add_puts(alloc, &mut text, 16, count).is_ok());
-    script(rt, alloc, text.as_bytes())
-}
-
-/// Caller 1 has so many puts.
-pub fn puts_of_one(rt: &impl Abort, alloc: Global, count: u32) -> Script {
-    let mut text = String::new(alloc);
-    assert_that(rt, add_puts(alloc, &mut text, 1, count).is_ok());
     script(rt, alloc, text.as_bytes())
 }
 

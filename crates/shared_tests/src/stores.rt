@@ -2,7 +2,7 @@
 ghost use Rattle.std.specs.Prelude.{◌≤◌};
 
 use crate::asserts::assert_same;
-use blsm_model::{Annals, Gate, Geometry, Totals};
+use blsm_model::{Annals, Geometry, NoGate, Totals};
 use disk_mem::MemDisk;
 use recover_open::{make_store, open_store};
 use script_text::{Script, read_script};
@@ -36,6 +36,16 @@ pub fn fresh(rt: &impl Abort, alloc: Global, low: u64) -> MemDisk {
     disk
 }
 
+// The number of an image with all writes.
+const ALL: u64 = 2_000_000_000_000_999_999;
+
+/// The disk of such a store, which answers so many calls of whom opens it, and no more.
+pub fn stopping(rt: &impl Abort, alloc: Global, low: u64, calls: u64) -> MemDisk {
+    let mut disk = fresh(rt, alloc, low).image(ALL).expect(rt, "memory");
+    disk.stop_after(calls);
+    disk
+}
+
 /// The script of a text.
 pub fn script(rt: &impl Abort, alloc: Global, text: &[u8]) -> Script {
     match read_script(alloc, text) {
@@ -53,13 +63,12 @@ pub struct Ran {
 }
 
 /// Runs a script over the store on a disk, each caller and each worker in a thread of its own.
-pub fn run<R: Abort + Threads + Wait + Sync, G: Gate + Sync>(
+pub fn run<R: Abort + Threads + Wait + Sync>(
     rt: &R,
     alloc: Global,
     disk: MemDisk,
     script: &Script,
     workers: u32,
-    gate: &G,
 ) -> Ran
     requires { workers ≤ 8 }
 {
@@ -67,7 +76,7 @@ pub fn run<R: Abort + Threads + Wait + Sync, G: Gate + Sync>(
     let Ok(core) = open_store(alloc, disk, script.room()) else {
         rt.abort()
     };
-    let Ok(core) = run_all(rt, alloc, core, script.lines(), workers, TURNS, gate) else {
+    let Ok(core) = run_all(rt, alloc, core, script.lines(), workers, TURNS, &NoGate) else {
         rt.abort()
     };
     let (disk, annals, totals) = core.end();
