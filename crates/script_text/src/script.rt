@@ -61,8 +61,8 @@ impl Model for Script {
     ghost invariant = { λ s. AreLines s.lines.items };
 }
 
-// How many rows a command asks for.
-fn count_rows(op: &Op) -> u32
+/// How many rows a command asks for.
+pub fn count_rows(op: &Op) -> u32
     ensures { result ≡ rows_of op.now }
 {
     match op {

@@ -85,6 +85,7 @@ module _ {D : Type 0} (state : D → DiskState) (timed : (d : D) → IsTimed (st
     tells = chain_tells state runs.came.calls old new unasked runs.came.are;
     replies = λ front behind e is. chain_notes state runs.came.calls old new front behind e runs.came.are is (omega (arith, ap (λ (es : List Entry). length es) none_noted));
     holds = (chain_tells_holds state runs.came.calls old new none_noted (holds_none old o.holds) runs.came.are).replies;
+    saw = λ seat below. runs.saw seat below;
     stops = λ page stops. chain_stops state page runs.came.calls old new (ap (λ (b : BookState). b.stopped) o.opened.book) runs.came.are stops;
   }
 

@@ -281,9 +281,7 @@ impl Runs {
     {
         let merges = &mut *self.merges;
         match &mut merges.deep {
-            Some(deep) => {
-                deep.finish(disk, &self.geometry)
-            }
+            Some(deep) => { deep.finish(disk, &self.geometry) }
             None => unreachable!(),
         }
     }
@@ -301,9 +299,7 @@ impl Runs {
     {
         let merges = &mut *self.merges;
         match &mut merges.pass {
-            Some(snow) => {
-                snow.finish(disk, &self.geometry, a)
-            }
+            Some(snow) => { snow.finish(disk, &self.geometry, a) }
             None => unreachable!(),
         }
     }

@@ -1,0 +1,4 @@
+pub mod Room
+pub mod Session
+pub mod Taken
+pub mod Told
