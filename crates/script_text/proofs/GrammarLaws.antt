@@ -18,7 +18,7 @@ use Rattle.script_text.specs.declared.script.ScriptFault.{ScriptFault}
 use Rattle.script_text.specs.declared.script.ScriptFault.TheVariants.{Bad, NoMemory}
 use Rattle.script_text.specs.Script.{IfBad}
 use Rattle.text_io.specs.Lines.{Lacks}
-use Rattle.script_text.proofs.ReadLemmas.{one_cut, decimal_lacks, visible_lacks, heads}
+use Rattle.script_text.proofs.ReadLemmas.{one_cut, no_cut, decimal_lacks, visible_lacks, heads}
 use Rattle.script_text.proofs.ScriptLemmas.{first_line_is}
 use Rattle.blsm_model.specs.Scripts.{rows_of}
 
@@ -251,3 +251,34 @@ pub only_bad : {T : Type 0} (bytes : List ℕ) (result : Result T ScriptFault) �
 only_bad bytes (Err (Bad n)) bad = record { only = λ other is. one_bad bytes other n is bad; no_script = λ lines is. script_not_bad bytes lines n is bad }
 only_bad bytes (Err NoMemory) bad = tt
 only_bad bytes (Ok value) bad = tt
+
+-- ---- a text of lines, each with its end
+
+-- of such a text the lines that were read are the first, and what is left are the others
+pub lines_go_on : (xs ys : List Line) (rest : List ℕ) → All IsAllowed xs → All IsAllowed ys → lines_text ys ≡ lines_text xs ++ rest → (zs : List Line) × (ys ≡ xs ++ zs) × All IsAllowed zs × (rest ≡ lines_text zs)
+lines_go_on xs ys rest allowed_x allowed_y is =
+    elim (compared xs ys rest [] allowed_x allowed_y (sym is ∙ sym (append-nil (lines_text ys)))) [
+      | ahead zs more left ↦ (zs, more, allowed_rest xs ys zs more allowed_y, left ∙ append-nil (lines_text zs))
+      | behind zs more left ↦
+          let none = nothing_left zs rest left in
+          let same : xs ≡ ys = more ∙ ap (λ (l : List Line). ys ++ l) none.0 ∙ append-nil ys in
+          let all : ys ≡ xs ++ [] = sym same ∙ sym (append-nil xs) in
+          ([], all, allowed_rest xs ys [] all allowed_y, none.1)
+    ]
+
+-- its first line is that of its text
+pub first_spelled : (z : Line) (zs : List Line) → IsAllowed z → IsLine (first_line (lines_text (z ∷ zs))) z
+first_spelled z zs allowed = record { allowed = allowed; spelled = ap first_line (sym (append-nil (lines_text (z ∷ zs)))) ∙ opened_first z zs [] allowed }
+
+-- which has an end
+pub has_end : (z : Line) (zs : List Line) → Lacks 10 (lines_text (z ∷ zs)) → ⊥
+has_end z zs lacks =
+    let whole : lines_text (z ∷ zs) ≡ line_text z ++ 10 ∷ lines_text zs = sym (append-nil (lines_text (z ∷ zs))) ∙ opened z zs [] ∙ ap (λ (l : List ℕ). line_text z ++ 10 ∷ l) (append-nil (lines_text zs)) in
+    no_cut 10 (line_text z) (lines_text (z ∷ zs)) (lines_text zs) lacks (sym whole)
+
+-- and no other line is first
+pub only_first : (z : Line) (zs : List Line) (line : Line) (rest : List ℕ) → IsAllowed z → IsAllowed line → lines_text (z ∷ zs) ≡ line_text line ++ 10 ∷ rest → line ≡ z
+only_first z zs line rest allowed_z allowed_line is =
+    let whole : lines_text (z ∷ zs) ≡ line_text z ++ 10 ∷ (lines_text zs ++ []) = sym (append-nil (lines_text (z ∷ zs))) ∙ opened z zs [] in
+    let both = one_cut 10 (line_text line) (line_text z) rest (lines_text zs ++ []) (line_lacks line allowed_line) (line_lacks z allowed_z) (sym is ∙ whole) in
+    one_line (line_text line) line z (record { allowed = allowed_line; spelled = refl }) (record { allowed = allowed_z; spelled = both.0 })

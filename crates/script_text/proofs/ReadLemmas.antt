@@ -42,7 +42,7 @@ one_cut mark (a ∷ w) (b ∷ f) r s lacks_w lacks_f same =
     (cc, both.1)
 
 -- a list with a mark doesn't lack it
-no_cut : (mark : ℕ) (w f r : List ℕ) → Lacks mark f → w ++ mark ∷ r ≡ f → ⊥
+pub no_cut : (mark : ℕ) (w f r : List ℕ) → Lacks mark f → w ++ mark ∷ r ≡ f → ⊥
 no_cut mark [] [] r lacks same = cc
 no_cut mark [] (b ∷ f) r lacks same = All-head (λ byte. byte ≢ mark) b f lacks cc
 no_cut mark (a ∷ w) [] r lacks same = cc
