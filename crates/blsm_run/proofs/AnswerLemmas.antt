@@ -1,19 +1,22 @@
 -- Where the outside does its part, no answer but what was asked for, done, or want of memory has its cause.
 use Rattle.std.proofs.lemmas.Bool.Decides.{nat_tests}
 use Rattle.std.proofs.lemmas.Grind.{common_steps}
-use Rattle.std.proofs.Common.{◌≡◌, ℕ, ◌<◌, ◌≤◌, List, true, false, Option, Some, IfSome, IsTrue, [], Ok, length, ap, sym, subst, ◌∙◌, arith, ◌⊎◌, inl, inr}
+use Rattle.std.proofs.Common.{◌≡◌, ℕ, ◌<◌, ◌≤◌, List, true, false, Option, Some, IfSome, IsTrue, [], Ok, length, refl, ap, sym, subst, ◌∙◌, arith, ◌⊎◌, inl, inr}
 use Rattle.refusal.specs.Count.{HasRisen}
 use Rattle.disk_trait.specs.Disk.{DiskState}
 use Rattle.disk_trait.specs.Shelf.{IsFreshCount}
 use Rattle.text_io.specs.Text.{SinkState}
 use Rattle.blsm_model.specs.Format.{most_script}
+use Rattle.blsm_model.specs.Geometry.{limits_of}
+use Rattle.blsm_model.specs.Legal.{IsLegal, Limits}
 use Rattle.blsm_model.specs.Sizes.{Sizes}
 use Rattle.blsm_model.specs.declared.history.Line.{Line}
 use Rattle.blsm_model.specs.declared.key.Key.{Key}
+use Rattle.blsm_model.specs.declared.room.Room.{Room}
 use Rattle.blsm_model.specs.declared.row.Value.{Value}
 use Rattle.script_text.specs.Grammar.{IsBadLine}
 use Rattle.script_text.proofs.GrammarLaws.{script_not_bad}
-use Rattle.program_words.specs.Words.{Asked, make, run, check}
+use Rattle.program_words.specs.Words.{Asked, make, run, check, serve}
 use Rattle.tree_file.specs.Tree.{Tree, HoldsTree, ReadsAsMap}
 use Rattle.tree_reading.specs.Damage.{most_version}
 use Rattle.tree_reading.specs.First.{IsOfFile}
@@ -21,14 +24,22 @@ use Rattle.tree_reading.specs.Reading.{IsWhy}
 use Rattle.tree_reading.specs.declared.found.Unreadable.{Unreadable}
 use Rattle.tree_reading.specs.declared.found.Unreadable.TheVariants as unreadable
 use Rattle.recover_open.specs.Making.{WasNotEmpty}
+use Rattle.store_run.specs.declared.run.Ending.{Ending}
 use Rattle.store_run.specs.declared.run.Ending.TheVariants as ending
+use Rattle.store_run.specs.Run.{Run, finds_damage}
+use Rattle.store_serve.specs.Room.{room_for}
+use Rattle.store_serve.specs.declared.closing.Closing.{Closing}
+use Rattle.store_serve.specs.declared.closing.Closing.TheVariants as closing
+use Rattle.store_serve.specs.Taken.{lines_in}
+use Rattle.store_trial.specs.Trial.{IsRoomOf}
+use Rattle.store_serve.proofs.WholeLemmas.{no_bad_line, no_full}
 use Rattle.blsm_run.specs.declared.outcome.Refusal.TheVariants as refusal
 use Rattle.blsm_run.specs.declared.status.Status.{Status}
 use Rattle.blsm_run.specs.declared.status.Status.TheVariants.{Done, NoMemory}
 use Rattle.blsm_run.specs.Outside.{IsQuietCount, OfTheDisk, Outside}
-use Rattle.blsm_run.specs.Outcome.{Outcome, refused, made, ran, checked, tried, Tells, status_of}
-use Rattle.blsm_run.specs.Stores.{WasCalm, WasRefused, WasLookedAt}
-use Rattle.blsm_run.specs.Cause.{Cause, WasAsked, AsksToRun}
+use Rattle.blsm_run.specs.Outcome.{Outcome, refused, made, ran, served, checked, tried, Tells, TellsLines, status_of}
+use Rattle.blsm_run.specs.Stores.{IsRunOnShelf, IsServedOnShelf, WasCalm, WasRefused, WasLookedAt}
+use Rattle.blsm_run.specs.Cause.{Cause, WasAsked, HasNotRun, HasNotServed}
 use Rattle.blsm_run.specs.Answer.{Answers, IsGranted, IsOpenable, HasDisk, CanBeDone}
 use Rattle.blsm_run.proofs.TrialLemmas.{ends_trial}
 
@@ -69,9 +80,9 @@ module _ {D : Type 0} (state : D → DiskState) (honest_tells : (d : D) → IsTr
         let fresh = subst (λ (d : D). IsFreshCount (state d) (state first)) is count in
         (first, last, fresh.is_honest ∙ has.honest, fresh.tells_bytes ∙ honest_tells has.disk has.honest, subst P (sym fresh.bytes) has.is, says)
 
-    refused_run : (why : Unreadable) → IsOfFile why → (lines : List Line) × (a : AsksToRun o (Ok lines)) × WasCalm state a.name false o.shelf o.shelf_after (WasRefused why) → ⊥
-    refused_run why of_file (lines, a, calm) =
-        let s = said a.name IsOpenable (WasRefused why) (can (run a.name a.workers a.turns) a.asked).0 calm.disk in
+    refused_opening : (why : Unreadable) → IsOfFile why → (name : List ℕ) → HasDisk state o name IsOpenable → WasCalm state name false o.shelf o.shelf_after (WasRefused why) → ⊥
+    refused_opening why of_file name has calm =
+        let s = said name IsOpenable (WasRefused why) has calm.disk in
         no_reason why (state s.0).bytes s.4 of_file (s.5.because s.2)
 
     refused_check : (why : Unreadable) → IsOfFile why → (name : List ℕ) → WasAsked o (check name) → WasCalm state name false o.shelf o.shelf_after (WasLookedAt (IsWhy why)) → ⊥
@@ -79,52 +90,82 @@ module _ {D : Type 0} (state : D → DiskState) (honest_tells : (d : D) → IsTr
         let s = said name IsOpenable (WasLookedAt (IsWhy why)) (can (check name) asked) calm.disk in
         no_reason why (state s.0).bytes s.4 of_file (s.5.is s.2)
 
-    pub completes : (outcome : Outcome) (status : Status) → Cause state o outcome → status ≡ status_of outcome → (status ≡ Done) ⊎ (status ≡ NoMemory)
-    completes (refused refusal.Usage) status cause is = absurd (cause.0 granted.asked.0)
-    completes (refused refusal.SourceFault) status cause is = absurd (quiet_is_no_rise granted.source_quiet cause.0.reads.0.0)
-    completes (refused refusal.TooBig) status (a, still) is =
-        let script = (can (run a.name a.workers a.turns) a.asked).1 in
-        let long = told o.source.left script.input (λ input. most_script < length input) script.told a.reads.0 in
-        absurd (omega (arith, long, script.short))
-    completes (refused (refusal.BadLine n)) status (a, still) is =
-        let script = (can (run a.name a.workers a.turns) a.asked).1 in
-        let bad = told o.source.left script.input (λ input. (length input ≤ most_script) × (o.source_after.left ≡ Some []) × IsBadLine input n) script.told a.reads.whole in
-        absurd (script_not_bad script.input script.lines n script.script bad.2)
-    completes (refused refusal.DiskFault) status (inl was) is = absurd (quiet_is_no_rise granted.shelf_quiet was.makes.rose.0)
-    completes (refused refusal.DiskFault) status (inr (inl was)) is = absurd (quiet_is_no_rise granted.shelf_quiet was.2.rose.0)
-    completes (refused refusal.DiskFault) status (inr (inr was)) is = absurd (quiet_is_no_rise granted.shelf_quiet was.checks.rose.0)
-    completes (refused refusal.NotAStore) status (inl was) is = absurd (refused_run unreadable.NotAStore tt was)
-    completes (refused refusal.NotAStore) status (inr was) is = absurd (refused_check unreadable.NotAStore tt was.name was.asked was.checks)
-    completes (refused (refusal.NotEmpty n)) status was is =
-        let s = said was.name (λ file. file ≡ []) (WasNotEmpty n) (can (make was.name was.sizes) was.asked) was.makes.disk in
-        let none : length (state s.0).bytes ≡ 0 = ap (λ (l : List ℕ). length l) s.4 in
-        absurd (omega (arith, s.5.some, s.5.length_is s.3, none))
-    completes (refused (refusal.Damaged place)) status (inl was) is = absurd (refused_run (unreadable.Damaged place) tt was)
-    completes (refused (refusal.Damaged place)) status (inr was) is = absurd (refused_check (unreadable.Damaged place) tt was.name was.asked was.checks)
-    completes (refused (refusal.Worn version)) status (inl was) is = absurd (refused_run (unreadable.Worn version) tt was)
-    completes (refused (refusal.Worn version)) status (inr was) is = absurd (refused_check (unreadable.Worn version) tt was.name was.asked was.checks)
-    completes (refused refusal.NoMemory) status cause is = inr is
-    completes (made length) status cause is = inl is
-    completes (ran history ending.Well) status cause is = inl is
-    completes (ran history ending.Faulted) status (lines, a, runs) is = absurd (omega (arith, granted.shelf_quiet.0, granted.shelf_quiet.1, runs.ran.ended, runs.rose))
-    completes (ran history ending.Damaged) status (lines, a, runs) is =
-        let has = (can (run a.name a.workers a.turns) a.asked).0 in
+    -- lines that were done over the disk that stands there: no page was found damaged, and the replies are the sequential map's
+    honest_run : (name : List ℕ) (lines : List Line) (workers turns : ℕ) (IsRoom : Room → Type 0) (history : Run) (end : Ending) → HasDisk state o name IsOpenable → IsRunOnShelf state name lines workers turns IsRoom history end o.shelf o.shelf_after
+        → (finds_damage history ≡ false) × (limits : Limits) × (opening : List (Key × Value)) × IsLegal limits opening history.entries
+    honest_run name lines workers turns IsRoom history end has runs =
         let disk = runs.disk has.tells in
         let same : Some disk.stood ≡ Some has.disk = sym disk.was ∙ has.stands in
         let is_that : disk.stood ≡ has.disk = cc in
         let honest = disk.fresh.is_honest ∙ subst (λ (d : D). IsTrue (state d).is_honest) (sym is_that) has.honest in
         let whole = runs.ran.headline honest in
-        let never : true ≡ false = sym runs.ran.ended.1 ∙ whole.2.served.no_page in
+        (whole.2.served.no_page, limits_of whole.0 history.charge, whole.2.served.opening, whole.2.served.replies)
+
+    -- they ended without a fault and without damage
+    is_well : (name : List ℕ) (lines : List Line) (workers turns : ℕ) (IsRoom : Room → Type 0) (history : Run) (end : Ending) → HasDisk state o name IsOpenable → IsRunOnShelf state name lines workers turns IsRoom history end o.shelf o.shelf_after → end ≡ ending.Well
+    is_well name lines workers turns IsRoom history ending.Well has runs = refl
+    is_well name lines workers turns IsRoom history ending.Faulted has runs = absurd (omega (arith, granted.shelf_quiet.0, granted.shelf_quiet.1, runs.ran.ended, runs.rose))
+    is_well name lines workers turns IsRoom history ending.Damaged has runs =
+        let none = (honest_run name lines workers turns IsRoom history ending.Damaged has runs).0 in
+        let never : true ≡ false = sym runs.ran.ended.1 ∙ none in
         absurd (cc)
-    completes (checked report) status cause is = inl is
-    completes (tried seed count history) status cause is = inl is
+
+    pub completes : (outcome : Outcome) (status : Status) → TellsLines outcome sink sink_after → Cause state o outcome → status ≡ status_of outcome → (status ≡ Done) ⊎ (status ≡ NoMemory)
+    completes (refused refusal.Usage) status lines cause is = absurd (cause.0 granted.asked.0)
+    completes (refused refusal.SourceFault) status lines cause is = absurd (quiet_is_no_rise granted.source_quiet cause.0.reads.0.0)
+    completes (refused refusal.TooBig) status lines (a, still) is =
+        let script = (can (run a.name a.workers a.turns) a.asked).1 in
+        let long = told o.source.left script.input (λ input. most_script < length input) script.told a.reads.0 in
+        absurd (omega (arith, long, script.short))
+    completes (refused (refusal.BadLine n)) status lines (a, still) is =
+        let script = (can (run a.name a.workers a.turns) a.asked).1 in
+        let bad = told o.source.left script.input (λ input. (length input ≤ most_script) × (o.source_after.left ≡ Some []) × IsBadLine input n) script.told a.reads.whole in
+        absurd (script_not_bad script.input script.lines n script.script bad.2)
+    completes (refused refusal.DiskFault) status lines (inl was) is = absurd (quiet_is_no_rise granted.shelf_quiet was.makes.rose.0)
+    completes (refused refusal.DiskFault) status lines (inr (inl was)) is = absurd (quiet_is_no_rise granted.shelf_quiet was.2.rose.0)
+    completes (refused refusal.DiskFault) status lines (inr (inr (inl was))) is = absurd (quiet_is_no_rise granted.shelf_quiet was.refuses.rose.0)
+    completes (refused refusal.DiskFault) status lines (inr (inr (inr was))) is = absurd (quiet_is_no_rise granted.shelf_quiet was.checks.rose.0)
+    completes (refused refusal.NotAStore) status lines (inl (ls, a, why)) is = absurd (refused_opening unreadable.NotAStore tt a.name (can (run a.name a.workers a.turns) a.asked).0 why)
+    completes (refused refusal.NotAStore) status lines (inr (inl was)) is = absurd (refused_opening unreadable.NotAStore tt was.asks.name (can (serve was.asks.name was.asks.callers) was.asks.asked).0 was.refuses)
+    completes (refused refusal.NotAStore) status lines (inr (inr was)) is = absurd (refused_check unreadable.NotAStore tt was.name was.asked was.checks)
+    completes (refused (refusal.NotEmpty n)) status lines was is =
+        let s = said was.name (λ file. file ≡ []) (WasNotEmpty n) (can (make was.name was.sizes) was.asked) was.makes.disk in
+        let none : length (state s.0).bytes ≡ 0 = ap (λ (l : List ℕ). length l) s.4 in
+        absurd (omega (arith, s.5.some, s.5.length_is s.3, none))
+    completes (refused (refusal.Damaged place)) status lines (inl (ls, a, why)) is = absurd (refused_opening (unreadable.Damaged place) tt a.name (can (run a.name a.workers a.turns) a.asked).0 why)
+    completes (refused (refusal.Damaged place)) status lines (inr (inl was)) is = absurd (refused_opening (unreadable.Damaged place) tt was.asks.name (can (serve was.asks.name was.asks.callers) was.asks.asked).0 was.refuses)
+    completes (refused (refusal.Damaged place)) status lines (inr (inr was)) is = absurd (refused_check (unreadable.Damaged place) tt was.name was.asked was.checks)
+    completes (refused (refusal.Worn version)) status lines (inl (ls, a, why)) is = absurd (refused_opening (unreadable.Worn version) tt a.name (can (run a.name a.workers a.turns) a.asked).0 why)
+    completes (refused (refusal.Worn version)) status lines (inr (inl was)) is = absurd (refused_opening (unreadable.Worn version) tt was.asks.name (can (serve was.asks.name was.asks.callers) was.asks.asked).0 was.refuses)
+    completes (refused (refusal.Worn version)) status lines (inr (inr was)) is = absurd (refused_check (unreadable.Worn version) tt was.name was.asked was.checks)
+    completes (refused refusal.NoMemory) status lines cause is = inr is
+    completes (made length) status lines cause is = inl is
+    completes (ran history end) status lines (ls, a, runs) is =
+        let well = is_well a.name ls a.workers a.turns (λ room. IsRoomOf room ls) history end (can (run a.name a.workers a.turns) a.asked).0 runs in
+        inl (is ∙ ap (λ (e : Ending). status_of (ran history e)) well)
+    completes (served history end closing.SinkFault) status (cut, (no_fall, risen, once)) (a, s) is = absurd (quiet_is_no_rise granted.sink_quiet risen)
+    completes (served history end closing.SourceFault) status lines (a, s) is = absurd (quiet_is_no_rise granted.source_quiet s.takes.counts.1)
+    completes (served history end (closing.BadLine n)) status lines (a, s) is =
+        let (has, session) = can (serve a.name a.callers) a.asked in
+        let (no_page, limits, opening, legal) = honest_run a.name (lines_in history.entries) 0 0 (λ room. room ≡ room_for a.callers) history end has s.runs in
+        absurd (no_bad_line limits opening (room_for a.callers) session.lines session.allowed session.room history.entries legal o.source o.source_after session.told n s.takes)
+    completes (served history end (closing.NoRoom n)) status lines (a, s) is =
+        let (has, session) = can (serve a.name a.callers) a.asked in
+        let (no_page, limits, opening, legal) = honest_run a.name (lines_in history.entries) 0 0 (λ room. room ≡ room_for a.callers) history end has s.runs in
+        absurd (no_full limits opening (room_for a.callers) session.lines session.allowed session.room history.entries legal o.source o.source_after session.told n s.takes)
+    completes (served history end closing.Ended) status lines (a, s) is =
+        let well = is_well a.name (lines_in history.entries) 0 0 (λ room. room ≡ room_for a.callers) history end (can (serve a.name a.callers) a.asked).0 s.runs in
+        inl (is ∙ ap (λ (e : Ending). status_of (served history e closing.Ended)) well)
+    completes (checked report) status lines cause is = inl is
+    completes (tried seed count history) status lines cause is = inl is
 
   -- all that is promised of a call
-  pub answers : (o : Outside D) (sink sink_after : SinkState) (outcome : Outcome) (status : Status) → Cause state o outcome → Tells sink sink_after outcome status → Answers state o sink sink_after status
-  answers o sink sink_after outcome status cause tells = record {
+  pub answers : (o : Outside D) (sink sink_after : SinkState) (outcome : Outcome) (status : Status) → Cause state o outcome → Tells sink sink_after outcome status → TellsLines outcome sink sink_after → Answers state o sink sink_after status
+  answers o sink sink_after outcome status cause tells lines = record {
     outcome = outcome;
     tells = tells;
+    lines = lines;
     cause = cause;
-    completes = λ granted. completes o sink sink_after granted outcome status cause (tells_status sink sink_after outcome status granted.sink_quiet tells);
+    completes = λ granted. completes o sink sink_after granted outcome status lines cause (tells_status sink sink_after outcome status granted.sink_quiet tells);
     tries = λ seed count asked. ends_trial state o seed count asked sink sink_after outcome status cause tells;
   }

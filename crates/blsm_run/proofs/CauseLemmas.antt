@@ -1,6 +1,7 @@
 -- What a step of a call answers is the cause of how the call ends.
-use Rattle.std.proofs.Common.{◌≡◌, Result, Ok, Err, IsErrAnd, sym, subst, inl, inr}
+use Rattle.std.proofs.Common.{◌≡◌, Result, Ok, Err, IsErrAnd, refl, sym, subst, inl, inr}
 use Rattle.disk_trait.specs.Disk.{DiskState}
+use Rattle.text_io.specs.Text.{SinkState}
 use Rattle.program_words.specs.Words.{ReadsWords}
 use Rattle.program_words.specs.declared.request.Unread.{Unread}
 use Rattle.program_words.specs.declared.request.Unread.TheVariants as unread_words
@@ -12,8 +13,13 @@ use Rattle.blsm_run.specs.declared.outcome.Answer.{Answer}
 use Rattle.blsm_run.specs.declared.outcome.Refusal.{Refusal}
 use Rattle.blsm_run.specs.declared.outcome.Refusal.TheVariants as refusal
 use Rattle.blsm_run.specs.Cause.{Cause, AsksInVain, HasMade, WasStopped}
-use Rattle.blsm_run.specs.Outcome.{outcome_of, refused, refusal_of_making, refusal_of_store, refusal_of_words}
+use Rattle.blsm_run.specs.Outcome.{HasTold, outcome_of, refused, refusal_of_making, refusal_of_store, refusal_of_words}
 use Rattle.blsm_run.specs.Outside.{Outside}
+
+-- nothing was told before a refusal
+pub not_told : (result : Result Answer Refusal) (why : Refusal) (sink : SinkState) → IsErrAnd result (λ r. r ≡ why) → HasTold (outcome_of result) sink sink
+not_told (Ok answer) why sink is = absurd is
+not_told (Err r) why sink is = refl
 
 module _ {D : Type 0} (state : D → DiskState) (o : Outside D) where
   -- a refusal that is passed on

@@ -2,3 +2,4 @@ pub mod ShelfLemmas
 pub mod CauseLemmas
 pub mod AnswerLemmas
 pub mod TrialLemmas
+pub mod TellLemmas

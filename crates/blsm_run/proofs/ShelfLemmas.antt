@@ -1,7 +1,7 @@
 -- What was done to a disk between its fetch and its return was done to the disk of that name of the shelf.
 use Rattle.std.proofs.lemmas.Bool.Decides.{nat_tests}
 use Rattle.std.proofs.lemmas.Grind.{common_steps}
-use Rattle.std.proofs.Common.{◌≡◌, ◌≢◌, ℕ, ◌+◌, ◌<◌, ◌≤◌, Bool, true, false, List, Some, IsTrue, Result, Ok, Err, IfErr, IfOk, IsErr, OnOk, length, refl, ◌∙◌, inl, inr, arith}
+use Rattle.std.proofs.Common.{◌≡◌, ◌≢◌, ℕ, ◌+◌, ◌<◌, ◌≤◌, Bool, true, false, List, Some, IsTrue, Result, Ok, Err, IfErr, IfOk, IsErr, OnOk, length, refl, ap, subst, ◌∙◌, inl, inr, arith}
 use Rattle.std.proofs.lemmas.Result.{IfOk-at_ok}
 use Rattle.refusal.specs.Count.{HasRisen}
 use Rattle.disk_trait.specs.Calls.{Fetches, GivesBack}
@@ -28,9 +28,14 @@ use Rattle.recover_open.specs.declared.making.NotMade.TheVariants as not_made
 use Rattle.store_run.specs.declared.run.Finished.{Finished}
 use Rattle.store_run.specs.Headline.{Headline}
 use Rattle.store_trial.specs.Trial.{IsRoomOf}
-use Rattle.store_run.specs.Run.{AreCounted, CameToEnd, HasCauses, IsEnding, IsRunOf, run_of}
+use Rattle.store_run.specs.declared.run.Ending.{Ending}
+use Rattle.store_run.specs.Run.{AreCounted, CameToEnd, HasCauses, IsEnding, IsRunInOrder, IsRunOf, Run, run_of}
+use Rattle.store_serve.specs.Room.{room_for}
+use Rattle.store_serve.specs.Taken.{TakesLines, lines_in}
+use Rattle.store_serve.specs.declared.serve.Served.{Served}
+use Rattle.text_io.specs.Text.{SourceState}
 use Rattle.blsm_run.specs.Outside.{HasFetched, OfTheDisk}
-use Rattle.blsm_run.specs.Stores.{WasCalm, HasFailedOnce, LeavesMade, WasMade, MakesOnShelf, LeavesClosed, WasRefused, HasRunOn, RunsOnShelf, StaysWithin, WasLookedAt, ChecksOnShelf}
+use Rattle.blsm_run.specs.Stores.{WasCalm, HasFailedOnce, LeavesMade, WasMade, MakesOnShelf, LeavesClosed, WasRefused, HasRunOn, IsRunOnShelf, RefusesOnShelf, RunsOnShelf, ServesOnShelf, StaysWithin, WasLookedAt, ChecksOnShelf}
 
 -- the fetch failed
 pub not_fetched : {D E : Type 0} {state : D → DiskState} {name : List ℕ} {fresh : Bool} {old new : ShelfState D} (P : DiskState → DiskState → Type 0) (result : Result D E)
@@ -49,6 +54,10 @@ not_fetched P (Err error) f none = record {
 -- where it wasn't by a fault, a looking makes at most one
 looked_once : {most : Sizes → ℕ} {first last : DiskState} → HasLooked most first last → last.faults ≤ first.faults + 1
 looked_once h1 = grind (arith, common_steps, nat_tests)
+
+-- a fault is told by the reason itself
+tells_why : {T : Type 0} (why : Unreadable) {first last : DiskState} → TellsFaultsBy {R = Result T Unreadable} (Err unreadable.Fault) (Err why) first last → TellsFaultsBy unreadable.Fault why first last
+tells_why why tells = record { stands = λ other. tells.stands (λ same. let is : why ≡ unreadable.Fault = cc in other is); failed = λ is. tells.failed (ap (λ (w : Unreadable). Err w) is) }
 
 -- a disk on which a store was made had no bytes
 was_empty : (result : Result (Unit {0}) NotMade) (n : ℕ) → result ≡ Ok tt → (0 < n → result ≢ Err not_made.Fault → result ≡ Err (not_made.NotEmpty n)) → n ≡ 0
@@ -116,18 +125,23 @@ module _ {D E : Type 0} {state : D → DiskState} {name : List ℕ} {old mid new
       → (IsTrue (state disk).is_honest → IsOfFile why → LeavesOnly (state disk) (state last) (state disk).images) → (state last).faults ≡ (state disk).faults → WasCalm state name false old new (WasRefused why)
   refused why because leaves spares calm = was_calm f b (WasRefused why) calm (record { because = because; leaves = leaves; spares = spares })
 
-  pub runs : (lines : List Line) (workers turns : ℕ) (room : Room) (result : Result Finished Unreadable) → IsRoomOf room lines
-      → IfOk result (λ finished. (sizes : Sizes) × HasLengthOf sizes (state disk) × IsRunOf sizes lines workers turns (run_of finished)) → IfOk result (λ finished. CameToEnd workers turns (run_of finished))
-      → IfOk result (λ finished. AreCounted (run_of finished) (state disk) (state last)) → IfOk result (λ finished. IsEnding finished.ending (run_of finished) (state last).faults)
-      → IfOk result (λ finished. HasCauses state room (run_of finished) disk last) → StaysWithin (state disk) (state last)
-      → (IsTrue (state disk).is_honest → IfOk result (λ finished. (sizes : Sizes) × IsRunOf sizes lines workers turns (run_of finished) × Headline state sizes lines workers turns (run_of finished) room disk last))
-      → (IsTrue (state disk).is_honest → IfErr result (λ why. IsWhy why (state disk).bytes))
-      → ((sizes : Sizes) (pairs : List (Key × Value)) → IsTrue (state disk).is_honest → ReadsAsMap sizes pairs (state disk).bytes → IfErr result (λ why. KeepsMapOf sizes pairs (state disk) (state last)))
-      → (IsTrue (state disk).is_honest → ReadsAsNone (state disk).bytes → LeavesOnly (state disk) (state last) (state disk).images)
-      → (IsTrue (state disk).is_honest → IfErr result (λ why. IsOfFile why → LeavesOnly (state disk) (state last) (state disk).images))
-      → (IsErr result → (state last).faults ≤ (state disk).faults + 1) → (IsErr result → TellsFaultsBy (Err unreadable.Fault) result (state disk) (state last))
-      → RunsOnShelf state name lines workers turns old new result
-  runs lines workers turns room (Ok finished) has_room printed came counted ended causes inside headline because keeps untouched spares once tells = record {
+  -- the store wasn't opened
+  refuses : (why : Unreadable) → (IsTrue (state disk).is_honest → IsWhy why (state disk).bytes) → LeavesClosed (state disk) (state last)
+      → (IsTrue (state disk).is_honest → IsOfFile why → LeavesOnly (state disk) (state last) (state disk).images)
+      → (state last).faults ≤ (state disk).faults + 1 → TellsFaultsBy unreadable.Fault why (state disk) (state last) → RefusesOnShelf state name old new why
+  refuses unreadable.Fault because leaves spares once tells = has_failed f b LeavesClosed (tells.failed refl) once leaves
+  refuses unreadable.NotAStore because leaves spares once tells = refused unreadable.NotAStore because leaves spares (tells.stands (λ wrong. cc))
+  refuses (unreadable.Damaged place) because leaves spares once tells = refused (unreadable.Damaged place) because leaves spares (tells.stands (λ wrong. cc))
+  refuses (unreadable.Worn version) because leaves spares once tells = refused (unreadable.Worn version) because leaves spares (tells.stands (λ wrong. cc))
+  refuses unreadable.NoMemory because leaves spares once tells = refused unreadable.NoMemory because leaves spares (tells.stands (λ wrong. cc))
+
+  -- lines were done over it
+  did_lines : (lines : List Line) (workers turns : ℕ) (IsRoom : Room → Type 0) (room : Room) (run : Run) (ending : Ending) → IsRoom room
+      → (sizes : Sizes) × HasLengthOf sizes (state disk) × IsRunOf sizes lines workers turns run → CameToEnd workers turns run
+      → AreCounted run (state disk) (state last) → IsEnding ending run (state last).faults → HasCauses state room run disk last → StaysWithin (state disk) (state last)
+      → (IsTrue (state disk).is_honest → (sizes : Sizes) × IsRunOf sizes lines workers turns run × Headline state sizes lines workers turns run room disk last)
+      → IsRunOnShelf state name lines workers turns IsRoom run ending old new
+  did_lines lines workers turns IsRoom room run ending has_room printed came counted ended causes inside headline = record {
     sizes = printed.0;
     printed = printed.2;
     came = came;
@@ -149,16 +163,44 @@ module _ {D E : Type 0} {state : D → DiskState} {name : List ℕ} {old mid new
     rose = grind (arith, stands f b, b.faults);
     faults = grind (arith, stands f b, b.faults, f.count, counted.risen);
   }
-  runs lines workers turns room (Err unreadable.Fault) has_room printed came counted ended causes inside headline because keeps untouched spares once tells =
-      has_failed f b LeavesClosed ((tells refl).failed refl) (once refl) (record { keeps = keeps; untouched = untouched; within = inside })
-  runs lines workers turns room (Err unreadable.NotAStore) has_room printed came counted ended causes inside headline because keeps untouched spares once tells =
-      refused unreadable.NotAStore because (record { keeps = keeps; untouched = untouched; within = inside }) spares ((tells refl).stands (λ wrong. cc))
-  runs lines workers turns room (Err (unreadable.Damaged place)) has_room printed came counted ended causes inside headline because keeps untouched spares once tells =
-      refused (unreadable.Damaged place) because (record { keeps = keeps; untouched = untouched; within = inside }) spares ((tells refl).stands (λ wrong. cc))
-  runs lines workers turns room (Err (unreadable.Worn version)) has_room printed came counted ended causes inside headline because keeps untouched spares once tells =
-      refused (unreadable.Worn version) because (record { keeps = keeps; untouched = untouched; within = inside }) spares ((tells refl).stands (λ wrong. cc))
-  runs lines workers turns room (Err unreadable.NoMemory) has_room printed came counted ended causes inside headline because keeps untouched spares once tells =
-      refused unreadable.NoMemory because (record { keeps = keeps; untouched = untouched; within = inside }) spares ((tells refl).stands (λ wrong. cc))
+
+  pub runs : (lines : List Line) (workers turns : ℕ) (room : Room) (result : Result Finished Unreadable) → IsRoomOf room lines
+      → IfOk result (λ finished. (sizes : Sizes) × HasLengthOf sizes (state disk) × IsRunOf sizes lines workers turns (run_of finished)) → IfOk result (λ finished. CameToEnd workers turns (run_of finished))
+      → IfOk result (λ finished. AreCounted (run_of finished) (state disk) (state last)) → IfOk result (λ finished. IsEnding finished.ending (run_of finished) (state last).faults)
+      → IfOk result (λ finished. HasCauses state room (run_of finished) disk last) → StaysWithin (state disk) (state last)
+      → (IsTrue (state disk).is_honest → IfOk result (λ finished. (sizes : Sizes) × IsRunOf sizes lines workers turns (run_of finished) × Headline state sizes lines workers turns (run_of finished) room disk last))
+      → (IsTrue (state disk).is_honest → IfErr result (λ why. IsWhy why (state disk).bytes))
+      → ((sizes : Sizes) (pairs : List (Key × Value)) → IsTrue (state disk).is_honest → ReadsAsMap sizes pairs (state disk).bytes → IfErr result (λ why. KeepsMapOf sizes pairs (state disk) (state last)))
+      → (IsTrue (state disk).is_honest → ReadsAsNone (state disk).bytes → LeavesOnly (state disk) (state last) (state disk).images)
+      → (IsTrue (state disk).is_honest → IfErr result (λ why. IsOfFile why → LeavesOnly (state disk) (state last) (state disk).images))
+      → (IsErr result → (state last).faults ≤ (state disk).faults + 1) → (IsErr result → TellsFaultsBy (Err unreadable.Fault) result (state disk) (state last))
+      → RunsOnShelf state name lines workers turns old new result
+  runs lines workers turns room (Ok finished) has_room printed came counted ended causes inside headline because keeps untouched spares once tells =
+      did_lines lines workers turns (λ r. IsRoomOf r lines) room (run_of finished) finished.ending has_room printed came counted ended causes inside headline
+  runs lines workers turns room (Err why) has_room printed came counted ended causes inside headline because keeps untouched spares once tells =
+      refuses why because (record { keeps = keeps; untouched = untouched; within = inside }) spares (once refl) (tells_why why (tells refl))
+
+  -- and the source gave them
+  pub serves : (callers : ℕ) (room : Room) (result : Result Served Unreadable) (source source_after : SourceState) → room ≡ room_for callers
+      → IfOk result (λ s. (sizes : Sizes) × HasLengthOf sizes (state disk) × IsRunInOrder sizes (lines_in (run_of s.finished).entries) (run_of s.finished)) → IfOk result (λ s. CameToEnd 0 0 (run_of s.finished))
+      → IfOk result (λ s. AreCounted (run_of s.finished) (state disk) (state last)) → IfOk result (λ s. IsEnding s.finished.ending (run_of s.finished) (state last).faults)
+      → IfOk result (λ s. HasCauses state room (run_of s.finished) disk last) → StaysWithin (state disk) (state last)
+      → (IsTrue (state disk).is_honest → IfOk result (λ s. (sizes : Sizes) × IsRunInOrder sizes (lines_in (run_of s.finished).entries) (run_of s.finished)
+      × Headline state sizes (lines_in (run_of s.finished).entries) 0 0 (run_of s.finished) room disk last))
+      → (IsTrue (state disk).is_honest → IfErr result (λ why. IsWhy why (state disk).bytes))
+      → ((sizes : Sizes) (pairs : List (Key × Value)) → IsTrue (state disk).is_honest → ReadsAsMap sizes pairs (state disk).bytes → IfErr result (λ why. KeepsMapOf sizes pairs (state disk) (state last)))
+      → (IsTrue (state disk).is_honest → ReadsAsNone (state disk).bytes → LeavesOnly (state disk) (state last) (state disk).images)
+      → (IsTrue (state disk).is_honest → IfErr result (λ why. IsOfFile why → LeavesOnly (state disk) (state last) (state disk).images))
+      → (IsErr result → (state last).faults ≤ (state disk).faults + 1) → (IsErr result → TellsFaultsBy (Err unreadable.Fault) result (state disk) (state last))
+      → IfOk result (λ s. TakesLines (run_of s.finished).entries s.closing room source source_after) → (IsErr result → source_after ≡ source)
+      → ServesOnShelf state name callers old new source source_after result
+  serves callers room (Ok s) source source_after has_room printed came counted ended causes inside headline because keeps untouched spares once tells takes unasked = record {
+    runs = did_lines (lines_in (run_of s.finished).entries) 0 0 (λ r. r ≡ room_for callers) room (run_of s.finished) s.finished.ending has_room (printed.0, printed.1, printed.2.printed) came counted ended causes inside
+        (λ honest. let whole = headline honest in (whole.0, whole.1.printed, whole.2));
+    takes = subst (λ (r : Room). TakesLines (run_of s.finished).entries s.closing r source source_after) has_room takes;
+  }
+  serves callers room (Err why) source source_after has_room printed came counted ended causes inside headline because keeps untouched spares once tells takes unasked =
+      (refuses why because (record { keeps = keeps; untouched = untouched; within = inside }) spares (once refl) (tells_why why (tells refl)), unasked refl)
 
   looked_at : (P : List ℕ → Type 0) → (IsTrue (state disk).is_honest → P (state disk).bytes) → HasLooked reading_calls (state disk) (state last) → (state last).faults ≡ (state disk).faults
       → WasCalm state name false old new (WasLookedAt P)

@@ -1,5 +1,6 @@
 -- The whole promise of the program's call.
 use Rattle.std.specs.Prelude.{◌≡◌, ◌⊎◌, ◌≤◌, ⊤, ℕ, [], IsTrue, Some, List, length}
+use Rattle.std.specs.List.{All}
 use Rattle.disk_trait.specs.Disk.{DiskState}
 use Rattle.text_io.specs.Text.{SinkState}
 use Rattle.blsm_model.specs.declared.history.Line.{Line}
@@ -7,13 +8,15 @@ use Rattle.blsm_model.specs.declared.key.Key.{Key}
 use Rattle.blsm_model.specs.declared.row.Value.{Value}
 use Rattle.blsm_model.specs.Format.{most_script}
 use Rattle.blsm_model.specs.Sizes.{Sizes}
-use Rattle.script_text.specs.Grammar.{IsScript}
-use Rattle.program_words.specs.Words.{Asked, make, run, check, trial}
+use Rattle.script_text.specs.Grammar.{IsAllowed, IsScript, lines_text}
+use Rattle.program_words.specs.Words.{Asked, make, run, check, trial, serve}
 use Rattle.store_run.specs.Headline.{IsStoreWith}
+use Rattle.store_serve.specs.Room.{room_for}
+use Rattle.tree_session.specs.Lines.{HasRoomFor}
 use Rattle.blsm_run.specs.declared.status.Status.{Status}
 use Rattle.blsm_run.specs.declared.status.Status.TheVariants.{Done, SinkFault, NoMemory}
 use Rattle.blsm_run.specs.Outside.{Outside, IsQuietCount}
-use Rattle.blsm_run.specs.Outcome.{Outcome, Tells}
+use Rattle.blsm_run.specs.Outcome.{Outcome, Tells, TellsLines}
 use Rattle.blsm_run.specs.Cause.{Cause, WasAsked}
 
 -- the source tells a script within the grammar and the limits
@@ -23,6 +26,13 @@ pub record TellsScript {D : Type 0} (o : Outside D) : Type 0 where
   pub short : length input ≤ most_script
   pub lines : List Line
   pub script : IsScript input lines
+
+-- the source tells lines, each with its end, for which a session of so many callers has room
+pub record TellsSession {D : Type 0} (callers : ℕ) (o : Outside D) : Type 0 where
+  pub lines : List Line
+  pub told : o.source.left ≡ Some (lines_text lines)
+  pub allowed : All IsAllowed lines
+  pub room : HasRoomFor (room_for callers) lines
 
 -- an honest disk stands under this name, of which this holds
 pub record HasDisk {D : Type 0} (state : D → DiskState) (o : Outside D) (name : List ℕ) (P : List ℕ → Type 0) : Type 0 where
@@ -42,6 +52,7 @@ CanBeDone state o (make name sizes) = HasDisk state o name (λ file. file ≡ []
 CanBeDone state o (run name workers turns) = HasDisk state o name IsOpenable × TellsScript o
 CanBeDone state o (check name) = HasDisk state o name IsOpenable
 CanBeDone state o (trial seed count) = ⊤
+CanBeDone state o (serve name callers) = HasDisk state o name IsOpenable × TellsSession callers o
 
 -- Where the outside does its part: accepted words that ask for something that can be done, and no count that rose.
 pub record IsGranted {D : Type 0} (state : D → DiskState) (o : Outside D) (sink sink_after : SinkState) : Type 0 where
@@ -56,6 +67,8 @@ pub record IsGranted {D : Type 0} (state : D → DiskState) (o : Outside D) (sin
 pub record Answers {D : Type 0} (state : D → DiskState) (o : Outside D) (sink sink_after : SinkState) (status : Status) : Type 0 where
   pub outcome : Outcome
   pub tells : Tells sink sink_after outcome status
+  -- a session's lines one by one
+  pub lines : TellsLines outcome sink sink_after
   pub cause : Cause state o outcome
   -- where the outside does its part, what is asked for is done without a fault, or memory runs out before its first command
   pub completes : IsGranted state o sink sink_after → (status ≡ Done) ⊎ (status ≡ NoMemory)

@@ -4,17 +4,17 @@ use Rattle.disk_trait.specs.Disk.{DiskState}
 use Rattle.disk_mem.specs.Faultless.{Faultless}
 use Rattle.blsm_model.specs.declared.history.Line.{Line}
 use Rattle.blsm_model.specs.Sizes.{Sizes}
-use Rattle.program_words.specs.Words.{Asked, AreAccepted, asked_by, make, run, check, trial}
+use Rattle.program_words.specs.Words.{Asked, AreAccepted, asked_by, make, run, check, trial, serve}
 use Rattle.tree_reading.specs.declared.found.Unreadable.{Unreadable}
 use Rattle.tree_reading.specs.declared.found.Unreadable.TheVariants as unreadable
 use Rattle.tree_reading.specs.declared.report.Report.{Report}
 use Rattle.recover_open.specs.declared.making.NotMade.{NotMade}
 use Rattle.recover_open.specs.declared.making.NotMade.TheVariants as not_made
-use Rattle.store_trial.specs.Trial.{IsTrialOf}
+use Rattle.store_trial.specs.Trial.{IsRoomOf, IsTrialOf}
 use Rattle.blsm_run.specs.Outside.{Outside}
-use Rattle.blsm_run.specs.Outcome.{Outcome, refused, made, ran, checked, tried}
+use Rattle.blsm_run.specs.Outcome.{Outcome, refused, made, ran, served, checked, tried}
 use Rattle.blsm_run.specs.Reading.{ReadsScript}
-use Rattle.blsm_run.specs.Stores.{MakesOnShelf, RunsOnShelf, ChecksOnShelf, IsRunOnShelf}
+use Rattle.blsm_run.specs.Stores.{MakesOnShelf, RefusesOnShelf, ChecksOnShelf, IsRunOnShelf, IsServedOnShelf}
 use Rattle.blsm_run.specs.declared.outcome.Refusal.{Refusal}
 use Rattle.blsm_run.specs.declared.outcome.Refusal.TheVariants as refusal
 
@@ -45,13 +45,29 @@ pub record AsksToRun {D : Type 0} (o : Outside D) (script : Result (List Line) R
   pub asked : WasAsked o (run name workers turns)
   pub reads : ReadsScript o.source o.source_after script
 
+-- A session over the store on the disk of this name was to be served, with room for so many callers.
+pub record AsksToServe {D : Type 0} (o : Outside D) : Type 0 where
+  pub name : List ℕ
+  pub callers : ℕ
+  pub asked : WasAsked o (serve name callers)
+
 -- the script wasn't read, for this
 abbrev pub AsksInVain : {D : Type 0} → Outside D → Refusal → Type 0
 AsksInVain o why = AsksToRun o (Err why) × (o.shelf_after ≡ o.shelf)
 
--- the store was refused for this, to a script or to a check
+-- the store was refused for this to a session, and the source wasn't read
+pub record HasNotServed {D : Type 0} (state : D → DiskState) (o : Outside D) (why : Unreadable) : Type 0 where
+  pub asks : AsksToServe o
+  pub unread : o.source_after ≡ o.source
+  pub refuses : RefusesOnShelf state asks.name o.shelf o.shelf_after why
+
+-- the store was refused for this to a script
+abbrev pub HasNotRun : {D : Type 0} → (D → DiskState) → Outside D → Unreadable → Type 0
+HasNotRun state o why = (lines : List Line) × (a : AsksToRun o (Ok lines)) × RefusesOnShelf state a.name o.shelf o.shelf_after why
+
+-- the store was refused for this, to a script, to a session or to a check
 abbrev pub WasStopped : {D : Type 0} → (D → DiskState) → Outside D → Unreadable → Type 0
-WasStopped state o why = ((lines : List Line) × (a : AsksToRun o (Ok lines)) × RunsOnShelf state a.name lines a.workers a.turns o.shelf o.shelf_after (Err why)) ⊎ HasChecked state o (Err why)
+WasStopped state o why = HasNotRun state o why ⊎ HasNotServed state o why ⊎ HasChecked state o (Err why)
 
 abbrev pub Cause : {D : Type 0} → (D → DiskState) → Outside D → Outcome → Type 0
 Cause state o (refused refusal.Usage) = (¬ AreAccepted o.words) × (o.source_after ≡ o.source) × (o.shelf_after ≡ o.shelf)
@@ -65,6 +81,7 @@ Cause state o (refused (refusal.Damaged place)) = WasStopped state o (unreadable
 Cause state o (refused (refusal.Worn version)) = WasStopped state o (unreadable.Worn version)
 Cause state o (refused refusal.NoMemory) = ((o.source_after ≡ o.source) × (o.shelf_after ≡ o.shelf)) ⊎ AsksInVain o refusal.NoMemory ⊎ WasStopped state o unreadable.NoMemory
 Cause state o (made length) = HasMade state o (Ok length)
-Cause state o (ran history end) = (lines : List Line) × (a : AsksToRun o (Ok lines)) × IsRunOnShelf state a.name lines a.workers a.turns history end o.shelf o.shelf_after
+Cause state o (ran history end) = (lines : List Line) × (a : AsksToRun o (Ok lines)) × IsRunOnShelf state a.name lines a.workers a.turns (λ room. IsRoomOf room lines) history end o.shelf o.shelf_after
+Cause state o (served history end closing) = (a : AsksToServe o) × IsServedOnShelf state a.name a.callers history end closing o.shelf o.shelf_after o.source o.source_after
 Cause state o (checked report) = HasChecked state o (Ok report)
 Cause state o (tried seed count history) = WasAsked o (trial seed count) × (o.source_after ≡ o.source) × (o.shelf_after ≡ o.shelf) × (disk : Faultless) × IsTrialOf seed count history disk

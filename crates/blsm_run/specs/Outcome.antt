@@ -1,9 +1,11 @@
 -- How a call ends, and what it writes then.
-use Rattle.std.specs.Prelude.{◌≡◌, ◌⊎◌, ⊤, ℕ, List, [], ◌∷◌, ◌++◌, codes, decimal, Result, Ok, Err}
+use Rattle.std.specs.Prelude.{◌≡◌, ◌⊎◌, ⊤, ℕ, List, [], ◌∷◌, ◌++◌, Option, Some, IfSome, codes, decimal, Result, Ok, Err, IsErr}
 use Rattle.std.specs.List.{All}
-use Rattle.text_io.specs.Text.{Adds, AddsFront, SinkState}
+use Rattle.refusal.specs.declared.Failed.{Failed}
+use Rattle.text_io.specs.Text.{Adds, AddsFront, SinkState, Writes}
 use Rattle.blsm_model.specs.declared.component.Component.{Component}
-use Rattle.blsm_model.specs.Printed.{and_number, history_text}
+use Rattle.blsm_model.specs.declared.history.Totals.{Totals}
+use Rattle.blsm_model.specs.Printed.{and_number, end_text, history_text}
 use Rattle.script_text.specs.Generated.{HasMadeKeys}
 use Rattle.script_text.specs.Summary.{summary_text}
 use Rattle.tree_reading.specs.declared.found.Place.{Place}
@@ -16,6 +18,9 @@ use Rattle.recover_open.specs.declared.making.NotMade.TheVariants as not_made
 use Rattle.store_run.specs.declared.run.Ending.{Ending}
 use Rattle.store_run.specs.declared.run.Ending.TheVariants as ending
 use Rattle.store_run.specs.Run.{Run, run_of}
+use Rattle.store_serve.specs.Told.{IsTold, closing_text, front_text, served_text}
+use Rattle.store_serve.specs.declared.closing.Closing.{Closing}
+use Rattle.store_serve.specs.declared.closing.Closing.TheVariants as closing
 use Rattle.program_words.specs.declared.request.Unread.{Unread}
 use Rattle.program_words.specs.declared.request.Unread.TheVariants as unread
 use Rattle.blsm_run.specs.declared.outcome.Answer.{Answer}
@@ -24,7 +29,7 @@ use Rattle.blsm_run.specs.declared.outcome.Refusal.{Refusal}
 use Rattle.blsm_run.specs.declared.outcome.Refusal.TheVariants as refusal
 use Rattle.blsm_run.specs.declared.status.Status.{Status}
 use Rattle.blsm_run.specs.Outside.{HasRisenOnce}
-use Rattle.blsm_run.specs.declared.status.Status.TheVariants.{Done, Usage, BadLine, TooBig, NotAStore, NotEmpty, Damaged, DiskFault, SourceFault, SinkFault, NoMemory}
+use Rattle.blsm_run.specs.declared.status.Status.TheVariants.{Done, Usage, BadLine, TooBig, NotAStore, NotEmpty, Damaged, DiskFault, SourceFault, SinkFault, NoMemory, NoRoom}
 
 -- how a call ends, if the sink takes all of its text
 pub data Outcome : Type 0 where
@@ -33,6 +38,8 @@ pub data Outcome : Type 0 where
   made : ℕ → Outcome
   -- the script was run, and how that ended
   ran : Run → Ending → Outcome
+  -- a session was served, how its run ended, and why it did
+  served : Run → Ending → Closing → Outcome
   checked : Report → Outcome
   -- the script of so many commands from this seed was run
   tried : ℕ → ℕ → Run → Outcome
@@ -61,6 +68,7 @@ refusal_of_making not_made.Fault = refusal.DiskFault
 abbrev pub outcome_of : Result Answer Refusal → Outcome
 outcome_of (Ok (answer.Made length)) = made length
 outcome_of (Ok (answer.Ran finished)) = ran (run_of finished) finished.ending
+outcome_of (Ok (answer.Served s)) = served (run_of s.finished) s.finished.ending s.closing
 outcome_of (Ok (answer.Checked report)) = checked report
 outcome_of (Ok (answer.Tried seed count finished)) = tried seed count (run_of finished)
 outcome_of (Err why) = refused why
@@ -85,11 +93,21 @@ code_of DiskFault = 7
 code_of SourceFault = 8
 code_of SinkFault = 9
 code_of NoMemory = 10
+code_of NoRoom = 11
 
 abbrev pub status_of_ending : Ending → Status
 status_of_ending ending.Well = Done
 status_of_ending ending.Faulted = DiskFault
 status_of_ending ending.Damaged = Damaged
+
+-- the sink's own status comes first, and then the disk's
+abbrev pub status_of_session : Ending → Closing → Status
+status_of_session end closing.SinkFault = SinkFault
+status_of_session ending.Well closing.Ended = Done
+status_of_session ending.Well (closing.BadLine n) = BadLine
+status_of_session ending.Well (closing.NoRoom n) = NoRoom
+status_of_session ending.Well closing.SourceFault = SourceFault
+status_of_session end closing = status_of_ending end
 
 abbrev pub status_of : Outcome → Status
 status_of (refused refusal.Usage) = Usage
@@ -104,6 +122,7 @@ status_of (refused (refusal.Worn version)) = Damaged
 status_of (refused refusal.NoMemory) = NoMemory
 status_of (made length) = Done
 status_of (ran run end) = status_of_ending end
+status_of (served run end closing) = status_of_session end closing
 status_of (checked report) = Done
 status_of (tried seed count run) = Done
 
@@ -139,6 +158,7 @@ text_of (refused (refusal.Worn version)) = codes "worn " ++ decimal version ++ n
 text_of (refused refusal.NoMemory) = codes "no memory" ++ newline
 text_of (made length) = codes "made " ++ decimal length ++ newline
 text_of (ran run end) = history_text run.charge run.entries run.quanta run.totals
+text_of (served run end closing) = served_text run.charge run.entries run.quanta run.totals closing
 text_of (checked report) = report_text report
 text_of (tried seed count run) = summary_text seed count run.entries run.quanta run.totals
 
@@ -149,3 +169,32 @@ abbrev pub Tells : SinkState → SinkState → Outcome → Status → Type 0
 Tells sink sink_after outcome status =
     ((status ≡ status_of outcome) × Adds (text_of outcome) sink.held sink_after.held × (sink_after.faults ≡ sink.faults))
     ⊎ ((status ≡ SinkFault) × HasRisenOnce sink.faults sink_after.faults × AddsFront (text_of outcome) sink.held sink_after.held)
+
+-- these bytes were added, and perhaps more behind them
+abbrev pub AddsWithMore : List ℕ → Option (List ℕ) → Option (List ℕ) → Type 0
+AddsWithMore text old new = IfSome old (λ held. (more : List ℕ) × (new ≡ Some (held ++ text ++ more)))
+
+-- A session's lines are told one by one: what was written has the lines of all entries, and perhaps more of the text; or the sink failed at a line, once,
+-- and all lines but the last entry's had been written whole, so that one command at most is done that isn't told. The source's count stands then, as
+-- `Cause` has it: so the source isn't asked before the last line is out.
+abbrev pub TellsLines : Outcome → SinkState → SinkState → Type 0
+TellsLines (served run end closing.SinkFault) sink sink_after = IsTold closing.SinkFault run.charge run.entries run.quanta sink sink_after
+TellsLines (served run end closing) sink sink_after = AddsWithMore (front_text run.charge run.entries run.quanta) sink.held sink_after.held
+TellsLines outcome sink sink_after = ⊤
+
+-- ---- before the answer is told
+
+-- a session has told its lines, as far as it came, and nothing else has told anything
+abbrev pub HasTold : Outcome → SinkState → SinkState → Type 0
+HasTold (served run end closing) sink sink_after = IsTold closing run.charge run.entries run.quanta sink sink_after
+HasTold outcome sink sink_after = sink_after ≡ sink
+
+-- what is still to be written of a session's text, or that its sink failed
+abbrev pub WritesRest : Closing → Totals → Result (Unit {0}) Failed → SinkState → SinkState → Type 0
+WritesRest closing.SinkFault totals result sink sink_after = IsErr result × (sink_after ≡ sink)
+WritesRest closing totals result sink sink_after = Writes (end_text totals ++ closing_text closing) result sink sink_after
+
+-- and of any text
+abbrev pub WritesAnswer : Outcome → Result (Unit {0}) Failed → SinkState → SinkState → Type 0
+WritesAnswer (served run end closing) result sink sink_after = WritesRest closing run.totals result sink sink_after
+WritesAnswer outcome result sink sink_after = Writes (text_of outcome) result sink sink_after

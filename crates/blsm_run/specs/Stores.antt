@@ -14,7 +14,12 @@ use Rattle.blsm_model.specs.declared.key.Key.{Key}
 use Rattle.blsm_model.specs.declared.room.Room.{Room}
 use Rattle.blsm_model.specs.declared.row.Value.{Value}
 use Rattle.store_file.specs.Layout.{superblock_length}
+use Rattle.store_serve.specs.Room.{room_for}
+use Rattle.store_serve.specs.Taken.{TakesLines, lines_in}
+use Rattle.store_serve.specs.declared.closing.Closing.{Closing}
+use Rattle.store_serve.specs.declared.serve.Served.{Served}
 use Rattle.store_trial.specs.Trial.{IsRoomOf}
+use Rattle.text_io.specs.Text.{SourceState}
 use Rattle.store_file.specs.Making.{LeavesOldOr, making_calls}
 use Rattle.tree_file.specs.Tree.{ReadsAsMap}
 use Rattle.tree_reading.specs.First.{IsOfFile}
@@ -88,16 +93,16 @@ pub record WasRefused (why : Unreadable) (first last : DiskState) : Type 0 where
   -- where the file is why, each image of each moment is one from before
   pub spares : IsTrue first.is_honest → IsOfFile why → LeavesOnly first last first.images
 
--- A script was run over the disk, beside so many merge workers with so many turns each, with these sizes, from a state with room for just each caller's
--- lines. On an honest one the headline holds.
-pub record HasRunOn {D : Type 0} (state : D → DiskState) (sizes : Sizes) (lines : List Line) (workers turns : ℕ) (run : Run) (ending : Ending) (first last : D) : Type 0 where
+-- Lines were done over the disk, beside so many merge workers with so many turns each, with these sizes, from a state with room of which this holds. On an
+-- honest one the headline holds.
+pub record HasRunOn {D : Type 0} (state : D → DiskState) (sizes : Sizes) (lines : List Line) (workers turns : ℕ) (IsRoom : Room → Type 0) (run : Run) (ending : Ending) (first last : D) : Type 0 where
   pub counted : AreCounted run (state first) (state last)
   pub ended : IsEnding ending run (state last).faults
   pub within : StaysWithin (state first) (state last)
   -- the file was as long as a store of these sizes is
   pub long : HasLengthOf sizes (state first)
   pub room : Room
-  pub room_is : IsRoomOf room lines
+  pub room_is : IsRoom room
   -- why each reply is so, and what stopped the store, by the calls that led to this disk
   pub causes : HasCauses state room run first last
   pub headline : IsTrue (state first).is_honest → (sizes : Sizes) × IsRunOf sizes lines workers turns run × Headline state sizes lines workers turns run room first last
@@ -109,8 +114,8 @@ pub record IsDiskOf {D : Type 0} (state : D → DiskState) (name : List ℕ) (fi
   pub fresh : IsFreshCount (state stood) (state first)
   pub back : new.disk_at name ≡ Some last
 
--- A script was run over the disk of this name of a shelf.
-pub record IsRunOnShelf {D : Type 0} (state : D → DiskState) (name : List ℕ) (lines : List Line) (workers turns : ℕ) (run : Run) (ending : Ending) (old new : ShelfState D) : Type 0 where
+-- Lines were done over the disk of this name of a shelf, from a state with room of which this holds.
+pub record IsRunOnShelf {D : Type 0} (state : D → DiskState) (name : List ℕ) (lines : List Line) (workers turns : ℕ) (IsRoom : Room → Type 0) (run : Run) (ending : Ending) (old new : ShelfState D) : Type 0 where
   -- on every disk
   pub sizes : Sizes
   pub printed : IsRunOf sizes lines workers turns run
@@ -121,17 +126,34 @@ pub record IsRunOnShelf {D : Type 0} (state : D → DiskState) (name : List ℕ)
   pub first : D
   pub last : D
   pub disk : IsTrue old.tells_disks → IsDiskOf state name first last old new
-  pub ran : HasRunOn state sizes lines workers turns run ending first last
+  pub ran : HasRunOn state sizes lines workers turns IsRoom run ending first last
   -- its count of faults began at 0, and the shelf's rose by it
   pub fresh : (state first).faults ≡ 0
   pub rose : new.faults ≡ min (old.faults + (state last).faults) (2 ^ 64 - 1)
   -- faults are told only as often as the shelf's count rose
   pub faults : HasRisenBy (faults_told run.entries) old.faults new.faults
 
+-- the store wasn't opened, for this
+abbrev pub RefusesOnShelf : {D : Type 0} → (D → DiskState) → List ℕ → ShelfState D → ShelfState D → Unreadable → Type 0
+RefusesOnShelf state name old new unreadable.Fault = HasFailedOnce state name false old new LeavesClosed
+RefusesOnShelf state name old new why = WasCalm state name false old new (WasRefused why)
+
+-- a script was run, from a state with room for just each caller's lines
 abbrev pub RunsOnShelf : {D : Type 0} → (D → DiskState) → List ℕ → List Line → ℕ → ℕ → ShelfState D → ShelfState D → Result Finished Unreadable → Type 0
-RunsOnShelf state name lines workers turns old new (Ok finished) = IsRunOnShelf state name lines workers turns (run_of finished) finished.ending old new
-RunsOnShelf state name lines workers turns old new (Err unreadable.Fault) = HasFailedOnce state name false old new LeavesClosed
-RunsOnShelf state name lines workers turns old new (Err why) = WasCalm state name false old new (WasRefused why)
+RunsOnShelf state name lines workers turns old new (Ok finished) = IsRunOnShelf state name lines workers turns (λ room. IsRoomOf room lines) (run_of finished) finished.ending old new
+RunsOnShelf state name lines workers turns old new (Err why) = RefusesOnShelf state name old new why
+
+-- ---- serving
+
+-- A session was served, with room for so many callers: a run of the lines that were done, with nobody else at work, which the source gave.
+pub record IsServedOnShelf {D : Type 0} (state : D → DiskState) (name : List ℕ) (callers : ℕ) (run : Run) (ending : Ending) (closing : Closing) (old new : ShelfState D) (source source_after : SourceState) : Type 0 where
+  pub runs : IsRunOnShelf state name (lines_in run.entries) 0 0 (λ room. room ≡ room_for callers) run ending old new
+  pub takes : TakesLines run.entries closing (room_for callers) source source_after
+
+-- Where the store wasn't opened the source wasn't asked.
+abbrev pub ServesOnShelf : {D : Type 0} → (D → DiskState) → List ℕ → ℕ → ShelfState D → ShelfState D → SourceState → SourceState → Result Served Unreadable → Type 0
+ServesOnShelf state name callers old new source source_after (Ok served) = IsServedOnShelf state name callers (run_of served.finished) served.finished.ending served.closing old new source source_after
+ServesOnShelf state name callers old new source source_after (Err why) = RefusesOnShelf state name old new why × (source_after ≡ source)
 
 -- ---- checking
 

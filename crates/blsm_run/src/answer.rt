@@ -1,15 +1,16 @@
 //! What a call answers: the text that it writes, a line in one call of the sink, and its status.
 ghost use Rattle.std.specs.Prelude.{◌≡◌, ◌+◌, ◌≤◌, ◌++◌, decimal, length, IfOk, Ok, Err};
-ghost use Rattle.text_io.specs.Text.{Writes};
-ghost use Rattle.blsm_run.specs.Outcome.{Tells, HasMadeAnswer, and_component, newline, outcome_of, place_text, report_text, status_of, status_of_ending, text_of};
+ghost use Rattle.text_io.specs.Text.{SinkState, Writes};
+ghost use Rattle.blsm_run.specs.Outcome.{HasMadeAnswer, HasTold, Tells, TellsLines, WritesAnswer, WritesRest, and_component, newline, outcome_of, place_text, report_text, status_of, status_of_ending, status_of_session, text_of};
 
 use crate::Status;
 use crate::outcome::{Answer, Refusal};
 use blsm_model::Component;
 use recover_open::{Place, Report};
 use refusal::Failed;
-use script_text::{LONGEST, Piece, print_history, print_summary};
+use script_text::{LONGEST, Piece, print_end, print_history, print_summary};
 use store_run::{Ending, Finished};
+use store_serve::{Closing, Served, print_closing};
 use text_io::{Sink, write_all};
 
 // A line with a number at its end.
@@ -75,14 +76,28 @@ fn print_refusal<K: Sink>(sink: &mut K, refusal: Refusal) -> Result<(), Failed>
     }
 }
 
-// What was done: the length of a store that was made, the history of a run, the report of a check, the summary of a trial.
+// The end of a session's text, whose lines were told as they came. Where the sink failed at one nothing more is written.
+fn print_rest<K: Sink>(sink: &mut K, served: &Served) -> Result<(), Failed>
+    ensures { WritesRest served.now.closing served.now.finished.totals result (K.state sink.old) (K.state sink.new) }
+{
+    match served.closing {
+        Closing::SinkFault => Err(Failed),
+        closing => {
+            print_end(sink, &served.finished.totals)?;
+            print_closing(sink, closing)
+        }
+    }
+}
+
+// What was done: the length of a store that was made, the history of a run, the end of a session, the report of a check, the summary of a trial.
 fn print_done<K: Sink>(sink: &mut K, answer: &Answer) -> Result<(), Failed>
     requires { HasMadeAnswer answer.now }
-    ensures { Writes (text_of (outcome_of (Ok answer.now))) result (K.state sink.old) (K.state sink.new) }
+    ensures { WritesAnswer (outcome_of (Ok answer.now)) result (K.state sink.old) (K.state sink.new) }
 {
     match answer {
         Answer::Made(length) => print_numbered(sink, b"made ", *length),
         Answer::Ran(run) => print_history(sink, run.charge, &run.annals, &run.totals),
+        Answer::Served(served) => print_rest(sink, served),
         Answer::Checked(report) => print_report(sink, report),
         Answer::Tried(seed, count, run) => print_summary(
             sink,
@@ -96,7 +111,7 @@ fn print_done<K: Sink>(sink: &mut K, answer: &Answer) -> Result<(), Failed>
 
 fn print_answer<K: Sink>(sink: &mut K, answer: &Result<Answer, Refusal>) -> Result<(), Failed>
     requires { IfOk answer.now HasMadeAnswer }
-    ensures { Writes (text_of (outcome_of answer.now)) result (K.state sink.old) (K.state sink.new) }
+    ensures { WritesAnswer (outcome_of answer.now) result (K.state sink.old) (K.state sink.new) }
 {
     match answer {
         Ok(done) => print_done(sink, done),
@@ -112,6 +127,21 @@ fn status_of_run(run: &Finished) -> Status
         Ending::Well => Status::Done,
         Ending::Faulted => Status::DiskFault,
         Ending::Damaged => Status::Damaged,
+    }
+}
+
+// The status of a session: the sink's own first, then the disk's, and then why it ended.
+fn status_of_session(served: &Served) -> Status
+    ensures { result ≡ status_of_session served.now.finished.ending served.now.closing }
+{
+    match (served.finished.ending, served.closing) {
+        (_, Closing::SinkFault) => Status::SinkFault,
+        (Ending::Faulted, _) => Status::DiskFault,
+        (Ending::Damaged, _) => Status::Damaged,
+        (Ending::Well, Closing::Ended) => Status::Done,
+        (Ending::Well, Closing::BadLine(_)) => Status::BadLine,
+        (Ending::Well, Closing::NoRoom(_)) => Status::NoRoom,
+        (Ending::Well, Closing::SourceFault) => Status::SourceFault,
     }
 }
 
@@ -138,14 +168,16 @@ fn status_for(answer: &Result<Answer, Refusal>) -> Status
     match answer {
         Ok(Answer::Made(_) | Answer::Checked(_) | Answer::Tried(..)) => Status::Done,
         Ok(Answer::Ran(run)) => status_of_run(run),
+        Ok(Answer::Served(served)) => status_of_session(served),
         Err(refusal) => status_of_refusal(*refusal),
     }
 }
 
-/// Writes the text of an answer, and answers its status.
+/// Writes the text of an answer, or what is still to be written of a session's, and answers its status.
 pub(crate) fn tell<K: Sink>(sink: &mut K, answer: &Result<Answer, Refusal>) -> Status
     requires { IfOk answer.now HasMadeAnswer }
-    ensures { Tells (K.state sink.old) (K.state sink.new) (outcome_of answer.now) result }
+    ensures { (before : SinkState) → HasTold (outcome_of answer.now) before (K.state sink.old)
+        → Tells before (K.state sink.new) (outcome_of answer.now) result × TellsLines (outcome_of answer.now) before (K.state sink.new) }
 {
     match print_answer(sink, answer) {
         Ok(()) => status_for(answer),

@@ -5,6 +5,7 @@ use program_words::Unread;
 use recover_open::{NotMade, Place, Report, Unreadable};
 use refusal::NoMemory;
 use store_run::Finished;
+use store_serve::Served;
 
 /// What was asked for was done.
 #[derive(Drop)]
@@ -13,6 +14,8 @@ pub(crate) enum Answer {
     Made(u64),
     /// A script was run.
     Ran(Finished),
+    /// A session was served, and all up to its end was told but where the sink failed.
+    Served(Served),
     /// A store was checked.
     Checked(Report),
     /// The script of so many commands from this seed was run.

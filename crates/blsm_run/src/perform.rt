@@ -1,13 +1,14 @@
 //! The steps of a call up to its answer.
 ghost use Rattle.std.specs.Prelude.{◌≡◌, ◌≤◌, ℕ, IfOk, List, Some, map, string_bytes};
-ghost use Rattle.program_words.specs.Words.{AreAccepted, IsInRange, asked_by, asked_of, most_workers, run};
+ghost use Rattle.program_words.specs.Words.{AreAccepted, IsInRange, asked_by, asked_of, most_callers, most_workers, run, serve};
+ghost use Rattle.text_io.specs.Text.{SinkState};
 ghost use Rattle.blsm_run.specs.Cause.{Cause};
-ghost use Rattle.blsm_run.specs.Outcome.{HasMadeAnswer, outcome_of};
+ghost use Rattle.blsm_run.specs.Outcome.{HasMadeAnswer, HasTold, outcome_of};
 ghost use Rattle.blsm_run.specs.Outside.{outside};
 
 use crate::outcome::{Answer, Refusal};
 use crate::source::read_source;
-use crate::stores::{check_on_shelf, make_on_shelf, run_on_shelf};
+use crate::stores::{check_on_shelf, make_on_shelf, run_on_shelf, serve_on_shelf};
 use blsm_model::Gate;
 use disk_trait::Shelf;
 use program_words::{Request, asked_in_range, read_words};
@@ -16,7 +17,7 @@ use std::alloc::Global;
 use std::sync::Wait;
 use std::thread::Threads;
 use store_trial::try_seed;
-use text_io::Source;
+use text_io::{Sink, Source};
 
 // Reads the script and runs it over the store on the disk of a name, beside the merge workers for which the words ask.
 fn run<R: Threads + Wait + Sync, S: Source, H: Shelf, G: Gate + Sync>(
@@ -33,6 +34,7 @@ fn run<R: Threads + Wait + Sync, S: Source, H: Shelf, G: Gate + Sync>(
     ensures cause { (words : List (List ℕ)) → AreAccepted words → asked_by words ≡ Some (run name.now workers turns)
         → Cause H.D.state (outside words (S.state source.old) (S.state source.new) (H.state shelf.old) (H.state shelf.new)) (outcome_of result) }
     ensures made { IfOk result HasMadeAnswer }
+    ensures told { (sink : SinkState) → HasTold (outcome_of result) sink sink }
 {
     let script = read_source(alloc, source)?;
     let finished = run_on_shelf(
@@ -49,12 +51,33 @@ fn run<R: Threads + Wait + Sync, S: Source, H: Shelf, G: Gate + Sync>(
     Ok(Answer::Ran(finished))
 }
 
+// Serves the lines of the source over the store on the disk of a name, with room for the callers for which the words ask.
+fn serve<S: Source, K: Sink, H: Shelf>(
+    alloc: Global,
+    source: &mut S,
+    sink: &mut K,
+    shelf: &mut H,
+    name: &str,
+    callers: u32,
+) -> Result<Answer, Refusal>
+    requires some { 1 ≤ callers }
+    requires few { callers ≤ most_callers }
+    ensures cause { (words : List (List ℕ)) → AreAccepted words → asked_by words ≡ Some (serve name.now callers)
+        → Cause H.D.state (outside words (S.state source.old) (S.state source.new) (H.state shelf.old) (H.state shelf.new)) (outcome_of result) }
+    ensures made { IfOk result HasMadeAnswer }
+    ensures told { HasTold (outcome_of result) (K.state sink.old) (K.state sink.new) }
+{
+    let served = serve_on_shelf(alloc, shelf, name, callers, source, sink)?;
+    Ok(Answer::Served(served))
+}
+
 // Does what a request asks for, which the words gave.
-fn carry_out<R: Threads + Wait + Sync, S: Source, H: Shelf, G: Gate + Sync>(
+fn carry_out<R: Threads + Wait + Sync, S: Source, K: Sink, H: Shelf, G: Gate + Sync>(
     rt: &R,
     alloc: Global,
     request: Request,
     source: &mut S,
+    sink: &mut K,
     shelf: &mut H,
     gate: &G,
 ) -> Result<Answer, Refusal>
@@ -62,6 +85,7 @@ fn carry_out<R: Threads + Wait + Sync, S: Source, H: Shelf, G: Gate + Sync>(
     ensures cause { (words : List (List ℕ)) → AreAccepted words → asked_by words ≡ Some (asked_of request.entry)
         → Cause H.D.state (outside words (S.state source.old) (S.state source.new) (H.state shelf.old) (H.state shelf.new)) (outcome_of result) }
     ensures made { IfOk result HasMadeAnswer }
+    ensures told { HasTold (outcome_of result) (K.state sink.old) (K.state sink.new) }
 {
     made_histories();
     match request {
@@ -73,6 +97,7 @@ fn carry_out<R: Threads + Wait + Sync, S: Source, H: Shelf, G: Gate + Sync>(
             workers,
             turns,
         } => run(rt, alloc, source, shelf, name, workers, turns, gate),
+        Request::Serve { name, callers } => serve(alloc, source, sink, shelf, name, callers),
         Request::Check { name } => Ok(Answer::Checked(check_on_shelf(alloc, shelf, name)?)),
         Request::Trial { seed, count } => Ok(Answer::Tried(
             seed,
@@ -83,20 +108,22 @@ fn carry_out<R: Threads + Wait + Sync, S: Source, H: Shelf, G: Gate + Sync>(
 }
 
 /// Does what the words ask for.
-pub(crate) fn perform<R: Threads + Wait + Sync, S: Source, H: Shelf, G: Gate + Sync>(
+pub(crate) fn perform<R: Threads + Wait + Sync, S: Source, K: Sink, H: Shelf, G: Gate + Sync>(
     rt: &R,
     alloc: Global,
     words: &[String],
     source: &mut S,
+    sink: &mut K,
     shelf: &mut H,
     gate: &G,
 ) -> Result<Answer, Refusal>
     ensures cause { Cause H.D.state (outside (map string_bytes words.now) (S.state source.old) (S.state source.new) (H.state shelf.old) (H.state shelf.new)) (outcome_of result) }
     ensures made { IfOk result HasMadeAnswer }
+    ensures told { HasTold (outcome_of result) (K.state sink.old) (K.state sink.new) }
 {
     asked_in_range();
     match read_words(alloc, words) {
-        Ok(request) => carry_out(rt, alloc, request, source, shelf, gate),
+        Ok(request) => carry_out(rt, alloc, request, source, sink, shelf, gate),
         Err(why) => Err(Refusal::from(why)),
     }
 }

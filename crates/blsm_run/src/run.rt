@@ -15,8 +15,9 @@ use text_io::{Sink, Source};
 use tree_file::one_tree;
 use tree_reading::a_map_is_read;
 
-/// Reads the words and does what they ask for: it makes a store on the disk of a name, runs a script from the source over the store on one, by sixteen
-/// callers and so many merge workers on threads, and prints its history, checks the store on one and prints its numbers, or runs a script that a seed makes and prints its summary.
+/// Reads the words and does what they ask for: it makes a store on the disk of a name; runs a script from the source over the store on one, by
+/// sixteen callers and so many merge workers on threads, and prints its history; serves a session over it, each line done and told as it comes;
+/// checks the store on one and prints its numbers; or runs a script that a seed makes and prints its summary.
 pub fn blsm_run<R: Threads + Wait + Sync, S: Source, K: Sink, H: Shelf, G: Gate + Sync>(
     rt: &R,
     alloc: Global,
@@ -30,6 +31,6 @@ pub fn blsm_run<R: Threads + Wait + Sync, S: Source, K: Sink, H: Shelf, G: Gate 
 {
     one_tree();
     a_map_is_read();
-    let answer = perform(rt, alloc, words, src, shelf, gate);
+    let answer = perform(rt, alloc, words, src, sink, shelf, gate);
     tell(sink, &answer)
 }

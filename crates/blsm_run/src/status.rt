@@ -26,6 +26,8 @@ pub enum Status {
     SinkFault = 9,
     /// Memory was refused, before the first command.
     NoMemory = 10,
+    /// A caller of a session has no room for its line.
+    NoRoom = 11,
 }
 
 impl Status {

@@ -1,11 +1,13 @@
 //! What is done to the store on the disk of a name. The disk goes back to the shelf whatever happens. Each stays a call, so
 //! that the frame of who carries a request out has the locals of none.
-ghost use Rattle.std.specs.Prelude.{◌+◌, ◌≤◌, sum};
+ghost use Rattle.std.specs.Prelude.{◌≡◌, ◌+◌, ◌≤◌, sum, IfOk, IsErr};
 ghost use Rattle.blsm_model.specs.Format.{callers, most_entries, most_rows_asked};
 ghost use Rattle.tree_machine.specs.Machine.{seats};
 ghost use Rattle.store_trial.specs.Trial.{IsRoomOf};
 ghost use Rattle.tree_session.specs.Lines.{AreRunnable};
-ghost use Rattle.blsm_run.specs.Stores.{ChecksOnShelf, MakesOnShelf, RunsOnShelf};
+ghost use Rattle.store_run.specs.Run.{run_of};
+ghost use Rattle.store_serve.specs.Told.{IsTold};
+ghost use Rattle.blsm_run.specs.Stores.{ChecksOnShelf, MakesOnShelf, RunsOnShelf, ServesOnShelf};
 
 use blsm_model::{Gate, Geometry, Line, Room};
 use disk_trait::Shelf;
@@ -14,6 +16,8 @@ use std::alloc::Global;
 use std::sync::Wait;
 use std::thread::Threads;
 use store_run::{Finished, run_over};
+use store_serve::{Served, serve_over, share};
+use text_io::{Sink, Source};
 
 /// Makes a store of this geometry on the disk of a name, which may be a new one, and answers its length in bytes.
 #[inline(never)]
@@ -78,4 +82,29 @@ pub(crate) fn check_on_shelf<H: Shelf>(
     let checked = check_store(alloc, &mut disk);
     shelf.give_back(name, disk);
     checked
+}
+
+/// Serves the lines of the source over the store on the disk of a name, with room for so many callers. Each line is told as it was done.
+#[inline(never)]
+pub(crate) fn serve_on_shelf<H: Shelf, S: Source, K: Sink>(
+    alloc: Global,
+    shelf: &mut H,
+    name: &str,
+    count: u32,
+    source: &mut S,
+    sink: &mut K,
+) -> Result<Served, Unreadable>
+    requires some { 1 ≤ count }
+    requires few { count ≤ callers }
+    ensures serves { ServesOnShelf H.D.state name.now count (H.state shelf.old) (H.state shelf.new) (S.state source.old) (S.state source.new) result }
+    ensures told { IfOk result (λ served. IsTold served.closing (run_of served.finished).charge (run_of served.finished).entries (run_of served.finished).quanta
+        (K.state sink.old) (K.state sink.new)) }
+    ensures silent { IsErr result → K.state sink.new ≡ K.state sink.old }
+{
+    let Ok(fetched) = shelf.fetch(name, false) else {
+        return Err(Unreadable::Fault);
+    };
+    let (disk, served) = serve_over(alloc, fetched, share(count), source, sink);
+    shelf.give_back(name, disk);
+    served
 }

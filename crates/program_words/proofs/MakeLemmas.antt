@@ -4,7 +4,7 @@ use Rattle.std.proofs.lemmas.Grind.{common_steps}
 use Rattle.std.proofs.Common.{◌≡◌, ℕ, Option, Some, None, ap, ◌∙◌, arith}
 use Rattle.clap.specs.Words.{Text}
 use Rattle.blsm_model.specs.Sizes.{Sizes, IsGeometry}
-use Rattle.program_words.specs.Words.{geometry_by, make_by, run_by, make, run}
+use Rattle.program_words.specs.Words.{geometry_by, make_by, run_by, serve_by, make, run, serve}
 
 -- the four numbers as they were found
 pub record AreFound (sizes : Sizes) (h r l q : Option ℕ) : Type 0 where
@@ -29,3 +29,10 @@ no_file name workers turns h1 = grind (arith, common_steps, nat_tests)
 
 pub all_given : (name : Option Text) (workers turns : Option ℕ) (n : Text) (w t : ℕ) → Some n ≡ name → Some w ≡ workers → Some t ≡ turns → Some (run n w t) ≡ run_by name workers turns
 all_given name workers turns n w t h1 h2 h3 = grind (arith, common_steps, nat_tests)
+
+-- what `serve` asks for
+pub nobody_served : (name : Option Text) (callers : Option ℕ) → None ≡ name → None ≡ serve_by name callers
+nobody_served name callers h1 = grind (arith, common_steps, nat_tests)
+
+pub served : (name : Option Text) (callers : Option ℕ) (n : Text) (c : ℕ) → Some n ≡ name → Some c ≡ callers → Some (serve n c) ≡ serve_by name callers
+served name callers n c h1 h2 = grind (arith, common_steps, nat_tests)

@@ -6,7 +6,7 @@ use Rattle.std.specs.Str.{bytes_eq}
 use Rattle.std.specs.Str.Parse.{digits_value, without_leading_plus}
 use Rattle.clap.specs.Words.{Text, Row, one_of, subcommand_of}
 use Rattle.blsm_model.specs.Sizes.{Sizes, IsGeometry}
-use Rattle.program_words.specs.Words.{Number, number_by, number_in, half_number, ratio_number, low_number, quantum_number, seed_number, count_number, geometry_by, geometry_in, make_by, make_in, run_by, run_in, trial_by, trial_in, workers_number, turns_number, file_in, asked_in, asked_by, program, Asked, check, IsInRange}
+use Rattle.program_words.specs.Words.{Number, number_by, number_in, half_number, ratio_number, low_number, quantum_number, seed_number, count_number, geometry_by, geometry_in, make_by, make_in, run_by, run_in, serve_by, serve_in, trial_by, trial_in, callers_number, workers_number, turns_number, file_in, asked_in, asked_by, program, Asked, check, IsInRange}
 
 abbrev value : Text → ℕ
 value text = digits_value 10 (without_leading_plus text)
@@ -37,6 +37,9 @@ trial_fits seed count asked h1 h2 h3 = grind (arith, common_steps, nat_tests)
 run_fits : (name : Option Text) (workers turns : Option ℕ) (asked : Asked) → Bounds workers_number workers → Bounds turns_number turns → run_by name workers turns ≡ Some asked → IsInRange asked
 run_fits name workers turns asked h1 h2 h3 = grind (arith, common_steps, nat_tests)
 
+serve_fits : (name : Option Text) (callers : Option ℕ) (asked : Asked) → Bounds callers_number callers → serve_by name callers ≡ Some asked → IsInRange asked
+serve_fits name callers asked h1 h2 = grind (arith, common_steps, nat_tests)
+
 check_fits : (name : Option Text) (asked : Asked) → option_map check name ≡ Some asked → IsInRange asked
 check_fits name asked h1 = grind (arith, common_steps, nat_tests)
 
@@ -54,8 +57,10 @@ command_fits name rows asked is =
     (λ other. either (bytes_eq name (codes "run")) (run_in rows) _ asked other
     (run_fits (file_in rows) (number_in workers_number rows) (number_in turns_number rows) asked (bounded workers_number rows) (bounded turns_number rows))
     (λ third. either (bytes_eq name (codes "check")) (option_map check (file_in rows)) _ asked third (check_fits (file_in rows) asked)
-    (λ last. either (bytes_eq name (codes "trial")) (trial_in rows) None asked last
-    (trial_fits (number_in seed_number rows) (number_in count_number rows) asked (bounded seed_number rows) (bounded count_number rows)) (none_fits asked))))
+    (λ fourth. either (bytes_eq name (codes "trial")) (trial_in rows) _ asked fourth
+    (trial_fits (number_in seed_number rows) (number_in count_number rows) asked (bounded seed_number rows) (bounded count_number rows))
+    (λ last. either (bytes_eq name (codes "serve")) (serve_in rows) None asked last
+    (serve_fits (file_in rows) (number_in callers_number rows) asked (bounded callers_number rows)) (none_fits asked)))))
 
 met_fits : (met : Option (Text × List Row)) (asked : Asked) → option_and_then asked_in met ≡ Some asked → IsInRange asked
 met_fits met asked h1 = grind (arith, common_steps, nat_tests, command_fits)

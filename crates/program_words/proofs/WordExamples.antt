@@ -4,7 +4,7 @@ use Rattle.clap.specs.Words.{Text, Kinds, fault_of}
 use Rattle.clap.specs.declared.error.kind.ErrorKind.TheVariants as kind
 use Rattle.clap.proofs.OnLiterals.{clap_on_literals}
 use Rattle.blsm_model.specs.Sizes.{default_sizes}
-use Rattle.program_words.specs.Words.{program, Asked, make, run, check, trial, asked_by}
+use Rattle.program_words.specs.Words.{program, Asked, make, run, check, trial, serve, asked_by}
 
 abbrev after_name : List Text → List Text
 after_name words = codes "blsm" ∷ words
@@ -65,6 +65,14 @@ trial_last = (refl, refl)
 trial_first : AskFor (codes "trial" ∷ codes "--seed" ∷ codes "0" ∷ codes "--count=1" ∷ []) (trial 0 1)
 unfolding clap_on_literals
 trial_first = (refl, refl)
+
+serve_file : AskFor (on_file (codes "serve") []) (serve (codes "F") 16)
+unfolding clap_on_literals
+serve_file = (refl, refl)
+
+serve_one : AskFor (codes "serve" ∷ codes "--callers" ∷ codes "1" ∷ codes "F" ∷ []) (serve (codes "F") 1)
+unfolding clap_on_literals
+serve_one = (refl, refl)
 
 -- ---- refused
 
@@ -128,6 +136,22 @@ too_many_turns = refl
 some_workers : fault (on_file (codes "run") (codes "--workers" ∷ codes "some" ∷ [])) ≡ kind.ValueValidation ∷ []
 unfolding clap_on_literals
 some_workers = refl
+
+no_caller : fault (on_file (codes "serve") (codes "--callers" ∷ codes "0" ∷ [])) ≡ kind.ValueValidation ∷ []
+unfolding clap_on_literals
+no_caller = refl
+
+many_callers : fault (on_file (codes "serve") (codes "--callers=17" ∷ [])) ≡ kind.ValueValidation ∷ []
+unfolding clap_on_literals
+many_callers = refl
+
+workers_of_serve : fault (on_file (codes "serve") (codes "--workers" ∷ codes "2" ∷ [])) ≡ kind.UnknownArgument ∷ []
+unfolding clap_on_literals
+workers_of_serve = refl
+
+serve_nothing : fault (codes "serve" ∷ []) ≡ kind.MissingRequiredArgument ∷ []
+unfolding clap_on_literals
+serve_nothing = refl
 
 other_command : fault (on_file (codes "walk") []) ≡ kind.UnknownArgument ∷ kind.InvalidSubcommand ∷ []
 unfolding clap_on_literals

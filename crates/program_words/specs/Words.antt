@@ -50,11 +50,18 @@ most_workers = 8
 abbrev pub most_turns : ℕ
 most_turns = 1000000
 
+-- for how many callers a session has room at most
+abbrev pub most_callers : ℕ
+most_callers = 16
+
 abbrev pub workers_number : Number
 workers_number = record { id = codes "workers"; least = 0; most = most_workers }
 
 abbrev pub turns_number : Number
 turns_number = record { id = codes "turns"; least = 0; most = most_turns }
+
+abbrev pub callers_number : Number
+callers_number = record { id = codes "callers"; least = 1; most = most_callers }
 
 abbrev pub number_rule : Number → Rule
 number_rule number =
@@ -96,6 +103,10 @@ trial_command = with_rule
     (with_rule (new_app (codes "trial")) (as_required (number_rule seed_number)))
     (as_required (number_rule count_number))
 
+-- `serve FILE`, with its callers
+abbrev pub serve_command : App
+serve_command = with_rule (on_file (codes "serve")) (with_default (codes "16") (number_rule callers_number))
+
 abbrev pub no_command : App
 no_command = new_app (codes "blsm")
 
@@ -104,10 +115,12 @@ abbrev pub program : App
 program = with_subcommand
     (with_subcommand
     (with_subcommand
+    (with_subcommand
     (with_subcommand (record no_command { top = record no_command.top { subcommand_required = true } }) make_command.top)
     run_command.top)
     (on_file (codes "check")).top)
-    trial_command.top
+    trial_command.top)
+    serve_command.top
 
 -- the argument is read by this rule, and no command but its own has it
 pub record IsRule (rule : Rule) (arg : Arg) : Type 0 where
@@ -122,20 +135,22 @@ pub record IsCommand (app : App) (command : Command) : Type 0 where
 -- ---- what words ask for
 
 -- a store to be made, one to run a script over with so many merge workers, each of which takes so many turns at most, one to
--- look at, each in the file of a name; a trial, by its seed and its count
+-- look at, one to serve so many callers over, each in the file of a name; a trial, by its seed and its count
 pub data Asked : Type 0 where
   make : List ℕ → Sizes → Asked
   run : List ℕ → ℕ → ℕ → Asked
   check : List ℕ → Asked
   trial : ℕ → ℕ → Asked
+  serve : List ℕ → ℕ → Asked
 
--- what is asked for is a store of a geometry, a run with few workers and few turns, or a trial of a seed of 64 bits and of a
--- step to as many as a script has lines
+-- what is asked for is a store of a geometry, a run with few workers and few turns, a trial of a seed of 64 bits and of a
+-- step to as many as a script has lines, or a session of one caller to sixteen
 abbrev pub IsInRange : Asked → Type 0
 IsInRange (make name sizes) = IsGeometry sizes
 IsInRange (run name workers turns) = (workers ≤ most_workers) × (turns ≤ most_turns)
 IsInRange (check name) = ⊤
 IsInRange (trial seed count) = (seed < 2 ^ 64) × (1 ≤ count) × (count ≤ most_lines)
+IsInRange (serve name callers) = (1 ≤ callers) × (callers ≤ most_callers)
 
 -- the number that a text is, where it is one in the option's range, by the test that `clap` tries too
 abbrev pub number_by : Number → Text → Option ℕ
@@ -171,6 +186,13 @@ run_by _ _ _ = None
 abbrev pub run_in : List Row → Option Asked
 run_in rows = run_by (file_in rows) (number_in workers_number rows) (number_in turns_number rows)
 
+abbrev pub serve_by : Option Text → Option ℕ → Option Asked
+serve_by (Some name) (Some callers) = Some (serve name callers)
+serve_by _ _ = None
+
+abbrev pub serve_in : List Row → Option Asked
+serve_in rows = serve_by (file_in rows) (number_in callers_number rows)
+
 abbrev pub trial_by : Option ℕ → Option ℕ → Option Asked
 trial_by (Some seed) (Some count) = Some (trial seed count)
 trial_by _ _ = None
@@ -183,7 +205,8 @@ abbrev pub asked_in : Text × List Row → Option Asked
 asked_in command = if bytes_eq command.0 (codes "make") then make_in command.1
     else if bytes_eq command.0 (codes "run") then run_in command.1
     else if bytes_eq command.0 (codes "check") then option_map check (file_in command.1)
-    else if bytes_eq command.0 (codes "trial") then trial_in command.1 else None
+    else if bytes_eq command.0 (codes "trial") then trial_in command.1
+    else if bytes_eq command.0 (codes "serve") then serve_in command.1 else None
 
 -- the request that the reading of the words gives, if any
 abbrev pub asked_by : List Text → Option Asked
@@ -198,6 +221,7 @@ asked_of (request.Make name geometry) = make name.now geometry
 asked_of (request.Run name workers turns) = run name.now workers turns
 asked_of (request.Check name) = check name.now
 asked_of (request.Trial seed count) = trial seed count
+asked_of (request.Serve name callers) = serve name.now callers
 
 -- what the reading of the words answers
 abbrev pub ReadsWords : List Text → Result Request Unread → Type 0

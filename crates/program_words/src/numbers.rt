@@ -14,6 +14,9 @@ pub(crate) const MAX_COUNT: u64 = 65_536;
 /// The greatest number of merge workers of a run.
 pub(crate) const MAX_WORKERS: u64 = 8;
 
+/// The greatest number of callers of a session.
+pub(crate) const MAX_CALLERS: u64 = 16;
+
 /// The greatest number of turns that each of them takes.
 pub(crate) const MAX_TURNS: u64 = 1_000_000;
 

@@ -1,9 +1,9 @@
-//! What the program takes: four commands.
+//! What the program takes: five commands.
 ghost use Rattle.std.specs.Prelude.{◌≡◌, IfOk, false};
 ghost use Rattle.clap.specs.Words.{App, Rule, app_of, rule_of, with_rule, with_subcommand};
-ghost use Rattle.program_words.specs.Words.{number_rule, file as file_rule, on_file as on_file_app, make_command as make_app, run_command as run_app, trial_command as trial_app, program as program_app, IsCommand, IsRule};
+ghost use Rattle.program_words.specs.Words.{number_rule, file as file_rule, on_file as on_file_app, make_command as make_app, run_command as run_app, trial_command as trial_app, serve_command as serve_app, program as program_app, IsCommand, IsRule};
 
-use crate::numbers::{MAX_COUNT, MAX_TURNS, MAX_WORKERS, MIN_COUNT};
+use crate::numbers::{MAX_CALLERS, MAX_COUNT, MAX_TURNS, MAX_WORKERS, MIN_COUNT};
 use blsm_model::Geometry;
 use clap::builder::ValueParser;
 use clap::{Arg, ArgAction, Command};
@@ -83,6 +83,15 @@ fn run<'a>(alloc: Global) -> Result<Command<'a>, AllocError>
     with_arg(with_workers, turns)
 }
 
+// `serve`, with its callers.
+#[inline(never)]
+fn serve<'a>(alloc: Global) -> Result<Command<'a>, AllocError>
+    ensures { IfOk result (IsCommand serve_app) }
+{
+    let callers = number(alloc, "callers", 1, MAX_CALLERS).default_value("16");
+    with_arg(on_file(alloc, "serve"), callers)
+}
+
 // `trial`, with its seed and its count.
 #[inline(never)]
 fn trial<'a>(alloc: Global) -> Result<Command<'a>, AllocError>
@@ -124,5 +133,6 @@ pub(crate) fn program<'a>(alloc: Global) -> Result<Command<'a>, AllocError>
     let with_make = with_command(Ok(bare), make(alloc));
     let with_run = with_command(with_make, run(alloc));
     let with_check = with_command(with_run, on_file(alloc, "check"));
-    with_command(with_check, trial(alloc))
+    let with_trial = with_command(with_check, trial(alloc));
+    with_command(with_trial, serve(alloc))
 }

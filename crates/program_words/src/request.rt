@@ -26,6 +26,11 @@ pub enum Request<'a> {
         seed: u64,
         count: u32,
     },
+    /// A session over the store in the file of this name, with room for the callers from 1 to this one, 16 at most.
+    Serve {
+        name: &'a str,
+        callers: u32,
+    },
 }
 
 /// Why words were not read.

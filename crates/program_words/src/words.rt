@@ -1,9 +1,9 @@
 //! Words are read.
 ghost use Rattle.std.specs.Prelude.{◌≡◌, ◌≢◌, map, option_map, string_bytes};
 ghost use Rattle.clap.specs.Words.{found_of, kind_of, rows_of};
-ghost use Rattle.program_words.specs.Words.{asked_in, asked_of, check, file_in, geometry_in, make_in, run_in, trial_in, ReadsWords};
+ghost use Rattle.program_words.specs.Words.{asked_in, asked_of, check, file_in, geometry_in, make_in, run_in, serve_in, trial_in, ReadsWords};
 
-use crate::numbers::{MAX_COUNT, MAX_TURNS, MAX_WORKERS, MIN_COUNT, number_of};
+use crate::numbers::{MAX_CALLERS, MAX_COUNT, MAX_TURNS, MAX_WORKERS, MIN_COUNT, number_of};
 use crate::program::program;
 use crate::request::{Request, Unread};
 use blsm_model::Geometry;
@@ -65,6 +65,18 @@ fn run_of<'a>(matches: &ArgMatches<'a>) -> Option<Request<'a>>
     })
 }
 
+// What `serve` asks for.
+fn serve_of<'a>(matches: &ArgMatches<'a>) -> Option<Request<'a>>
+    ensures { option_map asked_of result ≡ serve_in (rows_of (found_of matches.now)) }
+{
+    let name = matches.get_str("FILE")?;
+    let callers = number_of(matches, "callers", 1, MAX_CALLERS)?;
+    Some(Request::Serve {
+        name,
+        callers: callers as u32,
+    })
+}
+
 // What `check` asks for.
 fn check_of<'a>(matches: &ArgMatches<'a>) -> Option<Request<'a>>
     ensures { option_map asked_of result ≡ option_map check (file_in (rows_of (found_of matches.now))) }
@@ -84,6 +96,7 @@ fn request_of<'a>(command: &str, matches: &ArgMatches<'a>) -> Option<Request<'a>
         "run" => run_of(matches),
         "check" => check_of(matches),
         "trial" => trial_of(matches),
+        "serve" => serve_of(matches),
         _ => None,
     }
 }

@@ -2,7 +2,7 @@ use Rattle.std.proofs.Common.{inl, inr, refl}
 use Rattle.blsm_run.specs.declared.outcome.Refusal.TheVariants as refusal
 use Rattle.blsm_run.specs.Outcome.{refusal_of_making, refusal_of_store}
 use Rattle.blsm_run.specs.Outside.{outside}
-use Rattle.blsm_run.proofs.CauseLemmas.{not_made_so, passed_on, stopped}
+use Rattle.blsm_run.proofs.CauseLemmas.{not_made_so, not_told, passed_on, stopped}
 use Rattle.blsm_run.proofs.perform.carry_out.Goals as goal
 
 pub returns-in_err-make_on_shelf-in-Make-clause-cause : goal.returns-in_err-make_on_shelf-in-Make-clause-cause
@@ -27,7 +27,7 @@ returns-in_err-check_on_shelf-in-Check-clause-cause g c = λ words accepted aske
     let state = g.H.D.Disk.state in
     let o = outside words (g.S.Source.state c.args.source.now) (g.S.Source.state c.args.source.now) (g.H.Shelf.state c.args.shelf.now) (g.H.Shelf.state c.check_on_shelf.new.shelf) in
     passed_on state o c.from_residual-in_err-check_on_shelf-in-Check.result (refusal_of_store c.in_err-check_on_shelf-in-Check.field-0.0) c.from_residual-in_err-check_on_shelf-in-Check.ensures.1
-    (stopped state o c.in_err-check_on_shelf-in-Check.field-0.0 (inr (record { name = c.in-Check.name.now; asked = (accepted, rw c.in-Check.is at asked); unread = refl; checks = c.in_err-check_on_shelf-in-Check.ensures })))
+    (stopped state o c.in_err-check_on_shelf-in-Check.field-0.0 (inr (inr (record { name = c.in-Check.name.now; asked = (accepted, rw c.in-Check.is at asked); unread = refl; checks = c.in_err-check_on_shelf-in-Check.ensures }))))
 
 pub returns-in_ok-check_on_shelf-in-Check-clause-cause : goal.returns-in_ok-check_on_shelf-in-Check-clause-cause
 returns-in_ok-check_on_shelf-in-Check-clause-cause g c = λ words accepted asked.
@@ -48,3 +48,28 @@ returns-in_ok-try_seed-in-Trial-clause-cause g c = λ words accepted asked.
 
 pub returns-in_ok-try_seed-in-Trial-clause-made : goal.returns-in_ok-try_seed-in-Trial-clause-made
 returns-in_ok-try_seed-in-Trial-clause-made g c = c.made_histories.ensures c.in-Trial.seed c.in-Trial.count _ c.in_ok-try_seed-in-Trial.ensures.printed.printed.of_script
+
+pub serve-requires-clause-some : goal.serve-requires-clause-some
+serve-requires-clause-some g c = λ κs lives. (rw c.in-Serve.is at c.requires.range).0
+
+pub serve-requires-clause-few : goal.serve-requires-clause-few
+serve-requires-clause-few g c = λ κs lives. (rw c.in-Serve.is at c.requires.range).1
+
+pub returns-in-Serve-clause-cause : goal.returns-in-Serve-clause-cause
+returns-in-Serve-clause-cause g c = λ words accepted asked. c.serve.ensures.cause words accepted (rw c.in-Serve.is at asked)
+
+-- ---- what was told
+
+pub returns-in_err-make_on_shelf-in-Make-clause-told : goal.returns-in_err-make_on_shelf-in-Make-clause-told
+returns-in_err-make_on_shelf-in-Make-clause-told g c = not_told c.from_residual.result (refusal_of_making c.in_err-make_on_shelf-in-Make.field-0.0) (g.K.Sink.state c.args.sink.now) c.from_residual.ensures.1
+
+pub returns-in-Run-clause-told : goal.returns-in-Run-clause-told
+returns-in-Run-clause-told g c = c.run.ensures.told (g.K.Sink.state c.args.sink.now)
+
+pub returns-in_err-check_on_shelf-in-Check-clause-told : goal.returns-in_err-check_on_shelf-in-Check-clause-told
+returns-in_err-check_on_shelf-in-Check-clause-told g c =
+    not_told c.from_residual-in_err-check_on_shelf-in-Check.result (refusal_of_store c.in_err-check_on_shelf-in-Check.field-0.0) (g.K.Sink.state c.args.sink.now) c.from_residual-in_err-check_on_shelf-in-Check.ensures.1
+
+pub returns-in_err-try_seed-in-Trial-clause-told : goal.returns-in_err-try_seed-in-Trial-clause-told
+returns-in_err-try_seed-in-Trial-clause-told g c =
+    not_told c.from_residual-in_err-try_seed-in-Trial.result refusal.NoMemory (g.K.Sink.state c.args.sink.now) c.from_residual-in_err-try_seed-in-Trial.ensures.1

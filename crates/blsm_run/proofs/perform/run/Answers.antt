@@ -2,7 +2,7 @@ use Rattle.std.proofs.Common.{arith, inl, refl}
 use Rattle.store_trial.proofs.RunnableLemmas.{all_runnable, room_is}
 use Rattle.blsm_run.specs.Outcome.{refusal_of_store}
 use Rattle.blsm_run.specs.Outside.{outside}
-use Rattle.blsm_run.proofs.CauseLemmas.{in_vain, passed_on, stopped}
+use Rattle.blsm_run.proofs.CauseLemmas.{in_vain, not_told, passed_on, stopped}
 use Rattle.blsm_run.proofs.perform.run.Goals as goal
 
 pub run_on_shelf-requires-clause-runnable : goal.run_on_shelf-requires-clause-runnable
@@ -31,3 +31,9 @@ returns-in_err-finished-clause-cause g c = λ words accepted asked.
 pub returns-clause-cause : goal.returns-clause-cause
 returns-clause-cause g c = λ words accepted asked.
     (c.lines.result.now, record { name = c.args.name.now; workers = c.args.workers; turns = c.args.turns; asked = (accepted, asked); reads = rw c.lines.ensures.lines c.in_ok-script.ensures }, c.in_ok-finished.ensures)
+
+pub returns-in_err-script-clause-told : goal.returns-in_err-script-clause-told
+returns-in_err-script-clause-told g c = λ sink. not_told c.from_residual.result c.in_err-script.field-0.0 sink c.from_residual.ensures.1
+
+pub returns-in_err-finished-clause-told : goal.returns-in_err-finished-clause-told
+returns-in_err-finished-clause-told g c = λ sink. not_told c.from_residual-in_err-finished.result (refusal_of_store c.in_err-finished.field-0.0) sink c.from_residual-in_err-finished.ensures.1
