@@ -6,6 +6,7 @@ mod gates;
 mod holds;
 mod order;
 mod rows;
+mod served;
 mod statuses;
 mod threads;
 mod turns;
