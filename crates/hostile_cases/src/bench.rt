@@ -6,7 +6,7 @@ use blsm_run::{Status, blsm_run};
 use std::alloc::{AllocError, Global};
 use std::sync::Wait;
 use std::thread::Threads;
-use text_io::{FaultlessSink, FaultlessSource};
+use text_io::{FaultlessSink, FaultlessSource, Sink, Source};
 
 // A store of the smallest geometry with short quanta.
 const MAKE: [&str; 9] = [
@@ -23,10 +23,19 @@ const MAKE: [&str; 9] = [
 
 const RUN: [&str; 5] = ["blsm", "run", NAME, "--workers", "0"];
 
+const SERVE: [&str; 3] = ["blsm", "serve", NAME];
+
 const CHECK: [&str; 3] = ["blsm", "check", NAME];
 
-// How many bytes a text may have.
-const TEXT_LIMIT: u64 = 1 << 18;
+/// How many bytes a text may have.
+pub const TEXT_LIMIT: u64 = 1 << 18;
+
+/// Who does a script: a run without workers, or a session.
+#[derive(Clone, Copy, PartialEq, Eq, Debug)]
+pub enum By {
+    Run,
+    Session,
+}
 
 /// What a call printed, its status, and the disk as it is then.
 #[derive(Drop)]
@@ -44,8 +53,8 @@ fn owned(alloc: Global, words: &[&str]) -> Result<Vec<String>, AllocError> {
     Ok(list)
 }
 
-// What a sink holds, as a text.
-fn text_of(alloc: Global, bytes: &[u8]) -> Result<String, Departure> {
+/// What a sink holds, as a text.
+pub fn text_of(alloc: Global, bytes: &[u8]) -> Result<String, Departure> {
     match str::from_utf8(bytes) {
         Ok(text) => Ok(String::from_str(alloc, text)?),
         Err(_) => Err(Departure::found(alloc, "text of bytes", 0, "")),
@@ -60,6 +69,21 @@ fn disk_of(alloc: Global, shelf: OneShelf) -> Result<PageDisk, Departure> {
     }
 }
 
+// Makes the call that words ask for, over a disk and these streams.
+fn call_over<R: Threads + Wait + Sync, S: Source, K: Sink>(
+    rt: &R,
+    alloc: Global,
+    words: &[String],
+    disk: PageDisk,
+    source: &mut S,
+    sink: &mut K,
+) -> Result<(Status, PageDisk), Departure> {
+    let mut shelf = OneShelf::new(disk);
+    let status = blsm_run(rt, alloc, words, source, sink, &mut shelf, &NoGate);
+    let disk = disk_of(alloc, shelf)?;
+    Ok((status, disk))
+}
+
 /// Makes the call that words ask for, over a disk.
 pub fn call<R: Threads + Wait + Sync>(
     rt: &R,
@@ -68,20 +92,10 @@ pub fn call<R: Threads + Wait + Sync>(
     disk: PageDisk,
     script: &str,
 ) -> Result<Answer, Departure> {
-    let mut shelf = OneShelf::new(disk);
     let mut source = FaultlessSource::new(alloc, script.as_bytes())?;
     let mut sink = FaultlessSink::new(alloc, TEXT_LIMIT)?;
-    let status = blsm_run(
-        rt,
-        alloc,
-        words,
-        &mut source,
-        &mut sink,
-        &mut shelf,
-        &NoGate,
-    );
+    let (status, disk) = call_over(rt, alloc, words, disk, &mut source, &mut sink)?;
     let text = text_of(alloc, sink.bytes())?;
-    let disk = disk_of(alloc, shelf)?;
     Ok(Answer { status, text, disk })
 }
 
@@ -89,6 +103,7 @@ pub fn call<R: Threads + Wait + Sync>(
 #[derive(Drop)]
 pub struct Bench {
     run: Vec<String>,
+    serve: Vec<String>,
     check: Vec<String>,
     made: PageDisk,
 }
@@ -107,6 +122,7 @@ impl Bench {
     pub fn new<R: Threads + Wait + Sync>(rt: &R, alloc: Global) -> Result<Bench, Departure> {
         Ok(Bench {
             run: owned(alloc, &RUN)?,
+            serve: owned(alloc, &SERVE)?,
             check: owned(alloc, &CHECK)?,
             made: make(rt, alloc)?,
         })
@@ -126,6 +142,33 @@ impl Bench {
         script: &str,
     ) -> Result<Answer, Departure> {
         call(rt, alloc, &self.run, disk, script)
+    }
+
+    /// Has a script done over the store on a disk.
+    pub fn ask<R: Threads + Wait + Sync>(
+        &self,
+        rt: &R,
+        alloc: Global,
+        by: By,
+        disk: PageDisk,
+        script: &str,
+    ) -> Result<Answer, Departure> {
+        match by {
+            By::Run => call(rt, alloc, &self.run, disk, script),
+            By::Session => call(rt, alloc, &self.serve, disk, script),
+        }
+    }
+
+    /// Serves a session over the store on a disk, and answers its status and the disk.
+    pub fn serve<R: Threads + Wait + Sync, S: Source, K: Sink>(
+        &self,
+        rt: &R,
+        alloc: Global,
+        disk: PageDisk,
+        source: &mut S,
+        sink: &mut K,
+    ) -> Result<(Status, PageDisk), Departure> {
+        call_over(rt, alloc, &self.serve, disk, source, sink)
     }
 
     /// Checks the store on a disk.

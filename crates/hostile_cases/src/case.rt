@@ -3,7 +3,7 @@ use crate::bench::Bench;
 use crate::departure::Departure;
 use crate::runs::Failing;
 use crate::scripts::Scripts;
-use crate::{calls, damage, runs, sweeps};
+use crate::{alike, calls, damage, runs, sessions, sweeps};
 use std::alloc::Global;
 use std::sync::Wait;
 use std::thread::Threads;
@@ -23,8 +23,10 @@ pub fn check<R: Threads + Wait + Sync>(
         "script" => scripts.add(rest),
         "fail" => runs::check(rt, alloc, bench, scripts, Failing::Alone, rest),
         "stop" => runs::check(rt, alloc, bench, scripts, Failing::AndAfter, rest),
-        "fails" => sweeps::check(rt, alloc, bench, scripts.get(rest)?, Failing::Alone),
-        "stops" => sweeps::check(rt, alloc, bench, scripts.get(rest)?, Failing::AndAfter),
+        "fails" => sweeps::check(rt, alloc, bench, scripts, Failing::Alone, rest),
+        "stops" => sweeps::check(rt, alloc, bench, scripts, Failing::AndAfter, rest),
+        "alike" => alike::check(rt, alloc, bench, scripts.get(rest)?),
+        "sessions" => sessions::check(rt, alloc, bench, scripts.get(rest)?),
         "calls" => calls::check(rt, alloc, scripts, rest),
         "change" => damage::check_later(rt, alloc, bench, scripts, rest),
         "damage" => damage::check(rt, alloc, bench, scripts, rest),

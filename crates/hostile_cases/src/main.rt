@@ -2,6 +2,7 @@
 //! answered. A case that departs is printed, and in the end how many cases there were.
 #![tactic(auto)]
 
+mod alike;
 mod bench;
 mod calls;
 mod case;
@@ -14,6 +15,7 @@ mod judge;
 mod lookups;
 mod runs;
 mod scripts;
+mod sessions;
 mod sweeps;
 mod words;
 

@@ -133,7 +133,7 @@ fn read_wanted(words: &str) -> Option<Wanted<'_>> {
     Some(Wanted { told, maps })
 }
 
-/// Checks a case: a call of the disk, counted from 1 behind the opening of a new store, a script, the status, the replies or all lines, and what may
+/// Checks a case: a call of the disk, counted from 1 behind the opening of a new store, a script and who does it, the status, the replies or all lines, and what may
 /// be found of a key.
 pub fn check<R: Threads + Wait + Sync>(
     rt: &R,
@@ -151,6 +151,7 @@ pub fn check<R: Threads + Wait + Sync>(
     };
     let calls = calls_of_opening(rt, alloc, bench)?;
     let disk = disk_that_fails(bench, which, calls.saturating_add(call))?;
-    let answer = bench.run(rt, alloc, disk, scripts.get(name)?)?;
+    let (by, script) = scripts.asked(name)?;
+    let answer = bench.ask(rt, alloc, by, disk, script)?;
     check_answer(rt, alloc, bench, &answer, &wanted)
 }

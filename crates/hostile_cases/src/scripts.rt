@@ -1,4 +1,5 @@
 //! Scripts that have a name.
+use crate::bench::By;
 use crate::departure::Departure;
 use crate::words::{cut, number};
 use std::alloc::Global;
@@ -89,5 +90,13 @@ impl Scripts {
             }
         }
         Err(Departure::NotACase)
+    }
+
+    /// The script of a name, and who does it: a session where that word stands before the name.
+    pub fn asked(&self, words: &str) -> Result<(By, &str), Departure> {
+        match words.strip_prefix("session ") {
+            Some(name) => Ok((By::Session, self.get(name)?)),
+            None => Ok((By::Run, self.get(words)?)),
+        }
     }
 }

@@ -4,6 +4,7 @@ use crate::departure::Departure;
 use crate::judge::{Judge, keys_of};
 use crate::lookups::{Map, check_images};
 use crate::runs::{Failing, disk_that_fails};
+use crate::scripts::Scripts;
 use blsm_model::{Key, Line, Write};
 use blsm_run::Status;
 use disk_trait::Disk;
@@ -128,17 +129,20 @@ fn check_well(alloc: Global, tried: &Tried<'_>, answer: &Answer) -> Result<(), D
     Ok(())
 }
 
-/// Runs a script over a new store as often as there are calls of the disk that can fail, until the disk of a run met no failure.
+/// Has a script done over a new store as often as there are calls of the disk that can fail, until a disk met no failure.
 pub fn check<R: Threads + Wait + Sync>(
     rt: &R,
     alloc: Global,
     bench: &Bench,
-    script: &str,
+    scripts: &Scripts,
     which: Failing,
+    rest: &str,
 ) -> Result<(), Departure> {
+    let (by, script) = scripts.asked(rest)?;
     let tried = read(alloc, script)?;
     for call in 1..MOST_CALLS {
-        let answer = bench.run(rt, alloc, disk_that_fails(bench, which, call)?, script)?;
+        let disk = disk_that_fails(bench, which, call)?;
+        let answer = bench.ask(rt, alloc, by, disk, script)?;
         if answer.disk.faults() == 0 {
             return check_well(alloc, &tried, &answer);
         }
