@@ -7,6 +7,7 @@
     run = store.run({1: [Put("pear", 5, "green"), Get("pear")], 2: [Add("plum", 7)]}, workers=2)
     run.replies(1)                                 # [Done(), Is(count=5, text='green')]
     list(store.rows("a", "q"))                     # of one moment
+    with store.live() as live: ...                 # many commands, each answered before the next one: see live.py
 
 A batch is some commands of each caller, 1 to 16. Each caller's are done in their order; how callers come between one another is the threads' business, and
 `run.entries` has the order in which they took effect. A reply is a value of one of the classes below `Reply`. A call of the program that is refused raises
@@ -21,6 +22,10 @@ import subprocess
 from collections.abc import Iterable, Iterator, Mapping, Sequence
 from dataclasses import dataclass
 from pathlib import Path
+from typing import TYPE_CHECKING
+
+if TYPE_CHECKING:
+    from live import Live
 
 CALLERS = 16
 LEAST_KEY = "!"
@@ -37,9 +42,10 @@ PROGRAM = Path(__file__).resolve().parent.parent / "crates" / "blsm" / "out" / "
 
 
 class BlsmError(Exception):
-    """What was asked for was not done, or not wholly. `advice` says what a person does."""
+    """What was asked for was not done, or not wholly. `advice` says what a person does, `entries` what of a live store's batch was answered before."""
 
     advice = "Look at the program's output."
+    entries: Sequence[Entry] = ()
 
 
 class Refused(BlsmError):
@@ -93,6 +99,10 @@ class NoMemory(Refused):
     advice = "Memory was refused before the first command: free some, or run fewer lines."
 
 
+class NoRoom(Refused):
+    advice = "A line's caller has no room for it, and it isn't done: open the store again, and send it again."
+
+
 class Killed(Refused):
     advice = "The program was ended from outside: open the store again; it has a front of what was asked for."
 
@@ -111,7 +121,24 @@ class NotDone(BlsmError):
         self.reply, self.advice = reply, reply.advice
 
 
-STATUSES: Mapping[int, type[Refused]] = {1: Usage, 2: BadLine, 3: TooBig, 4: NotAStore, 5: NotEmpty, 6: Damaged, 7: DiskFault, 8: SourceFault, 9: SinkFault, 10: NoMemory}
+STATUSES: Mapping[int, type[Refused]] = {
+    1: Usage,
+    2: BadLine,
+    3: TooBig,
+    4: NotAStore,
+    5: NotEmpty,
+    6: Damaged,
+    7: DiskFault,
+    8: SourceFault,
+    9: SinkFault,
+    10: NoMemory,
+    11: NoRoom,
+}
+
+
+def refusal_of(status: int, line: str, run: Run | None = None) -> Refused:
+    """The refusal of a program that ended with a status and wrote this line."""
+    return STATUSES.get(status, Killed if status < 0 else Refused)(line, run)
 
 
 # ---- keys, values, commands
@@ -498,8 +525,7 @@ class Store:
         if ended.returncode == 0:
             return text
         run = run_of(batch or {}, script, text) if text.startswith("open charge ") and ended.returncode in (6, 7) else None
-        kind = STATUSES.get(ended.returncode, Killed if ended.returncode < 0 else Refused)
-        raise kind("the history tells it" if run else text.strip(), run)
+        raise refusal_of(ended.returncode, "the history tells it" if run else text.strip(), run)
 
     def check(self) -> Report:
         """Reads the whole store, and tells its numbers or raises what is wrong with it. It writes nothing."""
@@ -519,6 +545,12 @@ class Store:
         script = "".join(f"{caller} {commands[i].line()}\n" for i in range(most) for caller, commands in wanted.items() if i < len(commands))
         options = ["--workers", str(check_number(workers, 8)), "--turns", str(check_number(turns, 1_000_000))]
         return run_of(wanted, script, self._call("run", options, script, wanted))
+
+    def live(self, scans: int = 1) -> Live:
+        """This store, kept open: commands are answered one by one, beside so many open scans (15 at most). The file is locked until it is closed."""
+        from live import Live  # which stands above this module
+
+        return Live(self, scans)
 
     def _one(self, command: Command) -> Reply:
         return self.run({1: [command]}).entries[0].reply.need()

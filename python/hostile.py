@@ -5,8 +5,9 @@
     python3 python/hostile.py memory crates/blsm/out/blsm FOLDER
     python3 python/hostile.py calls crates/blsm/out/blsm FOLDER
     python3 python/hostile.py streams crates/blsm/out/blsm FOLDER
+    python3 python/hostile.py sessions crates/blsm/out/blsm FOLDER
 
-The store of all four has all three components and records in both lanes. Files are made in FOLDER: in memory (/dev/shm) a sync costs nothing.
+The store of all has all three components and records in both lanes. Files are made in FOLDER: in memory (/dev/shm) a sync costs nothing.
 
 - bytes: a byte is changed, `check` must print what `reading.py` says of such a file, and each tenth time a run must answer the same or have the same map.
 - memory: each request for memory, and each thread that is to be made, is refused in turn. The answer is status 10 with no line of a history and the same map as
@@ -16,6 +17,8 @@ The store of all four has all three components and records in both lanes. Files 
 - Of a `make` of a new name, in memory and calls: the status is 7 (or 10), and there is no file then, or one that opens as a store without keys.
 - streams: each read of the script and each write of the history in turn fails, or takes one byte. The status is 8 with nothing run, or 9 with a front of the
   text.
+- sessions: the same of `serve`, and each call of the file. Where the source failed (8) the lines that came are done and told, and no other; where the sink
+  failed (9) one line at most is done that isn't told.
 
 `hostile.c` makes the calls fail: it is compiled by gcc, and stands between the program and the C library.
 """
@@ -41,7 +44,7 @@ from pathlib import Path
 
 import reading
 from blsm import Store
-from judge import Geometry, Illegal, Map, judge, parse, write
+from judge import Geometry, Illegal, Map, judge, maps_after_fronts, parse, write
 from reading import Found, Unread
 
 GEOMETRY = Geometry(half=17_408, ratio=2, low=4_096, quantum=1_024)
@@ -498,12 +501,42 @@ def judge_sink(text: bytes) -> Callable[[Bench, Case, Ended], str]:
     return judged
 
 
+def judge_session_source(bench: Bench, case: Case, ended: Ended) -> str:
+    """What came before the source failed is done and told, and nothing else is."""
+    text = ended.text.decode("ascii")
+    if not ended.failed or ended.status != 8:
+        return judge_source(bench, case, ended)
+    if not text.endswith("\nsource fault\n"):
+        raise Illegal(0, f"{ended}")
+    history = text.removesuffix("source fault\n")
+    done = case.script.splitlines(keepends=True)[: len(parse(history).entries)]
+    bench.must_hold(allowed_maps("".join(done), history, bench.map, 0))
+    return "status 8 behind a history"
+
+
+def judge_session_sink(text: bytes) -> Callable[[Bench, Case, Ended], str]:
+    """One command at most is done that isn't told, and none before the first line is out."""
+    def judged(bench: Bench, case: Case, ended: Ended) -> str:
+        if not (ended.failed and ended.status == 9 and text.startswith(ended.text) and ended.text != text):
+            return judge_sink(text)(bench, case, ended)
+        told = ended.text.count(b"\n") - 1
+        fronts = [*maps_after_fronts(parse(text.decode("ascii")).entries, bench.map)]
+        bench.must_hold(fronts[max(told, 0) : told + 2])
+        return "status 9 behind a front of the history"
+
+    return judged
+
+
 def sums(what: str, told: collections.Counter[str]) -> str:
     return f"{what}: " + ", ".join(f"{count} times {kind}" for kind, count in sorted(told.items()))
 
 
 def run_case(script: str, workers: int = 0) -> Case:
     return Case(("run", "--workers", str(workers)), script, workers)
+
+
+def session_case(script: str) -> Case:
+    return Case(("serve",), script)
 
 
 CHECK = Case(("check",), "")
@@ -542,10 +575,22 @@ def try_streams(program: str, folder: Path, seed: int) -> Iterator[str]:
         yield sums(f"sink, {how}", sweep(bench, short, "sink", judge_sink(text), how))
 
 
+def try_sessions(program: str, folder: Path, seed: int) -> Iterator[str]:
+    bench, draw = Bench(program, folder, seed), random.Random(seed)
+    long = session_case("".join(f"1 get {key(draw)}\n" for _ in range(2_000)))
+    short = session_case(HOLDS)
+    text = bench.over_a_copy(short, Failing("sink", 0, 0)).text
+    for how in ("alone", "torn"):
+        yield sums(f"source, {how}", sweep(bench, long, "source", judge_session_source, how))
+        yield sums(f"sink, {how}", sweep(bench, short, "sink", judge_session_sink(text), how))
+    for how in ("alone", "torn", "and after"):
+        yield sums(f"calls of the file, {how}", sweep(bench, short, "device", judge_calls, how))
+
+
 def main() -> None:
     parser = argparse.ArgumentParser(description="Damages a store, refuses memory and fails calls under the built program, and judges its answers.")
     commands = parser.add_subparsers(dest="command", required=True)
-    for name in ("bytes", "memory", "calls", "streams"):
+    for name in ("bytes", "memory", "calls", "streams", "sessions"):
         command = commands.add_parser(name)
         command.add_argument("program")
         command.add_argument("folder", type=Path)
@@ -563,7 +608,8 @@ def main() -> None:
         print(try_bytes(args.program, args.folder, args.sample, args.seed, args.processes, args.run_each))
     else:
         more = (args.lines,) if args.command == "calls" else ()
-        for line in {"memory": try_memory, "calls": try_calls, "streams": try_streams}[args.command](args.program, args.folder, args.seed, *more):
+        tried = {"memory": try_memory, "calls": try_calls, "streams": try_streams, "sessions": try_sessions}[args.command]
+        for line in tried(args.program, args.folder, args.seed, *more):
             print(line, flush=True)
     print(f"{time.monotonic() - began:.0f} seconds")
 

@@ -159,6 +159,27 @@ class Judges(unittest.TestCase):
             with self.subTest(ended), self.assertRaises(Illegal):
                 judged(done, case, ended)
 
+    def test_the_source_of_a_session(self) -> None:
+        case, one = hostile.session_case(WROTE), StandIn({"a": (1, "")})
+        told = "open charge 0\n1 1 put a 1 - => ok q0\nend c0 14 of 34816 callers 0 workers 0 swaps 0 0\n"
+        ended = Ended(8, f"{told}source fault\n".encode(), 9, 1)
+        self.assertEqual(hostile.judge_session_source(one, case, ended), "status 8 behind a history")
+        for after, text in (({}, ended.text), ({"a": (1, ""), "b": (2, "")}, ended.text), ({"a": (1, "")}, told.encode()), ({}, b"source fault\n")):
+            with self.subTest(text=text, after=after), self.assertRaises(Illegal):
+                hostile.judge_session_source(StandIn(after), case, Ended(8, text, 9, 1))
+
+    def test_the_sink_of_a_session(self) -> None:
+        case, judged = hostile.session_case(WROTE), hostile.judge_session_sink(WHOLE.encode())
+        none, one, both = ({}, {"a": (1, "")}, {"a": (1, ""), "b": (2, "")})
+        for told, may in ((0, [none]), (1, [none, one]), (2, [one, both]), (3, [both])):
+            text = "".join(WHOLE.splitlines(keepends=True)[:told]).encode()
+            for after in (none, one, both):
+                with self.subTest(told=told, after=after):
+                    if after in may:
+                        self.assertEqual(judged(StandIn(after), case, Ended(9, text, 9, 1)), "status 9 behind a front of the history")
+                    else:
+                        self.assertRaises(Illegal, judged, StandIn(after), case, Ended(9, text, 9, 1))
+
 
 WRITES_ONCE = "import os\ntry: os.write(1, b'text')\nexcept OSError as why: print(why.errno)"
 READS_ALL = "import os\ntry: print(os.read(0, 9), os.read(0, 9))\nexcept OSError as why: print(why.errno)"
