@@ -13,7 +13,7 @@ CLAUSE = re.compile(r"(requires|ensures|decreases|ghost )")
 TESTS = re.compile(r"_tests$|^merge_trip$|^hostile_cases$")
 LAWS = ("disk_trait", "pacing", "tree_machine", "paced_tree", "alone_run", "tree_file", "core_pace", "core_lists", "core_chain")
 # where a layer begins, in the order of crates.txt
-LAYERS = {"refusal": "leaves", "merge_step": "middle", "script_text": "text and program", "store_trial": "middle", "blsm_run": "text and program"}
+LAYERS = {"refusal": "leaves", "merge_step": "middle", "script_text": "text and program", "store_serve": "middle", "blsm_run": "text and program"}
 NAMES = {
     "leaves": "leaves: up to the sorted runs",
     "middle": "middle: merges up to scripts over a disk",
