@@ -1,10 +1,12 @@
 // Sessions: what is told of lines as they come, and how a session ends.
 use super::asserts::{assert_same, assert_that};
 use super::{
-    CHECK, NAME, RUN, add, add_part, check, letters, owned, run_text, shelf_with_default,
+    CHECK, NAME, RUN, add, add_part, check, letters, owned, run_text, shelf_of, shelf_with_default,
     shelf_with_smallest,
 };
 use crate::call;
+use disk_mem::MemShelf;
+use disk_trait::Shelf;
 use std::alloc::Global;
 use std::process::{Abort, ExitCode};
 use std::sync::Wait;
@@ -213,7 +215,30 @@ fn pieces_of_any_length_are_told_alike(rt: HostRuntime) {
     }
 }
 
-// The sink fails at this call: the lines before it were told, and this is what a get finds then.
+// Numbers of the image with no write that isn't durable, and of the one with all.
+const IMAGES: [u64; 2] = [1_000_000_000_000_999_000, 2_000_000_000_000_999_999];
+
+// What a get finds in the images of the disk of a name.
+fn images_have<R: Abort + Threads + Wait + Sync>(
+    rt: &R,
+    alloc: Global,
+    shelf: &mut MemShelf,
+    found: &str,
+) {
+    let Ok(disk) = shelf.fetch(NAME, false) else {
+        rt.abort()
+    };
+    for pick in IMAGES {
+        let Ok(image) = disk.image(pick) else {
+            rt.abort()
+        };
+        let mut crashed = shelf_of(rt, alloc, image);
+        let text = run_text(rt, alloc, &mut crashed, &RUN, b"1 get a\n");
+        assert_that(rt, text.contains(found));
+    }
+}
+
+// The sink fails at this call: the lines before it were told, and this is what a get finds in each image then.
 fn sink_fails_at<R: Abort + Threads + Wait + Sync>(
     rt: &R,
     alloc: Global,
@@ -232,8 +257,7 @@ fn sink_fails_at<R: Abort + Threads + Wait + Sync>(
     let code = call(rt, alloc, &words, &mut source, &mut sink, &mut shelf);
     assert_that(rt, sink.bytes() == told.as_bytes());
     assert_same(rt, code, ExitCode::from(9));
-    let text = run_text(rt, alloc, &mut shelf, &RUN, b"1 get a\n");
-    assert_that(rt, text.contains(found));
+    images_have(rt, alloc, &mut shelf, found);
 }
 
 #[test]
