@@ -90,7 +90,7 @@ impl Key {
     pub fn copy(&self) -> Key
         ensures { result ≡ self.now }
     {
-        match self.bytes.clone() {
+        match ArrayVec::try_from(self.as_bytes()) {
             Ok(bytes) => Key { bytes },
             Err(_) => unreachable!(),
         }

@@ -72,7 +72,7 @@ impl Text {
     pub fn copy(&self) -> Text
         ensures { result ≡ self.now }
     {
-        match self.bytes.clone() {
+        match ArrayVec::try_from(self.as_bytes()) {
             Ok(bytes) => Text { bytes },
             Err(_) => unreachable!(),
         }
@@ -104,7 +104,8 @@ fn push_all(bytes: &mut ArrayVec<u8, { Text::MAX_LEN }>, more: &[u8])
     requires { length bytes.old.items + length more.now ≤ most_text }
     ensures { bytes.new.items ≡ bytes.old.items ++ more.now }
 {
-    for byte in more {
-        bytes.push(*byte);
+    match bytes.try_extend_from_slice(more) {
+        Ok(()) => {}
+        Err(_) => unreachable!(),
     }
 }
