@@ -86,6 +86,19 @@ impl Key {
         self.bytes.as_slice()
     }
 
+    /// Becomes the key of these bytes, of which there are 1 to 64. It copies them and no more, and takes no memory.
+    pub fn set(&mut self, bytes: &[u8])
+        requires not_empty { 1 ≤ length bytes.now }
+        requires fits { length bytes.now ≤ most_key }
+        ensures { self.new ≡ bytes.now }
+    {
+        self.bytes.clear();
+        match self.bytes.try_extend_from_slice(bytes) {
+            Ok(()) => {}
+            Err(_) => unreachable!(),
+        }
+    }
+
     /// The same key once more. It takes no memory.
     pub fn copy(&self) -> Key
         ensures { result ≡ self.now }

@@ -78,6 +78,15 @@ impl Text {
         }
     }
 
+    /// Becomes the text of these bytes, of which there are at most 435. It copies them and no more, and takes no memory.
+    pub fn set(&mut self, bytes: &[u8])
+        requires { length bytes.now ≤ most_text }
+        ensures { self.new ≡ bytes.now }
+    {
+        self.bytes.clear();
+        push_all(&mut self.bytes, bytes);
+    }
+
     /// This text with a tail behind it: the last 64 bytes of both, and where the tail is empty the text as it is. It takes no memory.
     pub fn with_tail(&self, tail: &Text) -> Text
         ensures { result ≡ with_tail self.now tail.now }

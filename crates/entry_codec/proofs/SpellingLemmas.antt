@@ -177,6 +177,16 @@ entry_same a b r s x y ea eb same =
 pub too_short : (bytes : List ℕ) → length bytes < 13 → (key : Key) (rec : Rec) → BeginsWith bytes key rec → ⊥
 too_short bytes short key rec b = omega (arith, ap (length {A = ℕ}) b.parts, length-append (spelling key rec) b.rest, length-spelling key rec)
 
+-- the parts of the entry at the front of bytes stand behind the head that is read there
+pub parts_behind : (bytes behind : List ℕ) (h : Head) (key : Key) (rec : Rec) → InRange h → bytes ≡ head h.kind h.key_len h.text_len h.count ++ drop 13 bytes
+    → behind ≡ drop 13 bytes → BeginsWith bytes key rec → HasParts h behind key rec
+parts_behind bytes behind h key rec range read is begins =
+    to_parts bytes behind h key rec range (read ∙ ap (λ l. head h.kind h.key_len h.text_len h.count ++ l) (sym is)) begins
+
+-- bytes with an entry at their front have a head there
+pub long_enough : (bytes : List ℕ) (key : Key) (rec : Rec) → BeginsWith bytes key rec → 13 ≤ length bytes
+long_enough bytes key rec b = omega (arith, ap (length {A = ℕ}) b.parts, length-append (spelling key rec) b.rest, length-spelling key rec)
+
 -- ---- part by part
 
 pub key_bounds : (n : ℕ) → ((n ≡ 0) ⊎ (64 < n) → true ≡ false) → (1 ≤ n) × (n ≤ 64)

@@ -136,6 +136,45 @@ pub fn decode(bytes: &[u8]) -> Option<(Key, Rec, usize)>
     entry(&head, &bytes[HEAD_LEN..])
 }
 
+// Makes a record that of this kind, with this count and text.
+fn read_record(kind: u8, count: u64, text: &[u8], rec: &mut Rec)
+    requires { (other : Rec) × IsOf kind count text.now other }
+    ensures { (other : Rec) → IsOf kind count text.now other → rec.new ≡ other }
+{
+    match kind {
+        BASE => rec.set_base(count, text),
+        TOMB => *rec = Rec::Tomb,
+        _ => rec.set_delta(count, text),
+    }
+}
+
+// Reads the key and the record of this head, which stand at the front of these bytes, over others, and gives the entry's length.
+fn read_parts(head: &Head, bytes: &[u8], key: &mut Key, rec: &mut Rec) -> usize
+    requires { (front : Key) × (other : Rec) × HasParts head.now bytes.now front other }
+    ensures entry { (front : Key) (other : Rec) → HasParts head.now bytes.now front other → (key.new ≡ front) × (rec.new ≡ other) }
+    ensures length { result ≡ weight key.new rec.new }
+{
+    let key_len = head.key_len as usize;
+    let text_len = head.text_len as usize;
+    let (spelled, rest) = bytes.split_at(key_len);
+    let (text, _) = rest.split_at(text_len);
+    key.set(spelled);
+    read_record(head.kind, head.count, text, rec);
+    HEAD_LEN + key_len + text_len
+}
+
+/// Reads the entry that is at the front of bytes over another one, and gives its length in bytes. Bytes may follow. Where both are records
+/// of one kind, it copies the bytes of the key and of the text, and no more.
+pub fn read_over(bytes: &[u8], key: &mut Key, rec: &mut Rec) -> usize
+    requires { (front : Key) × (other : Rec) × BeginsWith bytes.now front other }
+    ensures entry { (front : Key) (other : Rec) → BeginsWith bytes.now front other → (key.new ≡ front) × (rec.new ≡ other) }
+    ensures length { result ≡ weight key.new rec.new }
+{
+    let head = head_at(bytes);
+    let (_, behind) = bytes.split_at(HEAD_LEN);
+    read_parts(&head, behind, key, rec)
+}
+
 /// Reads the key of the entry at the front of any bytes where it stands, and the entry's length in bytes. `None` exactly where
 /// no front of the bytes is the spelling of an entry. Bytes may follow. It copies neither the key nor the record.
 pub fn peek_key(bytes: &[u8]) -> Option<(&[u8], usize)>

@@ -7,6 +7,6 @@ mod encoding;
 mod format;
 mod laws;
 
-pub use decoding::{decode, peek_key};
+pub use decoding::{decode, peek_key, read_over};
 pub use encoding::encode;
 pub use laws::{one_spelling, whatever_follows};

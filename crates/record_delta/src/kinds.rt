@@ -176,6 +176,14 @@ impl TailPart {
         TailPart(Text::empty())
     }
 
+    /// Becomes the change that puts these bytes behind, of which there are at most 64. It copies them and no more, and takes no memory.
+    pub fn set(&mut self, tail: &[u8])
+        requires { length tail.now ≤ most_tail }
+        ensures { self.new ≡ tail.now }
+    {
+        self.0.set(tail);
+    }
+
     /// The same change once more. It takes no memory.
     pub fn copy(&self) -> TailPart
         ensures same { result ≡ self.now }

@@ -1,6 +1,6 @@
 //! Records and their weight.
 ghost use Rattle.std.specs.Prelude.{◌≡◌, ◌≤◌, ⊤, [], ◌∷◌, length};
-ghost use Rattle.blsm_model.specs.Format.{least_weight, most_text, most_weight};
+ghost use Rattle.blsm_model.specs.Format.{least_weight, most_tail, most_text, most_weight};
 ghost use Rattle.blsm_model.specs.Values.{key_of, weight_of};
 ghost use Rattle.blsm_model.specs.Tails.{TailFits};
 ghost use Rattle.record_delta.specs.declared.record.Rec.TheVariants as rec;
@@ -8,7 +8,7 @@ ghost use Rattle.record_delta.specs.Records.{record_of, writes_of_record, text_l
 ghost use Rattle.record_delta.specs.Folding.{StandsForMore};
 
 use crate::kinds::{AddPart, Both, TailPart};
-use blsm_model::{Key, Op, Value, Write};
+use blsm_model::{Key, Op, Text, Value, Write};
 use std::alloc::AllocError;
 
 /// What a table keeps of the writes of a key.
@@ -46,6 +46,32 @@ impl Rec {
             }),
             Rec::Tomb => Rec::Tomb,
         }
+    }
+
+    /// Becomes a base of this count and text, of at most 435 bytes. Where it was one, it copies these bytes and no more.
+    pub fn set_base(&mut self, count: u64, text: &[u8])
+        requires { length text.now ≤ most_text }
+        ensures { self.new ≡ rec.Base (record { count = count; text = text.now }) }
+    {
+        if let Rec::Base(value) = self {
+            value.count = count;
+            value.text.set(text);
+            return;
+        }
+        *self = base(count, text);
+    }
+
+    /// Becomes a delta of this amount and tail, of at most 64 bytes. Where it was one, it copies these bytes and no more.
+    pub fn set_delta(&mut self, amount: u64, tail: &[u8])
+        requires { length tail.now ≤ most_tail }
+        ensures { self.new ≡ rec.Delta (record { count = amount; text = tail.now }) }
+    {
+        if let Rec::Delta(change) = self {
+            change.count = AddPart::new(amount);
+            change.text.set(tail);
+            return;
+        }
+        *self = delta(amount, tail);
     }
 
     /// The delta that adds this amount.
@@ -88,6 +114,30 @@ impl Rec {
             Write::Del(_) => Rec::Tomb,
         }
     }
+}
+
+// The base of a count and a text.
+fn base(count: u64, text: &[u8]) -> Rec
+    requires { length text.now ≤ most_text }
+    ensures { result ≡ rec.Base (record { count = count; text = text.now }) }
+{
+    match Text::from_bytes(text) {
+        Some(text) => Rec::Base(Value { count, text }),
+        None => unreachable!(),
+    }
+}
+
+// The delta of an amount and a tail.
+fn delta(amount: u64, tail: &[u8]) -> Rec
+    requires { length tail.now ≤ most_tail }
+    ensures { result ≡ rec.Delta (record { count = amount; text = tail.now }) }
+{
+    let mut text = TailPart::empty();
+    text.set(tail);
+    Rec::Delta(Both {
+        count: AddPart::new(amount),
+        text,
+    })
 }
 
 /// The weight of a record with its key, in bytes: 13, the key, which has one byte at least, and the text of a base or the tail of a delta.

@@ -8,7 +8,6 @@ use Rattle.std.specs.List.Sorted.{IsStrictlySortedBy}
 use Rattle.std.specs.Ordering.{is_lt}
 use Rattle.std.specs.declared.cmp.Ordering.{Ordering}
 use Rattle.std.specs.declared.cmp.Ordering.TheVariants.{Less}
-use Rattle.std.proofs.lemmas.Bool.{false≢true}
 use Rattle.std.proofs.lemmas.Cmp.{nat_list_cmp_total}
 use Rattle.std.proofs.lemmas.List.{drop-drop, drop_at, take_at}
 use Rattle.std.proofs.lemmas.List.Edits.{between_none, length-between}
@@ -214,6 +213,38 @@ step head page at end next pages entries weight_left now entry len long (order, 
       kept = (fits.inside, inside, after.cursor);
       stepped = subst (λ (s : CursorState). IsStepped s new entry) is stepped;
       rises = subst (λ (s : CursorState). Rises s.head (Some entry)) is after.rises;
+    }
+
+-- the same where the head was read from the page
+pub record StepOver (new : Option (Key × Rec)) (page : List ℕ) (at end next pages entries weight_left : ℕ) (now : CursorState) (len : ℕ) : Type 0 where
+  pub light : len ≤ weight_left
+  pub some : 1 ≤ entries
+  pub kept : IsKept new page (at + len) end next pages (entries - 1) (weight_left - len)
+  pub stepped : (entry : Key × Rec) × IsStepped now (seen new page (at + len) end next pages (entries - 1) (weight_left - len)) entry
+  pub rises : Rises now.head new
+
+-- the entry that stands at the front of what is behind the head
+pub at_front : (head : Option (Key × Rec)) (page : List ℕ) (at end next pages entries weight_left : ℕ) (now : CursorState)
+    → IsKept head page at end next pages entries weight_left → seen head page at end next pages entries weight_left ≡ now → 0 < length now.behind
+    → (key : Key) × (rec : Rec) × BeginsWith (between at end page) key rec
+at_front head page at end next pages entries weight_left now kept is some =
+    let cursor = kept.2 in
+    let first = first_of_bytes _ cursor.here cursor.each cursor.behind_is (subst (λ (s : CursorState). 0 < length s.behind) (sym is) some) in
+    (first.entry.0, first.entry.1, begins _ cursor.here first)
+
+pub step_over : (head new : Option (Key × Rec)) (page : List ℕ) (at end next pages entries weight_left : ℕ) (now : CursorState) (len : ℕ) → length page ≡ page_length
+    → IsKept head page at end next pages entries weight_left → seen head page at end next pages entries weight_left ≡ now
+    → (entry : Key × Rec) × (new ≡ Some entry) × BeginsWith (between at end page) entry.0 entry.1 × (len ≡ weight entry.0 entry.1)
+    → StepOver new page at end next pages entries weight_left now len
+step_over head new page at end next pages entries weight_left now len long kept is (entry, new_is, begin, len_is) =
+    let one = step head page at end next pages entries weight_left now entry len long kept is begin.entry
+    (begin.rest, ap (λ (s : CursorState). s.behind) (sym is) ∙ begin.parts) len_is in
+    record {
+      light = one.light;
+      some = one.some;
+      kept = subst (λ (h : Option (Key × Rec)). IsKept h page (at + len) end next pages (entries - 1) (weight_left - len)) (sym new_is) one.kept;
+      stepped = (entry, subst (λ (h : Option (Key × Rec)). IsStepped now (seen h page (at + len) end next pages (entries - 1) (weight_left - len)) entry) (sym new_is) one.stepped);
+      rises = subst (λ (h : Option (Key × Rec)). Rises now.head h) (sym new_is) one.rises;
     }
 
 -- ---- a page

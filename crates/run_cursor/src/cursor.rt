@@ -1,5 +1,5 @@
 //! A cursor over a component.
-ghost use Rattle.std.specs.Prelude.{◌≡◌, ◌≢◌, ◌↔◌, ◌+◌, ◌<◌, ◌≤◌, ◌++◌, [], ℕ, List, Option, Ok, Err, length, IsTrue, IsErr, OnOk, IfSome, IfNone, option_map};
+ghost use Rattle.std.specs.Prelude.{◌≡◌, ◌≢◌, ◌↔◌, ◌+◌, ◌<◌, ◌≤◌, ◌++◌, [], ℕ, List, Option, Ok, Err, length, IsTrue, IsErr, OnOk, Some, IfSome, IfNone, option_map};
 ghost use Rattle.blsm_model.specs.declared.component.Component.{Component};
 ghost use Rattle.blsm_model.specs.declared.key.Key.{Key};
 ghost use Rattle.blsm_model.specs.Sizes.{Sizes};
@@ -7,9 +7,11 @@ ghost use Rattle.blsm_model.specs.Geometry.{page_count, file_length};
 ghost use Rattle.record_delta.specs.declared.record.Rec.{Rec};
 ghost use Rattle.record_delta.specs.Entries.{Entries};
 ghost use Rattle.record_delta.specs.Records.{weight as weight_with};
-ghost use Rattle.page_file.specs.Entry.{IsPageEntry, entry_bytes, entries_bytes, AreEntries, AreRising};
+ghost use Rattle.entry_codec.specs.Spelling.{BeginsWith};
+ghost use Rattle.page_file.specs.Entry.{entries_bytes, AreEntries, AreRising};
 ghost use Rattle.blsm_model.specs.Components.{no_page};
-ghost use Rattle.blsm_model.specs.Format.{least_full};
+ghost use Rattle.blsm_model.specs.Format.{page_length, least_full};
+ghost use Rattle.std.specs.List.{between};
 ghost use Rattle.page_file.specs.Page.{IsPageOf};
 ghost use Rattle.blsm_model.specs.Components.{empty_component};
 ghost use Rattle.page_file.specs.File.{Reads};
@@ -19,7 +21,7 @@ ghost use Rattle.run_cursor.specs.Given.{HasGiven, HasGivenMore};
 
 use blsm_model::{Component, Geometry, Key};
 use disk_trait::Disk;
-use entry_codec::{decode, peek_key};
+use entry_codec::{decode, peek_key, read_over};
 use page_file::{Broken, PAGE_HEAD_LEN, PAGE_LEN, PageHead, number_of, read_page};
 use record_delta::{Rec, Stream};
 use std::marker::Model;
@@ -49,6 +51,33 @@ impl Model for Cursor {
     ghost view = { λ c. seen c.head c.page c.at c.end c.next c.pages c.entries c.weight };
 
     ghost invariant = { λ c. IsKept c.head c.page c.at c.end c.next c.pages c.entries c.weight };
+}
+
+// Makes a head of the entry that begins at a place of a page, and gives its length. Where there was a head, its room is taken.
+fn read_head(head: &mut Option<(Key, Rec)>, page: &[u8; PAGE_LEN], at: usize, end: usize) -> usize
+    requires inside { (at ≤ end) × (end ≤ page_length) }
+    requires entry { (key : Key) × (rec : Rec) × BeginsWith (between at end page.now) key rec }
+    ensures { (entry : Key × Rec) × (head.new ≡ Some entry) × BeginsWith (between at end page.now) entry.0 entry.1 × (result ≡ weight_with entry.0 entry.1) }
+{
+    let bytes = &page[at..end];
+    if let Some((key, rec)) = head {
+        return read_over(bytes, key, rec);
+    }
+    first_head(head, bytes)
+}
+
+// The same where there was none.
+fn first_head(head: &mut Option<(Key, Rec)>, bytes: &[u8]) -> usize
+    requires { (key : Key) × (rec : Rec) × BeginsWith bytes.now key rec }
+    ensures { (entry : Key × Rec) × (head.new ≡ Some entry) × BeginsWith bytes.now entry.0 entry.1 × (result ≡ weight_with entry.0 entry.1) }
+{
+    match decode(bytes) {
+        Some((key, rec, length)) => {
+            *head = Some((key, rec));
+            length
+        }
+        None => unreachable!(),
+    }
 }
 
 impl Cursor {
@@ -129,27 +158,13 @@ impl Cursor {
         })
     }
 
-    // The entry behind the head on its page, and its length in bytes.
-    fn behind(&self) -> (Key, Rec, usize)
-        requires { 0 < length self.now.behind }
-        ensures entry { (rest : List ℕ) × (self.now.behind ≡ entry_bytes ((result.0, result.1)) ++ rest) }
-        ensures right { IsPageEntry ((result.0, result.1)) }
-        ensures length { result.2 ≡ weight_with result.0 result.1 }
-    {
-        match decode(&self.page[self.at..self.end]) {
-            Some(entry) => entry,
-            None => unreachable!(),
-        }
-    }
-
     // Goes on to the entry behind the head on its page.
     fn step(&mut self)
         requires { 0 < length self.old.behind }
         ensures stepped { (head : Key × Rec) × IsStepped self.old self.new head }
         ensures rises { Rises self.old.head self.new.head }
     {
-        let (key, rec, length) = self.behind();
-        self.head = Some((key, rec));
+        let length = read_head(&mut self.head, &self.page, self.at, self.end);
         self.at += length;
         self.entries -= 1;
         self.weight -= length as u64;
