@@ -83,8 +83,11 @@ impl Text {
         requires { length bytes.now ≤ most_text }
         ensures { self.new ≡ bytes.now }
     {
-        self.bytes.clear();
-        push_all(&mut self.bytes, bytes);
+        // What is written over need not be blanked before.
+        self.bytes.truncate(bytes.len());
+        let (over, behind) = bytes.split_at(self.bytes.len());
+        self.bytes.as_mut_slice().copy_from_slice(over);
+        push_all(&mut self.bytes, behind);
     }
 
     /// This text with a tail behind it: the last 64 bytes of both, and where the tail is empty the text as it is. It takes no memory.

@@ -1,5 +1,6 @@
 //! The page that takes entries.
-ghost use Rattle.std.specs.Prelude.{◌≡◌, ◌+◌, ◌≤◌, ◌++◌, List, ℕ, length, drop};
+ghost use Rattle.std.specs.Prelude.{◌≡◌, ◌+◌, ◌≤◌, ◌++◌, List, ℕ, length, drop, replicate};
+ghost use Rattle.blsm_model.specs.Format.{page_length};
 ghost use Rattle.record_delta.specs.Records.{weight};
 ghost use Rattle.entry_codec.specs.Spelling.{spelling, IsEntry};
 ghost use Rattle.page_file.specs.Page.{most_used};
@@ -111,16 +112,15 @@ impl PageBuffer {
         self.count += 1;
     }
 
-    /// The page of these entries that names this next page.
-    pub fn seal(&self, next: Option<u32>) -> [u8; PAGE_LEN]
-        ensures { result ≡ sealed next self.now }
+    /// Makes of a page of zeros the one of these entries that names this next page.
+    pub fn seal(&self, next: Option<u32>, page: &mut [u8; PAGE_LEN])
+        requires { page.old ≡ replicate page_length 0 }
+        ensures { page.new ≡ sealed next self.now }
     {
-        let mut page = [0; PAGE_LEN];
-        put(&mut page, 0, &self.count.to_be_bytes());
-        put(&mut page, 2, &self.used.to_be_bytes());
-        put(&mut page, 4, &number_of(next).to_be_bytes());
-        put(&mut page, PAGE_HEAD_LEN, &self.bytes[..self.used as usize]);
-        page
+        put(page, 0, &self.count.to_be_bytes());
+        put(page, 2, &self.used.to_be_bytes());
+        put(page, 4, &number_of(next).to_be_bytes());
+        put(page, PAGE_HEAD_LEN, &self.bytes[..self.used as usize]);
     }
 
     /// Drops its entries.

@@ -21,7 +21,7 @@ use crate::buffer::PageBuffer;
 use bloom_bits::{Fences, Filter};
 use blsm_model::{Component, Geometry, Key, Op};
 use disk_trait::Disk;
-use page_file::{MOST_USED, no_component, write_page};
+use page_file::{MOST_USED, PAGE_LEN, no_component, write_page};
 use page_space::{Role, Space};
 use record_delta::{Rec, weight};
 use refusal::Failed;
@@ -136,7 +136,9 @@ impl Writer {
         if self.component.pages == 0 {
             return Ok(());
         }
-        write_page(disk, geo, self.number, &self.buffer.seal(next))
+        let mut page = [0; PAGE_LEN];
+        self.buffer.seal(next, &mut page);
+        write_page(disk, geo, self.number, &page)
     }
 
     // Opens this page, without entries.

@@ -23,7 +23,7 @@ returns c =
     let b_long : length b ≡ 2 = ap (length {A = ℕ}) b_is in
     let d_long : length d ≡ 4 = ap (length {A = ℕ}) d_is in
     let zeros : List ℕ = replicate 4096 zero in
-    let one : c.put.new.out ≡ a ++ drop (length a) zeros = c.put.ensures.written [] zeros refl refl in
+    let one : c.put.new.out ≡ a ++ drop (length a) zeros = c.put.ensures.written [] zeros refl c.requires in
     let two : c.put-2.new.out ≡ (a ++ b) ++ drop (length b) (drop (length a) zeros) = c.put-2.ensures.written a (drop (length a) zeros) a_long one in
     let three : c.put-3.new.out ≡ ((a ++ b) ++ d) ++ drop (length d) (drop (length b) (drop (length a) zeros)) =
     c.put-3.ensures.written (a ++ b) (drop (length b) (drop (length a) zeros)) (omega (arith, length-append a b, a_long, b_long)) two in
