@@ -21,7 +21,7 @@ use bloom_bits::{Fences, Filter};
 use blsm_model::{Component, Geometry, Key};
 use disk_trait::Disk;
 use merge_ends::Merge;
-use page_file::{Broken, one_order};
+use page_file::Broken;
 use page_space::{Role, Space};
 use refusal::Failed;
 use run_cursor::Cursor;
@@ -69,7 +69,6 @@ impl Deep {
             → (below : HasList sizes c2.now older file) → ((n : ℕ) → Contains (numbers_of below.pages) n → (HasRole space role n → ⊥) × (IsFree space n → ⊥))
             → IsMerge sizes file space result filter.new fences.new (numbers_of list.pages) (numbers_of below.pages) newer older }
     {
-        one_order();
         Deep {
             merge: Merge::begin(c2, role, bits, filter, fences),
             c1x: Cursor::start(c1x),

@@ -11,10 +11,11 @@ use Rattle.blsm_model.specs.Sizes.{Sizes}
 use Rattle.record_delta.specs.declared.record.Rec.{Rec}
 use Rattle.record_delta.specs.Entries.{Entries, AreSorted, above}
 use Rattle.page_space.specs.Space.{SpaceState, HasRole, IsFree}
-use Rattle.page_file.specs.File.{pages_region, AreSamePages}
+use Rattle.page_file.specs.File.{pages_region}
 use Rattle.page_file.specs.Component.{RunPage, numbers_of}
 use Rattle.page_file.proofs.PageLemmas.{others_apart, same_pages}
 use Rattle.run_cursor.specs.Cursor.{CursorState, from_head, started, HasAhead, IsAdvanced}
+use Rattle.run_cursor.proofs.AheadLemmas.{ahead_kept}
 use Rattle.run_writer.specs.Writer.{role_region}
 use Rattle.merge_ends.specs.Input.{head_above, IsInput}
 use Rattle.merge_ends.specs.Output.{TakesPages}
@@ -64,11 +65,9 @@ went_on sizes file space role at old new pages entries stale input advanced = by
     }
 
 -- An input stays where the role's pages alone are written, and the pages that the role takes were free.
-pub input_kept : ((sizes : Sizes) (cursor : CursorState) (rest : Entries) (old new : List ℕ) (before : HasAhead sizes cursor rest old) → AreSamePages sizes (numbers_of before.coming) old new
-    → (now : HasAhead sizes cursor rest new) × (now.coming ≡ before.coming))
-    → (sizes : Sizes) (old new : List ℕ) (space after : SpaceState) (role : ℕ) (at : Option Key) (cursor : CursorState) (pages : List ℕ) (entries : Entries)
+pub input_kept : (sizes : Sizes) (old new : List ℕ) (space after : SpaceState) (role : ℕ) (at : Option Key) (cursor : CursorState) (pages : List ℕ) (entries : Entries)
     → IsSameOutside (role_region sizes space role) old new → TakesPages role space after → IsInput sizes old space role at cursor pages entries → IsInput sizes new after role at cursor pages entries
-input_kept ahead_kept sizes old new space after role at cursor pages entries same takes input =
+input_kept sizes old new space after role at cursor pages entries same takes input =
     let now = ahead_kept sizes cursor input.rest old new input.ahead (same_pages sizes (numbers_of input.ahead.coming) old new (same_wider elsewhere same)) in
     let back = λ (n : ℕ) (has : Contains (numbers_of now.0.coming) n). subst (λ (ps : List RunPage). Contains (numbers_of ps) n) now.1 has in
     record {

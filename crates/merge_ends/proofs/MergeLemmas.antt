@@ -3,12 +3,8 @@ use Rattle.std.proofs.lemmas.Bool.Decides.{nat_tests}
 use Rattle.std.proofs.lemmas.Grind.{common_steps}
 use Rattle.std.proofs.Common.{◌≡◌, ◌∙◌, ◌+◌, ◌≤◌, ◌⊎◌, ℕ, Bool, true, false, List, [], ◌∷◌, Option, Some, None, IsSome, cond, not, refl, ap, sym, subst, inl, inr, arith}
 use Rattle.std.specs.Prelude.{if◌then◌else◌}
-use Rattle.disk_trait.specs.Disk.{DiskState}
-use Rattle.disk_trait.specs.Moments.{IsTimed}
-use Rattle.disk_trait.specs.Reads.{OnlyReads}
 use Rattle.blsm_model.specs.declared.key.Key.{Key}
 use Rattle.blsm_model.specs.Sizes.{Sizes}
-use Rattle.blsm_model.specs.Geometry.{file_length}
 use Rattle.bloom_bits.specs.BitSet.{BitState}
 use Rattle.bloom_bits.specs.Fences.{FencesState}
 use Rattle.record_delta.specs.declared.record.Rec.{Rec}
@@ -19,20 +15,20 @@ use Rattle.run_cursor.specs.Cursor.{CursorState, from_head}
 use Rattle.run_writer.specs.Writer.{HasPushed}
 use Rattle.merge_step.specs.Group.{group_of}
 use Rattle.merge_step.specs.Merged.{IsTaken}
+use Rattle.merge_step.proofs.StepLemmas.{goes_on}
 use Rattle.merge_ends.specs.Input.{left_in, IsReady}
 use Rattle.merge_ends.specs.Newer.{at_hand, newer_calls, newer_left}
-use Rattle.merge_ends.specs.Output.{HasRun, IsUpTo, kept}
-use Rattle.merge_ends.specs.Quantum.{NoneAbove, Works}
+use Rattle.merge_ends.specs.Output.{IsUpTo, kept}
+use Rattle.merge_ends.specs.Quantum.{NoneAbove}
 use Rattle.merge_ends.specs.Progress.{left_to_take}
 use Rattle.merge_ends.specs.Merge.{MergeState, IsMerging, progress}
 use Rattle.merge_ends.proofs.GroupLemmas.{further, head_first, head_sorted, input_done, all_up_to, up_to_none}
 use Rattle.merge_ends.proofs.KeptLemmas.{kept_none}
 use Rattle.merge_ends.proofs.NewerLemmas.{hand_sorted, newer_done}
-use Rattle.merge_ends.proofs.QuantumLemmas.{GoesOn}
 
-pub group_taken : GoesOn → (input : Option CursorState) (table : Entries) (older : CursorState) (at : Option Key) (key : Key) (rec : Rec) (taken : ℕ) → AreSorted table → IsReady at older
+pub group_taken : (input : Option CursorState) (table : Entries) (older : CursorState) (at : Option Key) (key : Key) (rec : Rec) (taken : ℕ) → AreSorted table → IsReady at older
     → group_of (first_of (above at (at_hand input table))) older.head ≡ Some (key, rec, taken) → IsTaken at (at_hand input table) (from_head older.head []) key rec taken
-group_taken goes_on input table older at key rec taken sorted ready group =
+group_taken input table older at key rec taken sorted ready group =
     goes_on at (at_hand input table) (from_head older.head []) key rec taken (hand_sorted input table sorted) (head_sorted older.head)
     (ap (group_of (first_of (above at (at_hand input table)))) (head_first at older ready) ∙ group)
 

@@ -1,7 +1,5 @@
 -- The newer input, a table or a component, by what a step needs of it.
-use Rattle.std.proofs.lemmas.Bool.Decides.{nat_tests}
-use Rattle.std.proofs.lemmas.Grind.{common_steps}
-use Rattle.std.proofs.Common.{◌≡◌, ◌∙◌, ◌+◌, ◌/◌, ◌<◌, ◌≤◌, ◌⊎◌, ℕ, true, List, [], ◌∷◌, Option, Some, None, refl, ap, sym, subst, inl, inr, arith}
+use Rattle.std.proofs.Common.{◌≡◌, ◌∙◌, ◌+◌, ◌/◌, ◌<◌, ◌≤◌, ℕ, true, List, [], ◌∷◌, Option, Some, None, ap, sym, subst, inl, inr, arith}
 use Rattle.std.specs.List.{AllByRecursion}
 use Rattle.disk_trait.specs.Disk.{DiskState}
 use Rattle.disk_trait.specs.Region.{IsSameOutside}
@@ -10,22 +8,17 @@ use Rattle.blsm_model.specs.Sizes.{Sizes}
 use Rattle.record_delta.specs.declared.record.Rec.{Rec}
 use Rattle.record_delta.specs.Entries.{Entries, AreSorted, entries_weight, first_of, is_above, above}
 use Rattle.page_space.specs.Space.{SpaceState}
-use Rattle.run_cursor.specs.Cursor.{CursorState, from_head}
+use Rattle.run_cursor.specs.Cursor.{CursorState}
 use Rattle.run_writer.specs.Writer.{role_region}
 use Rattle.merge_step.specs.Group.{group_of}
-use Rattle.merge_ends.specs.Input.{head_above, key_of, left_in, IsReady, IsBehind, IsInput}
+use Rattle.merge_ends.specs.Input.{IsBehind}
 use Rattle.merge_ends.specs.Newer.{at_hand, newer_calls, newer_left, newer_pages, cursors_with, IsNewer, IsNewerBehind, IsNewerDamage, IsNewerReady}
 use Rattle.merge_ends.specs.Merge.{group_calls, quantum_calls}
 use Rattle.merge_ends.specs.Output.{TakesPages}
 use Rattle.merge_ends.specs.Progress.{MeetsDamage, pages_ahead}
 use Rattle.merge_ends.specs.Quantum.{Counts}
+use Rattle.merge_ends.proofs.InputLemmas.{input_kept}
 use Rattle.merge_ends.proofs.GroupLemmas.{behind_group, end_left, first_none, head_first, head_is, head_sorted, input_done, input_further, newer_stays, weightless}
-
--- what an input stays through: a law of this crate
-abbrev pub InputStays : Type 0
-InputStays = (sizes : Sizes) (old new : List ℕ) (space after : SpaceState) (role : ℕ) (at : Option Key) (cursor : CursorState) (pages : List ℕ) (entries : Entries)
-    → IsSameOutside (role_region sizes space role) old new → TakesPages role space after
-    → IsInput sizes old space role at cursor pages entries → IsInput sizes new after role at cursor pages entries
 
 pub hand_sorted : (input : Option CursorState) (table : Entries) → AreSorted table → AreSorted (at_hand input table)
 hand_sorted None table sorted = sorted
@@ -122,11 +115,11 @@ pub newer_further : (sizes : Sizes) (file : List ℕ) (space : SpaceState) (role
 newer_further sizes file space role at key None table pages entries key_above is = is
 newer_further sizes file space role at key (Some cursor) table pages entries key_above is = input_further sizes file space role at key cursor entries key_above is
 
-pub newer_kept : InputStays → (sizes : Sizes) (old new : List ℕ) (space after : SpaceState) (role : ℕ) (at : Option Key) (input : Option CursorState) (table : Entries) (pages : List ℕ) (entries : Entries)
+pub newer_kept : (sizes : Sizes) (old new : List ℕ) (space after : SpaceState) (role : ℕ) (at : Option Key) (input : Option CursorState) (table : Entries) (pages : List ℕ) (entries : Entries)
     → IsSameOutside (role_region sizes space role) old new → TakesPages role space after
     → IsNewer sizes old space role at input table pages entries → IsNewer sizes new after role at input table pages entries
-newer_kept stays sizes old new space after role at None table pages entries same takes is = is
-newer_kept stays sizes old new space after role at (Some cursor) table pages entries same takes is = stays sizes old new space after role at cursor pages entries same takes is
+newer_kept sizes old new space after role at None table pages entries same takes is = is
+newer_kept sizes old new space after role at (Some cursor) table pages entries same takes is = input_kept sizes old new space after role at cursor pages entries same takes is
 
 pub newer_done : (sizes : Sizes) (file : List ℕ) (space : SpaceState) (role : ℕ) (at : Option Key) (input : Option CursorState) (table : Entries) (pages : List ℕ) (entries : Entries) → newer_left at input table ≡ 0
     → IsNewer sizes file space role at input table pages entries → above at entries ≡ []

@@ -21,7 +21,7 @@ use Rattle.merge_step.specs.Merged.{IsTaken}
 use Rattle.merge_ends.proofs.GroupLemmas.{further}
 use Rattle.merge_ends.specs.Quantum.{Grows, Counts, IsNext, NoneAbove, HasTaken}
 use Rattle.merge_ends.specs.Progress.{Progress, Stage, MayGoOn, MeetsDamage, MergesOn, Takes, TakesGroup, TakesQuantum, left_to_take, pages_ahead}
-use Rattle.merge_ends.proofs.QuantumLemmas.{GoesOn, has_step, no_weight}
+use Rattle.merge_ends.proofs.QuantumLemmas.{has_step, no_weight}
 use Rattle.merge_ends.proofs.WorkLemmas.{works_start, works_run, works_counted}
 
 -- ---- results
@@ -175,10 +175,10 @@ merged_none {sizes} {most} {each} {old} {mid} {new} {taken} {weight} has timed c
 -- ---- over lists
 
 -- A group more, where it was taken of sorted lists: what stood before it, and stands after it, is the merge's.
-pub lists_more : {After : Type 0} → GoesOn → (least : ℕ) (from mid to : Option Key) (newer older : Entries) (taken weight : ℕ) → taken < least → AreSorted newer → AreSorted older → HasTaken least from mid newer older taken
+pub lists_more : {After : Type 0} → (least : ℕ) (from mid to : Option Key) (newer older : Entries) (taken weight : ℕ) → taken < least → AreSorted newer → AreSorted older → HasTaken least from mid newer older taken
     → (n : ℕ) × (◌≡◌ {A = Result ℕ Broken} (Ok weight) (Ok n)) × After × (IsNext mid to newer older n ⊎ (NoneAbove mid newer older × (to ≡ mid) × (n ≡ 0)))
     → After × HasTaken least from to newer older (taken + weight)
-lists_more goes_on least from mid to newer older taken weight few sorted_newer sorted_older has went = (
+lists_more least from mid to newer older taken weight few sorted_newer sorted_older has went = (
   went.2,
-  subst (λ (n : ℕ). HasTaken least from to newer older (taken + n)) (same_weight weight went.0 went.1) (has_step goes_on least from mid to newer older taken went.0 sorted_newer sorted_older few has went.3),
+  subst (λ (n : ℕ). HasTaken least from to newer older (taken + n)) (same_weight weight went.0 went.1) (has_step least from mid to newer older taken went.0 sorted_newer sorted_older few has went.3),
 )

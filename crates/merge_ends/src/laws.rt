@@ -1,4 +1,4 @@
-//! What holds of a merge's inputs while it writes, and of what it wrote. The functions do nothing: each stands for the law that its clause names.
+//! What holds of what a merge wrote. The function does nothing: it stands for the law that its clause names.
 ghost use Rattle.std.specs.Prelude.{Bool, ℕ, List, Option};
 ghost use Rattle.disk_trait.specs.Region.{IsSameOutside};
 ghost use Rattle.blsm_model.specs.Sizes.{Sizes};
@@ -13,23 +13,9 @@ ghost use Rattle.merge_ends.specs.Input.{IsInput};
 ghost use Rattle.merge_ends.specs.Merge.{MergeState, HasClosed, IsMerging};
 ghost use Rattle.merge_ends.specs.Output.{TakesPages, kept};
 
-use run_cursor::what_is_ahead;
-use run_writer::what_is_closed;
-
-/// An input stays where no byte has changed but on the role's pages, and the pages that the role took were free.
-pub fn an_input_stays()
-    ensures { (sizes : Sizes) (old new : List ℕ) (space after : SpaceState) (role : ℕ) (at : Option Key) (cursor : CursorState) (pages : List ℕ) (entries : Entries)
-        → IsSameOutside (role_region sizes space role) old new → TakesPages role space after
-        → IsInput sizes old space role at cursor pages entries → IsInput sizes new after role at cursor pages entries }
-{
-    what_is_ahead();
-}
-
 /// The closed pages of a merge's run have what comes of both inputs up to the key that it tells of them, and no more.
 pub fn what_is_finished()
     ensures { (settles : Bool) (sizes : Sizes) (file : List ℕ) (space : SpaceState) (merge : MergeState) (input : Option CursorState) (table : Entries) (filter : BitState) (fences : FencesState) (newer_pages older_pages : List ℕ) (newer older : Entries)
         → IsMerging settles sizes file space merge input table filter fences newer_pages older_pages newer older
         → HasClosed sizes file merge.writer filter fences (kept settles (folded_over (up_to merge.closed newer) (up_to merge.closed older))) }
-{
-    what_is_closed();
-}
+{}

@@ -9,6 +9,6 @@ mod newer;
 mod output;
 
 pub use input::{go_above, is_through};
-pub use laws::{an_input_stays, what_is_finished};
+pub use laws::what_is_finished;
 pub use merge::Merge;
 pub use newer::Newer;

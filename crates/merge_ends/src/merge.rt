@@ -22,18 +22,16 @@ ghost use Rattle.merge_ends.specs.Progress.{MayGoOn, MergesOn, TakesGroup, Takes
 ghost use Rattle.merge_ends.specs.Merge.{started, progress, group_calls, quantum_calls, Covers, IsMerging};
 
 use crate::input::{go_above, is_through, left_above};
-use crate::laws::an_input_stays;
 use crate::newer::Newer;
 use crate::output::put;
 use bloom_bits::{Fences, Filter};
 use blsm_model::{Component, Geometry, Key};
 use disk_trait::Disk;
-use merge_step::a_merge_goes_on;
-use page_file::{Broken, one_order};
+use page_file::Broken;
 use page_space::{Role, Space};
 use refusal::Failed;
 use run_cursor::Cursor;
-use run_writer::{Writer, where_a_run_writes};
+use run_writer::Writer;
 use std::marker::Model;
 
 /// A merge of a newer input, which is lent at each call, into a component. Contracts see the run that it writes, its cursor over the component, the
@@ -112,7 +110,6 @@ impl Merge {
         ensures filter { filter.new ≡ cleared filter.old.reserved (rounded bits) }
         ensures fences { fences.new ≡ record { reserved = fences.old.reserved; list = [] } }
     {
-        one_order();
         filter.reset(bits);
         fences.clear();
         Merge {
@@ -183,8 +180,6 @@ impl Merge {
         ensures same_table { N.table newer.new ≡ N.table newer.old }
         ensures same_kind { newer_calls (N.run newer.new) ≡ newer_calls (N.run newer.old) }
     {
-        an_input_stays();
-        a_merge_goes_on();
         newer.go_above(disk, geo, &self.at)?;
         go_above(&mut self.older, disk, geo, &self.at)?;
         let Some((key, rec, weight)) = newer.group_with(&self.at, &self.older) else {
@@ -246,7 +241,6 @@ impl Merge {
         ensures kept { IsErr result → (self.new.at ≡ self.old.at) × (self.new.closed ≡ self.old.closed) × (self.new.left ≡ self.old.left) }
         ensures same_table { N.table newer.new ≡ N.table newer.old }
     {
-        a_merge_goes_on();
         let at = self.cursor();
         let closed = self.closed();
         let left = self.left();
@@ -287,7 +281,6 @@ impl Merge {
         ensures writes { (space : SpaceState) (filter : BitState) (fences : FencesState) → HasRun geo.now (D.state disk.old).is_honest (D.state disk.old).bytes space self.old.writer filter fences self.old.at
             → Writes (role_region geo.now space self.old.writer.role) (file_length geo.now) result (D.state disk.old) (D.state disk.new) }
     {
-        where_a_run_writes();
         self.writer.end(disk, geo)
     }
 }

@@ -16,10 +16,10 @@ ghost use Rattle.merge_ends.specs.Output.{TakesPages, HasFences, HasRoom, has_tu
 use bloom_bits::{Fences, Filter};
 use blsm_model::{Geometry, Key};
 use disk_trait::Disk;
-use page_space::{Space, room_is_free};
+use page_space::Space;
 use record_delta::{Rec, settle, weight};
 use refusal::Failed;
-use run_writer::{Writer, a_run_has_fences, a_run_has_room, what_is_closed, where_a_run_writes};
+use run_writer::Writer;
 
 // What a merge writes of a record, if it writes anything: the record, or, where it settles, a base.
 fn left_of(settles: bool, rec: Rec) -> Option<Rec>
@@ -78,16 +78,10 @@ pub fn put<D: Disk>(
     ensures tagged { IsWithin (open_region geo.now writer.old) (role_region geo.now space.old writer.old.role) }
     ensures opens { IsWithin (open_region geo.now writer.new) (loose_region geo.now space.old writer.old) }
 {
-    where_a_run_writes();
-    what_is_closed();
     let Some(rec) = left_of(settles, rec) else {
         return Ok(());
     };
     let _pages = space.pages();
-    let _component = writer.component();
     let _weight = weight(key, &rec);
-    room_is_free();
-    a_run_has_room();
-    a_run_has_fences();
     writer.push(disk, geo, space, filter, fences, key, &rec)
 }

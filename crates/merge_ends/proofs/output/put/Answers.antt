@@ -1,10 +1,14 @@
-use Rattle.std.proofs.Common.{◌<◌, ◌≤◌, ◌≡◌, ◌+◌, ◌++◌, ℕ, length, inl, sym, subst, arith}
+use Rattle.std.proofs.Common.{◌<◌, ◌≡◌, ◌+◌, ◌++◌, ℕ, length, inl, sym, subst, arith}
 use Rattle.std.specs.Prelude.{if◌then◌else◌, OnOk}
 use Rattle.record_delta.specs.declared.record.Rec.{Rec}
 use Rattle.record_delta.specs.Entries.{Entries}
 use Rattle.record_delta.specs.Records.{weight}
+use Rattle.page_space.proofs.FreeLemmas.{free_within}
 use Rattle.run_writer.specs.Writer.{closed_entries, has_place}
-use Rattle.merge_ends.specs.Output.{HasRoom, has_turned}
+use Rattle.run_writer.proofs.ClosedLemmas.{closed_pushed, text_more}
+use Rattle.run_writer.proofs.GrowthLemmas.{next_above, room_for_more}
+use Rattle.run_writer.proofs.RegionLemmas.{open_inside, open_tagged}
+use Rattle.merge_ends.specs.Output.{has_turned}
 use Rattle.merge_ends.proofs.OutputLemmas.{closed_none, closed_put, fence_for_one, not_kept, opens_put, room_for_one, room_put, same_kept, takes_put, text_put}
 use Rattle.merge_ends.proofs.WorkLemmas.{room_less}
 use Rattle.merge_ends.proofs.output.put.Goals as goal
@@ -12,25 +16,25 @@ use Rattle.merge_ends.proofs.output.put.Goals as goal
 pub push-requires-clause-free : goal.push-requires-clause-free
 push-requires-clause-free g c = λ none.
     let room = room_less c.args.space.now c.args.writer.now _ _ (c.in-Some.ensures.light c.args.key.now) c.requires.room in
-    c.room_is_free.ensures c.args.space.now room.live room.share c.pages-pages.ensures.shape room.within
-    (room_for_one c.args.space.now c.args.writer.now (weight c.args.key.now c.in-Some.rec) c.component-component.ensures.counted (omega arith) none room)
+    free_within c.args.space.now room.live room.share c.pages-pages.ensures.shape room.within
+    (room_for_one c.args.space.now c.args.writer.now (weight c.args.key.now c.in-Some.rec) c.requires.run.1.counted (omega arith) none room)
 
 pub push-requires-clause-room : goal.push-requires-clause-room
 push-requires-clause-room g c = λ none.
     let room = room_less c.args.space.now c.args.writer.now _ _ (c.in-Some.ensures.light c.args.key.now) c.requires.room in
-    let free = c.room_is_free.ensures c.args.space.now room.live room.share c.pages-pages.ensures.shape room.within
-    (room_for_one c.args.space.now c.args.writer.now (weight c.args.key.now c.in-Some.rec) c.component-component.ensures.counted (omega arith) none room) in
+    let free = free_within c.args.space.now room.live room.share c.pages-pages.ensures.shape room.within
+    (room_for_one c.args.space.now c.args.writer.now (weight c.args.key.now c.in-Some.rec) c.requires.run.1.counted (omega arith) none room) in
     let d = g.D.Disk.state c.args.disk.now in
     subst (λ (n : ℕ). c.args.writer.now.component.pages < n) c.requires.pages
-    (c.a_run_has_room.ensures.room c.args.geo.now d.is_honest d.bytes c.args.space.now c.args.writer.now c.args.filter.now c.args.fences.now c.requires.run.0 c.requires.run.1 c.pages-pages.ensures.shape free)
+    (room_for_more c.args.geo.now d.is_honest d.bytes c.args.space.now c.args.writer.now c.args.filter.now c.args.fences.now c.requires.run.0 c.requires.run.1 c.pages-pages.ensures.shape free)
 
 pub push-requires-clause-fence : goal.push-requires-clause-fence
 push-requires-clause-fence g c = λ none.
     let d = g.D.Disk.state c.args.disk.now in
-    let one = c.a_run_has_fences.ensures.one_a_page c.args.geo.now d.is_honest d.bytes c.args.space.now c.args.writer.now c.args.filter.now c.args.fences.now c.requires.run.0 c.requires.run.1 in
+    let one = c.requires.run.1.one_a_page in
     let above =
-    c.a_run_has_fences.ensures.above c.args.geo.now d.is_honest d.bytes c.args.space.now c.args.writer.now c.args.filter.now c.args.fences.now c.requires.run.0 c.args.key.now c.in-Some.rec c.requires.run.1 (c.requires.run.2 c.in-Some.rec) in (
-      fence_for_one c.args.writer.now (weight c.args.key.now c.in-Some.rec) c.args.fences.now.reserved (length c.args.fences.now.list) c.component-component.ensures.counted (omega arith) none
+    next_above c.args.geo.now d.is_honest d.bytes c.args.space.now c.args.writer.now c.args.filter.now c.args.fences.now c.requires.run.0 c.args.key.now c.in-Some.rec c.requires.run.1 (c.requires.run.2 c.in-Some.rec) in (
+      fence_for_one c.args.writer.now (weight c.args.key.now c.in-Some.rec) c.args.fences.now.reserved (length c.args.fences.now.list) c.requires.run.1.counted (omega arith) none
           (omega (arith, c.requires.fences, c.in-Some.ensures.light c.args.key.now)) one,
       above,
     )
@@ -38,14 +42,14 @@ push-requires-clause-fence g c = λ none.
 pub push-requires-clause-inside : goal.push-requires-clause-inside
 push-requires-clause-inside g c =
     let d = g.D.Disk.state c.args.disk.now in
-    c.a_run_has_room.ensures.inside c.args.geo.now d.is_honest d.bytes c.args.space.now c.args.writer.now c.args.filter.now c.args.fences.now c.requires.run.0 c.requires.run.1 c.pages-pages.ensures.shape c.requires.pages
+    open_inside c.args.geo.now d.is_honest d.bytes c.args.space.now c.args.writer.now c.args.filter.now c.args.fences.now c.requires.run.0 c.requires.run.1 c.pages-pages.ensures.shape c.requires.pages
 
 pub returns-clause-room : goal.returns-clause-room
 returns-clause-room g c = λ left room.
     let key = c.args.key.now in
     let rec = c.in-Some.rec in
     room_put (has_place c.args.writer.now (weight key rec)) c.push.result c.args.space.now c.push.new.space c.args.writer.now c.push.new.self key rec left
-    c.component-component.ensures.counted.role
+    c.requires.run.1.counted.role
     (λ place. let h = c.push.ensures.here place in (h.1, h.3)) c.push.ensures.claimed (room_less c.args.space.now c.args.writer.now _ _ (omega (arith, c.in-Some.ensures.light key)) room)
 
 pub returns-clause-takes : goal.returns-clause-takes
@@ -58,7 +62,7 @@ returns-clause-takes g c =
 pub returns-in_default-clause-tagged : goal.returns-in_default-clause-tagged
 returns-in_default-clause-tagged g c =
     let d = g.D.Disk.state c.args.disk.now in
-    c.where_a_run_writes.ensures.role c.args.geo.now d.is_honest d.bytes c.args.space.now c.args.writer.now c.args.filter.now c.args.fences.now c.requires.run.0 c.requires.run.1
+    open_tagged c.args.geo.now d.is_honest d.bytes c.args.space.now c.args.writer.now c.args.filter.now c.args.fences.now c.requires.run.0 c.requires.run.1
 
 pub returns-in_default-clause-opens : goal.returns-in_default-clause-opens
 returns-in_default-clause-opens g c = λ i here. inl here
@@ -66,7 +70,7 @@ returns-in_default-clause-opens g c = λ i here. inl here
 pub returns-clause-tagged : goal.returns-clause-tagged
 returns-clause-tagged g c =
     let d = g.D.Disk.state c.args.disk.now in
-    c.where_a_run_writes.ensures.role c.args.geo.now d.is_honest d.bytes c.args.space.now c.args.writer.now c.args.filter.now c.args.fences.now c.requires.run.0 c.requires.run.1
+    open_tagged c.args.geo.now d.is_honest d.bytes c.args.space.now c.args.writer.now c.args.filter.now c.args.fences.now c.requires.run.0 c.requires.run.1
 
 pub returns-clause-opens : goal.returns-clause-opens
 returns-clause-opens g c =
@@ -93,7 +97,7 @@ returns-clause-closed g c = λ out has.
     subst (λ (l : Entries). OnOk c.push.result (closed_entries new (out ++ l) ≡ (if has_turned old new then out else closed_entries old out))) (sym (c.in-Some.ensures.kept key))
     (closed_put (has_place old (weight key rec)) c.push.result c.args.space.now c.push.new.space old new key rec out
     (λ place. let h = c.push.ensures.here place in (h.1, h.3)) c.push.ensures.claimed
-    (c.what_is_closed.ensures.pushed c.args.geo.now d.is_honest d.bytes c.args.space.now old c.args.filter.now c.args.fences.now out key rec has))
+    (closed_pushed c.args.geo.now d.is_honest d.bytes c.args.space.now old c.args.filter.now c.args.fences.now out key rec has))
 
 pub returns-clause-here : goal.returns-clause-here
 returns-clause-here g c = λ plain.
@@ -103,4 +107,4 @@ returns-clause-here g c = λ plain.
     let new = c.push.new.self in
     subst (λ (r : Rec). OnOk c.push.result (length new.buffer.text ≡ (if has_turned old new then 0 else length old.buffer.text) + weight key r)) (same_kept c.args.settles key c.args.rec rec plain (c.in-Some.ensures.kept key))
     (text_put (has_place old (weight key rec)) c.push.result c.args.space.now c.push.new.space old new key rec
-    (λ place. let h = c.push.ensures.here place in (h.1, h.3)) c.push.ensures.claimed c.what_is_closed.ensures.text)
+    (λ place. let h = c.push.ensures.here place in (h.1, h.3)) c.push.ensures.claimed text_more)

@@ -1,6 +1,7 @@
 use Rattle.std.proofs.Common.{◌≡◌, ◌∙◌, ℕ, true, None, [], refl, ap, sym, subst}
 use Rattle.bloom_bits.specs.Fences.{FencesState}
 use Rattle.page_file.specs.Entry.{AreRising}
+use Rattle.page_file.proofs.OrderLemmas.{orders}
 use Rattle.run_writer.specs.Writer.{WriterState, closed_entries}
 use Rattle.page_file.specs.Component.{numbers_of}
 use Rattle.merge_ends.specs.Input.{IsInput}
@@ -16,7 +17,7 @@ returns-clause-run c = λ sizes honest file space.
 pub returns-clause-merging : goal.returns-clause-merging
 returns-clause-merging c = λ settles sizes file space input table pages newer entries newer_is list elsewhere.
     let role : c.args.role ≡ c.start.result.role = sym (ap (λ (w : WriterState). w.role) c.start.ensures.started) in
-    let older_is = input_begun refl c.start-2.ensures.start ((c.one_order.ensures entries).0 (subst AreRising list.entries_are list.reads.rise)) (c.start-2.ensures.list sizes entries file list) elsewhere in
+    let older_is = input_begun refl c.start-2.ensures.start ((orders entries).0 (subst AreRising list.entries_are list.reads.rise)) (c.start-2.ensures.list sizes entries file list) elsewhere in
     record {
       newer_is = subst (λ (r : ℕ). IsNewer sizes file space r None input table pages newer) role newer_is;
       older_is = subst (λ (r : ℕ). IsInput sizes file space r None c.start-2.result (numbers_of list.pages) entries) role older_is;

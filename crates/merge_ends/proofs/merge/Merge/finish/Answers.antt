@@ -1,4 +1,4 @@
-use Rattle.std.proofs.Common.{◌≡◌, Bool, true, sym, subst, arith}
+use Rattle.std.proofs.Common.{Bool, true, sym, subst, arith}
 use Rattle.std.specs.Prelude.{IfOk}
 use Rattle.std.specs.List.{Contains}
 use Rattle.std.proofs.Common.{ℕ}
@@ -9,10 +9,10 @@ use Rattle.page_space.specs.Space.{HasRole}
 use Rattle.page_file.specs.Component.{numbers_of, HasList}
 use Rattle.page_file.specs.File.{Writes}
 use Rattle.run_writer.specs.Writer.{role_region, HasPushed}
+use Rattle.run_writer.proofs.RegionLemmas.{open_tagged}
 use Rattle.blsm_model.specs.Geometry.{file_length}
-use Rattle.merge_ends.specs.Merge.{MergeState, IsMerging, progress}
+use Rattle.merge_ends.specs.Merge.{MergeState}
 use Rattle.merge_ends.specs.Output.{HasRun, kept}
-use Rattle.merge_ends.specs.Progress.{left_to_take}
 use Rattle.merge_ends.proofs.MergeLemmas.{pushed_all}
 use Rattle.merge_ends.proofs.merge.Merge.finish.Goals as goal
 
@@ -34,7 +34,7 @@ returns-clause-writes g c = λ space filter fences run.
     let w = c.end.ensures.writes in
     subst (λ (s : MergeState). Writes (role_region c.args.geo.now space s.writer.role) (file_length c.args.geo.now) c.end.result d (g.D.Disk.state c.end.new.disk)) c.self.view_is
     (record {
-      effect = affects_wider (c.where_a_run_writes.ensures.role c.args.geo.now d.is_honest d.bytes space c.self.inside.writer filter fences old.out old.pushed) (omega arith) (omega arith) w.effect;
+      effect = affects_wider (open_tagged c.args.geo.now d.is_honest d.bytes space c.self.inside.writer filter fences old.out old.pushed) (omega arith) (omega arith) w.effect;
       no_sync = w.no_sync;
       stands = w.stands;
       failed = w.failed;

@@ -55,7 +55,7 @@ returns-then-weight-eq0-clause-lists g c = λ overs unders over under honest mer
     let least = c.args.geo.now.quantum in
     let was = inv.lists overs unders over under honest merging in
     let went_on = c.in-Ok.ensures.lists overs unders over under (subst IsTrue (sym inv.numbers.works.effect.goes_on.is_honest) honest) was.0 (ok_not_fault c.in-Ok.weight) in
-    let went = lists_more c.a_merge_goes_on.ensures least c.args.self.now.at c.loop-taken.self.at c.step.new.self.at over under c.loop-taken.taken c.in-Ok.weight (omega (arith, inv.quantum)) went_on.3 was.0.older_is.sorted was.1
+    let went = lists_more least c.args.self.now.at c.loop-taken.self.at c.step.new.self.at over under c.loop-taken.taken c.in-Ok.weight (omega (arith, inv.quantum)) went_on.3 was.0.older_is.sorted was.1
     (went_on.0, went_on.1, went_on.2, went_on.4) in (
       c.loop-taken.taken,
       refl,
@@ -83,7 +83,7 @@ loop-taken-preserved g c =
       lists = λ overs unders over under honest merging.
           let was = inv.lists overs unders over under honest merging in
           let went_on = c.in-Ok.ensures.lists overs unders over under (subst IsTrue (sym inv.numbers.works.effect.goes_on.is_honest) honest) was.0 (ok_not_fault c.in-Ok.weight) in
-          lists_more c.a_merge_goes_on.ensures c.args.geo.now.quantum c.args.self.now.at c.loop-taken.self.at c.step.new.self.at over under c.loop-taken.taken c.in-Ok.weight few went_on.3 was.0.older_is.sorted was.1
+          lists_more c.args.geo.now.quantum c.args.self.now.at c.loop-taken.self.at c.step.new.self.at over under c.loop-taken.taken c.in-Ok.weight few went_on.3 was.0.older_is.sorted was.1
           (went_on.0, went_on.1, went_on.2, went_on.4);
     }
 

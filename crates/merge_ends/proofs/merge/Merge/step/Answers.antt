@@ -10,6 +10,7 @@ use Rattle.page_file.specs.Entry.{AreRising}
 use Rattle.run_writer.specs.Writer.{WriterState, closed_entries, HasPushed}
 use Rattle.merge_step.specs.Group.{group_of}
 use Rattle.merge_step.specs.Merged.{IsTaken}
+use Rattle.merge_step.proofs.StepLemmas.{goes_on}
 use Rattle.run_cursor.specs.Cursor.{CursorState, from_head}
 use Rattle.record_delta.specs.Records.{weight}
 use Rattle.merge_ends.specs.Input.{IsInput, left_in}
@@ -19,10 +20,11 @@ use Rattle.merge_ends.specs.Output.{HasRun, has_turned, kept}
 use Rattle.merge_ends.specs.Quantum.{Counts, IsNext, NoneAbove, Grows}
 use Rattle.merge_ends.specs.Progress.{MayGoOn, MergesOn, TakesGroup, stage, pages_ahead}
 use Rattle.merge_ends.proofs.GroupLemmas.{behind_group, end_left, first_none, group_none, head_is, input_further, older_stays}
+use Rattle.merge_ends.proofs.InputLemmas.{input_kept}
 use Rattle.merge_ends.proofs.KeptLemmas.{kept_more, ends_kept}
 use Rattle.merge_ends.proofs.MergeLemmas.{closed_is_more, closed_up_more, gave_less, group_taken, light_more, still_table}
 use Rattle.merge_ends.proofs.LeftLemmas.{component_few, component_less, components_are, left_behind_is, left_covers, left_small, same_above, same_left}
-use Rattle.merge_ends.proofs.NewerLemmas.{behind_both, counts_read, counts_written, group_is, newer_behind, newer_damage, newer_end, newer_first, newer_further, newer_kept, newer_less, newer_sorted, older_damage, pages_with, ready_behind}
+use Rattle.merge_ends.proofs.NewerLemmas.{behind_both, counts_read, counts_written, group_is, newer_behind, newer_damage, newer_end, newer_first, newer_further, newer_kept, newer_less, newer_sorted, older_damage, ready_behind}
 use Rattle.merge_ends.proofs.OutputLemmas.{rising_more, turned_behind}
 use Rattle.merge_ends.proofs.ProgressLemmas.{takes_nothing, takes_group, told_ok, told_err, fault_is, not_both, calm_of, damage_is}
 use Rattle.merge_ends.proofs.WorkLemmas.{works_read, works_run, works_written, works_more, pushed_read, room_less, run_read}
@@ -188,7 +190,7 @@ counted g c =
 
 taken : (g : _) (c : In-Some g) → IsTaken c.self.inside.at (at_hand (g.N.Newer.run c.go_above.new.self) (g.N.Newer.table c.go_above.new.self)) (from_head c.go_above-2.new.cursor.head []) c.in-Some.key c.in-Some.rec c.in-Some.weight
 taken g c =
-    group_taken c.a_merge_goes_on.ensures (g.N.Newer.run c.go_above.new.self) (g.N.Newer.table c.go_above.new.self) c.go_above-2.new.cursor c.self.inside.at c.in-Some.key c.in-Some.rec c.in-Some.weight
+    group_taken (g.N.Newer.run c.go_above.new.self) (g.N.Newer.table c.go_above.new.self) c.go_above-2.new.cursor c.self.inside.at c.in-Some.key c.in-Some.rec c.in-Some.weight
     c.group_with.ensures.sorted c.in_ok-go_above-2.ensures.ready.0 (group g c)
 
 -- it weighs no more than what is gone of what was left
@@ -317,7 +319,7 @@ returns-clause-lists g c = λ overs unders over under honest merging other.
     ap (λ (x : Option (Key × Rec)). group_of x (first_of (above at under))) (newer_first sizes mid.bytes space role at input table overs over c.in_ok-go_above.ensures.ready.0 upper)
     ∙ ap (group_of (first_of (above at (at_hand input table)))) (head_is sizes mid.bytes space role at older under c.in_ok-go_above-2.ensures.ready.0 lower) ∙ group g arm in
     let sorted = newer_sorted sizes mid.bytes space role at input table overs over c.group_with.ensures.sorted upper in
-    let taken = c.a_merge_goes_on.ensures at over under key rec weighs sorted lower.sorted both in
+    let taken = goes_on at over under key rec weighs sorted lower.sorted both in
     let mid_honest : mid.is_honest ≡ true = second.effect.goes_on.is_honest ∙ still in
     let after_honest : after.is_honest ≡ true = c.put.ensures.writes.effect.goes_on.is_honest ∙ mid_honest in
     let out = old.run.out in
@@ -337,9 +339,9 @@ returns-clause-lists g c = λ overs unders over under honest merging other.
       refl,
       record {
         newer_is = subst (λ (r : ℕ). IsNewer sizes after.bytes after_space r (Some key) input table overs over) (sym c.put.ensures.role)
-            (newer_further sizes after.bytes after_space role at key input table overs over taken.above_at (newer_kept c.an_input_stays.ensures sizes mid.bytes after.bytes space after_space role at input table overs over change takes upper));
+            (newer_further sizes after.bytes after_space role at key input table overs over taken.above_at (newer_kept sizes mid.bytes after.bytes space after_space role at input table overs over change takes upper));
         older_is = subst (λ (r : ℕ). IsInput sizes after.bytes after_space r (Some key) older unders under) (sym c.put.ensures.role)
-            (input_further sizes after.bytes after_space role at key older under taken.above_at (c.an_input_stays.ensures sizes mid.bytes after.bytes space after_space role at older unders under change takes lower));
+            (input_further sizes after.bytes after_space role at key older under taken.above_at (input_kept sizes mid.bytes after.bytes space after_space role at older unders under change takes lower));
         run = record {
           out = out ++ kept settles ((key, rec) ∷ []);
           pushed = subst (λ (h : Bool). HasPushed sizes h after.bytes after_space c.put.new.writer c.put.new.filter c.put.new.fences (out ++ kept settles ((key, rec) ∷ []))) after_honest
