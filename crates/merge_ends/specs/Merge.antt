@@ -1,5 +1,5 @@
 -- What contracts see of a merge of two inputs, and where it stands between them. Weights are in bytes.
-use Rattle.std.specs.Prelude.{◌≡◌, ℕ, ◌+◌, ◌/◌, ◌≤◌, Bool, true, false, List, [], ◌∷◌, ◌++◌, length, Option, Some, None, IsSome}
+use Rattle.std.specs.Prelude.{◌≡◌, ℕ, ◌+◌, ◌/◌, ◌≤◌, Bool, true, false, List, ◌++◌, length, Option, Some, None, IsSome}
 use Rattle.blsm_model.specs.declared.component.Component.{Component}
 use Rattle.blsm_model.specs.declared.key.Key.{Key}
 use Rattle.blsm_model.specs.Sizes.{Sizes}

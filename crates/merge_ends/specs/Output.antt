@@ -10,6 +10,8 @@ use Rattle.record_delta.specs.declared.record.Rec.{Rec}
 use Rattle.record_delta.specs.Entries.{Entries, is_above, settled_entries}
 use Rattle.page_space.specs.Space.{SpaceState, HasRole, IsFree, IsWithin, KeepsOtherRoles, seat_count}
 use Rattle.run_writer.specs.Writer.{WriterState, HasPushed}
+use Rattle.merge_ends.specs.declared.output.Left.{Left}
+use Rattle.merge_ends.specs.declared.output.Left.TheVariants as left
 
 -- The role's pages are those that had its tag and some that were free. Nothing else changes.
 pub record TakesPages (role : ℕ) (old new : SpaceState) : Type 0 where
@@ -58,6 +60,12 @@ kept true entries = settled_entries entries
 abbrev pub entry_of : Key → Option Rec → Entries
 entry_of key None = []
 entry_of key (Some rec) = (key, rec) ∷ []
+
+-- what is left of a record that lies there: it, or the base in the room
+abbrev pub left_at : Option Left → Rec → Option Rec → Option Rec
+left_at None rec room = None
+left_at (Some left.Record) rec room = Some rec
+left_at (Some left.Base) rec room = room
 
 -- whether a page was taken for the run
 abbrev pub has_turned : WriterState → WriterState → Bool

@@ -27,8 +27,10 @@ use crate::output::put;
 use bloom_bits::{Fences, Filter};
 use blsm_model::{Component, Geometry, Key};
 use disk_trait::Disk;
+use merge_step::lying;
 use page_file::Broken;
 use page_space::{Role, Space};
+use record_delta::Rec;
 use refusal::Failed;
 use run_cursor::Cursor;
 use run_writer::Writer;
@@ -43,6 +45,9 @@ pub struct Merge {
     at: Option<Key>,
     closed: Option<Key>,
     left: u64,
+    // Where a group goes that isn't an entry of the older input as it lies, and the base of a delta. They last, so that no step makes them anew.
+    room: Option<(Key, Rec)>,
+    base: Option<Rec>,
 }
 
 impl Model for Merge {
@@ -118,6 +123,8 @@ impl Merge {
             at: None,
             closed: None,
             left: 0,
+            room: None,
+            base: None,
         }
     }
 
@@ -182,7 +189,8 @@ impl Merge {
     {
         newer.go_above(disk, geo, &self.at)?;
         go_above(&mut self.older, disk, geo, &self.at)?;
-        let Some((key, rec, weight)) = newer.group_with(&self.at, &self.older) else {
+        let taken = newer.group_with(&self.at, &self.older, &mut self.room);
+        let Some((key, rec, weight)) = lying(taken, self.older.peek(), &self.room) else {
             return Ok(0);
         };
         let _pages = geo.pages();
@@ -195,13 +203,14 @@ impl Merge {
             filter,
             fences,
             settles,
-            &key,
+            key,
             rec,
+            &mut self.base,
         )?;
         let turned = self.writer.component().pages > pages;
         self.left = left_behind(turned, newer, &self.older, &self.at, self.left);
         self.closed = closed_behind(turned, &self.at, &self.closed);
-        self.at = Some(key);
+        self.at = Some(key.copy());
         Ok(weight)
     }
 

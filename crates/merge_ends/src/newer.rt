@@ -5,7 +5,7 @@ ghost use Rattle.blsm_model.specs.Geometry.{file_length};
 ghost use Rattle.record_delta.specs.declared.record.Rec.{Rec};
 ghost use Rattle.record_delta.specs.Records.{weight as weight_with};
 ghost use Rattle.record_delta.specs.Entries.{Entries, AreSorted, above, first_of};
-ghost use Rattle.merge_step.specs.Group.{group_of};
+ghost use Rattle.merge_step.specs.Group.{group_of, group_at};
 ghost use Rattle.page_space.specs.Space.{SpaceState};
 ghost use Rattle.page_file.specs.File.{Reads};
 ghost use Rattle.run_cursor.specs.Cursor.{CursorState};
@@ -14,7 +14,7 @@ ghost use Rattle.merge_ends.specs.Newer.{at_hand, component_left, newer_calls, n
 use crate::input::{go_above, left_above};
 use blsm_model::{Geometry, Key};
 use disk_trait::Disk;
-use merge_step::least_of_lent;
+use merge_step::{Taken, least_of_lent};
 use page_file::Broken;
 use record_delta::Rec;
 use run_cursor::Cursor;
@@ -49,14 +49,21 @@ pub trait Newer {
         ensures one_a_page { OnOk result ((D.state disk.new).clock + newer_pages (run self.new) ≤ (D.state disk.old).clock + newer_pages (run self.old)) }
         ensures reads { Reads (file_length geo.now) (newer_calls (run self.old)) result (D.state disk.old) (D.state disk.new) };
 
-    /// The least key of that entry and the one at which the older input stands, its record or what the newer one makes of the older, and the weight
-    /// of the records that this takes, in bytes. `None` where nothing is left of both. What isn't taken is only looked at.
-    fn group_with(&self, at: &Option<Key>, older: &Cursor) -> Option<(Key, Rec, u64)>
+    /// Where the least group of that entry and of the one at which the older input stands is, and the weight of the records that this takes, in bytes:
+    /// that of the lesser key, or what the newer one makes of the older. `None` where nothing is left of both. An older entry that is taken alone stays
+    /// where it lies; else the group goes into the room.
+    fn group_with(
+        &self,
+        at: &Option<Key>,
+        older: &Cursor,
+        room: &mut Option<(Key, Rec)>,
+    ) -> Option<Taken>
         requires ready { IsNewerReady at.now (run self.now) }
-        ensures group { result ≡ group_of (first_of (above at.now (at_hand (run self.now) (table self.now)))) older.now.head }
-        ensures some { IfSome result (λ g. least_weight ≤ g.2) }
-        ensures light { IfSome result (λ g. (g.2 ≤ 2 * most_weight) × (weight_with g.0 g.1 ≤ g.2)) }
-        ensures grows { IfSome result (λ g. (rec : Rec) → first_of (above at.now (at_hand (run self.now) (table self.now))) ≡ Some (g.0, rec) → weight_with g.0 rec ≤ weight_with g.0 g.1) }
+        ensures group { group_at result older.now.head room.new ≡ group_of (first_of (above at.now (at_hand (run self.now) (table self.now)))) older.now.head }
+        ensures some { IfSome (group_at result older.now.head room.new) (λ g. least_weight ≤ g.2) }
+        ensures light { IfSome (group_at result older.now.head room.new) (λ g. (g.2 ≤ 2 * most_weight) × (weight_with g.0 g.1 ≤ g.2)) }
+        ensures grows { IfSome (group_at result older.now.head room.new)
+            (λ g. (rec : Rec) → first_of (above at.now (at_hand (run self.now) (table self.now))) ≡ Some (g.0, rec) → weight_with g.0 rec ≤ weight_with g.0 g.1) }
         ensures sorted { AreSorted (table self.now) };
 
     /// How much of a component is left above a key, in bytes; of a table nothing is counted.
@@ -79,8 +86,13 @@ impl Newer for Cursor {
         go_above(self, disk, geo, at)
     }
 
-    fn group_with(&self, _at: &Option<Key>, older: &Cursor) -> Option<(Key, Rec, u64)> {
-        least_of_lent(self.peek(), older.peek())
+    fn group_with(
+        &self,
+        _at: &Option<Key>,
+        older: &Cursor,
+        room: &mut Option<(Key, Rec)>,
+    ) -> Option<Taken> {
+        least_of_lent(self.peek(), older.peek(), room)
     }
 
     fn left_above(&self, at: &Option<Key>) -> u64 {

@@ -1,7 +1,9 @@
 //! The least key of two runs.
 ghost use Rattle.std.specs.Prelude.{◌≡◌, ◌≤◌, ◌+◌, ◌*◌, IfSome, Some, None, option_map};
 ghost use Rattle.blsm_model.specs.Format.{least_weight, most_weight};
-ghost use Rattle.merge_step.specs.Group.{least_of, group_of};
+ghost use Rattle.merge_step.specs.Group.{least_of, group_of, group_at};
+ghost use Rattle.merge_step.specs.declared.group.Taken.TheVariants.{InRoom};
+ghost use Rattle.record_delta.specs.Folding.{fold as fold_of};
 ghost use Rattle.blsm_model.specs.declared.key.Key.{Key};
 ghost use Rattle.blsm_model.specs.Keys.{key_cmp};
 ghost use Rattle.record_delta.specs.declared.record.Rec.{Rec};
@@ -40,41 +42,92 @@ pub fn least_of_heads(
     }
 }
 
-/// The same of entries that are lent: what is taken is copied, and what isn't is only looked at.
+/// Where the least group of two inputs is, and the weight of the records that it takes, in bytes.
+#[derive(Clone, Copy, Debug, Drop)]
+pub enum Taken {
+    /// It is the older input's entry, where it lies.
+    Older(u64),
+    /// It is in the room that was lent for it.
+    InRoom(u64),
+}
+
+/// The least group of entries that are lent. An older one that is taken alone stays where it lies, and the room as it was; else the group goes into
+/// the room.
 pub fn least_of_lent(
     newer: Option<(&Key, &Rec)>,
     older: Option<(&Key, &Rec)>,
-) -> Option<(Key, Rec, u64)>
-    ensures group { result ≡ group_of (option_map (λ e. (e.0.now, e.1.now)) newer.entry) (option_map (λ e. (e.0.now, e.1.now)) older.entry) }
-    ensures some { IfSome result (λ g. least_weight ≤ g.2) }
-    ensures light { IfSome result (λ g. (g.2 ≤ 2 * most_weight) × (weight_with g.0 g.1 ≤ g.2)) }
-    ensures grows { IfSome result (λ g. (rec : Rec) → option_map {U = Key × Rec} (λ e. (e.0.now, e.1.now)) newer.entry ≡ Some (g.0, rec) → weight_with g.0 rec ≤ weight_with g.0 g.1) }
+    room: &mut Option<(Key, Rec)>,
+) -> Option<Taken>
+    ensures group { group_at result (option_map (λ e. (e.0.now, e.1.now)) older.entry) room.new
+        ≡ group_of (option_map (λ e. (e.0.now, e.1.now)) newer.entry) (option_map (λ e. (e.0.now, e.1.now)) older.entry) }
+    ensures some { IfSome (group_at result (option_map (λ e. (e.0.now, e.1.now)) older.entry) room.new) (λ g. least_weight ≤ g.2) }
+    ensures light { IfSome (group_at result (option_map (λ e. (e.0.now, e.1.now)) older.entry) room.new) (λ g. (g.2 ≤ 2 * most_weight) × (weight_with g.0 g.1 ≤ g.2)) }
+    ensures grows { IfSome (group_at result (option_map (λ e. (e.0.now, e.1.now)) older.entry) room.new)
+        (λ g. (rec : Rec) → option_map {U = Key × Rec} (λ e. (e.0.now, e.1.now)) newer.entry ≡ Some (g.0, rec) → weight_with g.0 rec ≤ weight_with g.0 g.1) }
 {
     match (newer, older) {
         (None, None) => None,
-        (Some((key, rec)), None) | (None, Some((key, rec))) => Some(alone(copied(key, rec))),
-        (Some((key, rec)), Some((other, below))) => Some(lesser(key, rec, other, below)),
+        (Some((key, rec)), None) => Some(copied(key, rec, room)),
+        (None, Some((key, rec))) => Some(Taken::Older(weight(key, rec))),
+        (Some((key, rec)), Some((other, below))) => Some(lesser(key, rec, other, below, room)),
     }
 }
 
-// An entry of one's own.
-fn copied(key: &Key, rec: &Rec) -> (Key, Rec)
-    ensures { result ≡ (key.now, rec.now) }
-{
-    (key.copy(), rec.copy())
-}
-
 // The lesser of a newer entry and an older one, or one of both.
-fn lesser(key: &Key, rec: &Rec, other: &Key, below: &Rec) -> (Key, Rec, u64)
-    ensures entry { result ≡ least_of (key_cmp key.now other.now) (key.now, rec.now) (other.now, below.now) }
-    ensures some { least_weight ≤ result.2 }
-    ensures light { (result.2 ≤ 2 * most_weight) × (weight_with result.0 result.1 ≤ result.2) }
-    ensures grows { (given : Rec) → key.now ≡ result.0 → rec.now ≡ given → weight_with result.0 given ≤ weight_with result.0 result.1 }
+fn lesser(key: &Key, rec: &Rec, other: &Key, below: &Rec, room: &mut Option<(Key, Rec)>) -> Taken
+    ensures group { group_at (Some result) (Some (other.now, below.now)) room.new ≡ Some (least_of (key_cmp key.now other.now) (key.now, rec.now) (other.now, below.now)) }
+    ensures some { IfSome (group_at (Some result) (Some (other.now, below.now)) room.new) (λ g. least_weight ≤ g.2) }
+    ensures light { IfSome (group_at (Some result) (Some (other.now, below.now)) room.new) (λ g. (g.2 ≤ 2 * most_weight) × (weight_with g.0 g.1 ≤ g.2)) }
+    ensures grows { IfSome (group_at (Some result) (Some (other.now, below.now)) room.new)
+        (λ g. (given : Rec) → key.now ≡ g.0 → rec.now ≡ given → weight_with g.0 given ≤ weight_with g.0 g.1) }
 {
     match key.cmp(other) {
-        Ordering::Less => alone(copied(key, rec)),
-        Ordering::Equal => both(copied(key, rec), copied(other, below)),
-        Ordering::Greater => alone(copied(other, below)),
+        Ordering::Less => copied(key, rec, room),
+        Ordering::Equal => folded(key, rec, other, below, room),
+        Ordering::Greater => Taken::Older(weight(other, below)),
+    }
+}
+
+// What holds a record stays a call: a function zeroes all its locals at entry, and most groups are one entry of the older input.
+// An entry that is taken alone, in the room.
+#[inline(never)]
+fn copied(key: &Key, rec: &Rec, room: &mut Option<(Key, Rec)>) -> Taken
+    ensures group { result ≡ InRoom (weight_with key.now rec.now) }
+    ensures room { room.new ≡ Some (key.now, rec.now) }
+    ensures some { least_weight ≤ weight_with key.now rec.now }
+    ensures light { weight_with key.now rec.now ≤ most_weight }
+{
+    *room = Some((key.copy(), rec.copy()));
+    Taken::InRoom(weight(key, rec))
+}
+
+// Two entries of one key, in the room.
+#[inline(never)]
+fn folded(key: &Key, rec: &Rec, other: &Key, below: &Rec, room: &mut Option<(Key, Rec)>) -> Taken
+    requires { key_cmp key.now other.now ≡ Ordering.Equal }
+    ensures group { result ≡ InRoom (weight_with key.now rec.now + weight_with other.now below.now) }
+    ensures room { room.new ≡ Some (key.now, fold_of rec.now below.now) }
+    ensures some { least_weight ≤ weight_with key.now rec.now + weight_with other.now below.now }
+    ensures most { weight_with key.now rec.now + weight_with other.now below.now ≤ 2 * most_weight }
+    ensures light { weight_with key.now (fold_of rec.now below.now) ≤ weight_with key.now rec.now + weight_with other.now below.now }
+    ensures grows { weight_with key.now rec.now ≤ weight_with key.now (fold_of rec.now below.now) }
+{
+    *room = Some((key.copy(), fold(rec.copy(), below.copy())));
+    Taken::InRoom(weight(key, rec) + weight(other, below))
+}
+
+/// The group that lies there, lent, with its weight in bytes.
+pub fn lying<'a>(
+    taken: Option<Taken>,
+    older: Option<(&'a Key, &'a Rec)>,
+    room: &'a Option<(Key, Rec)>,
+) -> Option<(&'a Key, &'a Rec, u64)>
+    ensures { option_map (λ g. (g.0.now, g.1.now, g.2)) result ≡ group_at taken (option_map (λ e. (e.0.now, e.1.now)) older.entry) room.now }
+{
+    match (taken, older, room) {
+        (Some(Taken::Older(weight)), Some((key, rec)), _) => Some((key, rec, weight)),
+        (Some(Taken::InRoom(weight)), _, Some((key, rec))) => Some((key, rec, weight)),
+        _ => None,
     }
 }
 

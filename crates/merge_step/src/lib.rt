@@ -4,7 +4,7 @@
 mod group;
 mod laws;
 
-pub use group::{least_group, least_of_lent};
+pub use group::{Taken, least_group, least_of_lent, lying};
 pub use laws::{
     a_list_is_taken, a_merge_goes_on, a_step_of_a_merge, a_table_that_grows_ahead, folds_per_key,
 };

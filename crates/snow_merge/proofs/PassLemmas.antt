@@ -1,11 +1,13 @@
 -- A pass that has taken all, and what a table weighs above a key.
 use Rattle.std.proofs.lemmas.List.Sums.{sum_by-cons}
-use Rattle.std.specs.Prelude.{IfSome}
+use Rattle.std.specs.Prelude.{option_map}
+use Rattle.std.specs.Ordering.{ordering_reverse}
+use Rattle.std.specs.declared.cmp.Ordering.{Ordering}
 use Rattle.std.proofs.lemmas.Bool.Decides.{nat_tests}
 use Rattle.std.proofs.lemmas.Cmp.{nat_list_cmp_total}
 use Rattle.std.proofs.lemmas.Grind.{common_steps}
 use Rattle.std.specs.declared.cmp.Ordering.TheVariants.{Less}
-use Rattle.std.proofs.Common.{◌≡◌, ◌∙◌, ◌+◌, ◌≤◌, ℕ, cond, true, false, List, [], ◌∷◌, Option, Some, None, ap, sym, arith}
+use Rattle.std.proofs.Common.{◌≡◌, ◌∙◌, ◌≤◌, ℕ, cond, true, false, List, [], ◌∷◌, Option, Some, ap, arith}
 use Rattle.blsm_model.specs.declared.key.Key.{Key}
 use Rattle.blsm_model.specs.Keys.{key_cmp}
 use Rattle.blsm_model.specs.Sizes.{Sizes}
@@ -16,7 +18,9 @@ use Rattle.record_delta.specs.Records.{weight}
 use Rattle.record_delta.specs.Entries.{is_above, Entries, entries_weight, folded_over, above}
 use Rattle.page_space.specs.Space.{SpaceState}
 use Rattle.run_writer.specs.Writer.{HasPushed}
-use Rattle.merge_step.specs.Group.{least_of, group_of}
+use Rattle.merge_step.specs.Group.{least_of, group_at}
+use Rattle.merge_step.specs.declared.group.Taken.{Taken}
+use Rattle.merge_step.specs.declared.group.Taken.TheVariants.{InRoom}
 use Rattle.merge_step.proofs.MergedLemmas.{turned}
 use Rattle.merge_ends.specs.Progress.{left_to_take}
 use Rattle.merge_ends.proofs.MergeLemmas.{pushed_all as merge_pushed_all}
@@ -37,16 +41,14 @@ above_light at (e ∷ es) =
       | false ↦ omega (arith, all, above_light at es)
     ]
 
--- an entry of the older input below the table's next one is taken alone
-pub skipped : (first head : Key × Rec) (older : Option (Key × Rec)) → older ≡ Some head → key_cmp head.0 first.0 ≡ Less → group_of None older ≡ group_of (Some first) older
-skipped first head older is below =
-    ap (λ o. group_of None o) is ∙ ap (λ o. Some (least_of o first head)) (sym (turned head.0 first.0 Less below)) ∙ ap (λ o. group_of (Some first) o) (sym is)
+-- the entry of a key below a list's first one isn't that one
+pub another_key : (first : Key × Rec) (key : Key) (rec : Rec) → key_cmp key first.0 ≡ Less → Some first ≡ Some (key, rec) → ⊥
+another_key first key rec h1 h2 = grind (arith, common_steps, nat_tests, nat_list_cmp_total)
 
--- so the table's key is another one
-pub not_skipped : (first head : Key × Rec) (older : Option (Key × Rec)) (g : Key × Rec × ℕ) (rec : Rec) → older ≡ Some head → key_cmp head.0 first.0 ≡ Less → Some g ≡ group_of None older → Some first ≡ Some (g.0, rec) → ⊥
-not_skipped first head older g rec h1 h2 h3 h4 = grind (arith, common_steps, nat_tests, nat_list_cmp_total)
+-- the group that is in the room
+pub in_room : (taken : Taken) (older room : Option (Key × Rec)) (entry : Key × Rec) (weighs : ℕ) → taken ≡ InRoom weighs → room ≡ Some entry → group_at (Some taken) older room ≡ Some (entry.0, entry.1, weighs)
+in_room taken older room entry weighs is here = ap (λ t. group_at (Some t) older room) is ∙ ap (λ r. option_map (λ e. (e.0, e.1, weighs)) r) here
 
-pub skipped_grows : (first head : Key × Rec) (older : Option (Key × Rec)) (result : Option (Key × Rec × ℕ)) → older ≡ Some head → key_cmp head.0 first.0 ≡ Less → result ≡ group_of None older
-    → IfSome result (λ g. (rec : Rec) → Some first ≡ Some (g.0, rec) → weight g.0 rec ≤ weight g.0 g.1)
-skipped_grows first head older None is below group = tt
-skipped_grows first head older (Some g) is below group = λ rec same. absurd (not_skipped first head older g rec is below group same)
+-- the lesser of two entries, where the older one's key was compared with the newer one's
+pub compared : (order : Ordering) (first older : Key × Rec) → key_cmp older.0 first.0 ≡ order → least_of (key_cmp first.0 older.0) first older ≡ least_of (ordering_reverse order) first older
+compared order first older is = ap (λ o. least_of o first older) (turned older.0 first.0 order is)

@@ -1,6 +1,5 @@
 //! A pass.
 ghost use Rattle.std.specs.Prelude.{◌≡◌, ◌≢◌, ◌↔◌, ◌⊎◌, ◌+◌, ◌*◌, ◌/◌, ◌≤◌, [], ◌∷◌, ℕ, Bool, List, Option, Some, None, Ok, Err, length, IsTrue, IsErr, IfOk, IfSome, OnOk};
-ghost use Rattle.std.specs.declared.cmp.Ordering.TheVariants.{Less};
 ghost use Rattle.std.specs.List.{Contains};
 ghost use Rattle.blsm_model.specs.Components.{empty_component};
 ghost use Rattle.blsm_model.specs.declared.key.Key.{Key};
@@ -15,7 +14,9 @@ ghost use Rattle.bloom_bits.specs.Guides.{Guide, KeepSized};
 ghost use Rattle.record_delta.specs.declared.record.Rec.{Rec};
 ghost use Rattle.record_delta.specs.Records.{weight as weight_with};
 ghost use Rattle.record_delta.specs.Entries.{Entries, entries_weight, folded_over, above};
-ghost use Rattle.merge_step.specs.Group.{group_of};
+ghost use Rattle.record_delta.specs.Folding.{fold as fold_of};
+ghost use Rattle.merge_step.specs.Group.{least_of, group_of, group_at};
+ghost use Rattle.merge_step.specs.declared.group.Taken.TheVariants.{InRoom};
 ghost use Rattle.page_space.specs.Space.{SpaceState, HasRole, IsFree};
 ghost use Rattle.page_file.specs.Component.{numbers_of, HasList};
 ghost use Rattle.page_file.specs.File.{Writes};
@@ -29,12 +30,13 @@ use blsm_model::{Component, Geometry, Key};
 use disk_trait::Disk;
 use mem_table::{LentEntry, Table};
 use merge_ends::{Merge, Newer};
-use merge_step::least_of_lent;
+use merge_step::{Taken, least_of_lent};
 use page_file::Broken;
 use page_space::{Role, Space};
-use record_delta::Rec;
+use record_delta::{Rec, fold, weight};
 use refusal::Failed;
 use run_cursor::Cursor;
+use std::cmp::Ordering;
 use std::marker::Model;
 
 /// A pass. Contracts see the run that it writes, its cursor over C1, the greatest key that it took, and the one up to which all is on closed pages
@@ -58,29 +60,64 @@ struct InMemory<'a> {
     table: &'a Table,
 }
 
-// Whether a cursor is at an entry whose key is below that of the table's, which isn't taken then.
-fn is_past_head(first: &LentEntry, older: &Cursor) -> bool
-    ensures { IsTrue result → (head : Key × Rec) × (older.now.head ≡ Some head) × (key_cmp head.0 first.now.0 ≡ Less) }
+// The group of the table's entry and of the one at which the cursor is. The table's is copied only where it is taken, into the room.
+fn group_from(first: &LentEntry, older: &Cursor, room: &mut Option<(Key, Rec)>) -> Option<Taken>
+    ensures group { group_at result older.now.head room.new ≡ group_of (Some first.now) older.now.head }
+    ensures some { IfSome (group_at result older.now.head room.new) (λ g. least_weight ≤ g.2) }
+    ensures light { IfSome (group_at result older.now.head room.new) (λ g. (g.2 ≤ 2 * most_weight) × (weight_with g.0 g.1 ≤ g.2)) }
+    ensures grows { IfSome (group_at result older.now.head room.new) (λ g. (rec : Rec) → Some first.now ≡ Some (g.0, rec) → weight_with g.0 rec ≤ weight_with g.0 g.1) }
 {
     match older.peek() {
-        Some((key, _)) => first.compare(key).is_lt(),
-        None => false,
+        Some((key, below)) => Some(lesser(first, key, below, room)),
+        None => Some(copied(first, room)),
     }
 }
 
-// The group of the table's entry and of the one at which the cursor is. The table's is copied only where it is taken.
-#[tactic(auto, using(crate::proofs::PassLemmas::skipped))]
-fn group_from(first: &LentEntry, older: &Cursor) -> Option<(Key, Rec, u64)>
-    ensures group { result ≡ group_of (Some first.now) older.now.head }
-    ensures some { IfSome result (λ g. least_weight ≤ g.2) }
-    ensures light { IfSome result (λ g. (g.2 ≤ 2 * most_weight) × (weight_with g.0 g.1 ≤ g.2)) }
-    ensures grows { IfSome result (λ g. (rec : Rec) → Some first.now ≡ Some (g.0, rec) → weight_with g.0 rec ≤ weight_with g.0 g.1) }
+// The lesser of the table's entry and of an older one, or one of both.
+fn lesser(first: &LentEntry, key: &Key, below: &Rec, room: &mut Option<(Key, Rec)>) -> Taken
+    ensures group { group_at (Some result) (Some (key.now, below.now)) room.new ≡ Some (least_of (key_cmp first.now.0 key.now) first.now (key.now, below.now)) }
+    ensures some { IfSome (group_at (Some result) (Some (key.now, below.now)) room.new) (λ g. least_weight ≤ g.2) }
+    ensures light { IfSome (group_at (Some result) (Some (key.now, below.now)) room.new) (λ g. (g.2 ≤ 2 * most_weight) × (weight_with g.0 g.1 ≤ g.2)) }
+    ensures grows { IfSome (group_at (Some result) (Some (key.now, below.now)) room.new)
+        (λ g. (rec : Rec) → Some first.now ≡ Some (g.0, rec) → weight_with g.0 rec ≤ weight_with g.0 g.1) }
 {
-    if is_past_head(first, older) {
-        return least_of_lent(None, older.peek());
+    match first.compare(key) {
+        Ordering::Less => Taken::Older(weight(key, below)),
+        Ordering::Equal => folded(first, key, below, room),
+        Ordering::Greater => copied(first, room),
     }
+}
+
+// What holds a record stays a call, as a function zeroes all its locals at entry.
+// The table's entry, which is taken alone, in the room.
+#[inline(never)]
+fn copied(first: &LentEntry, room: &mut Option<(Key, Rec)>) -> Taken
+    ensures group { result ≡ InRoom (weight_with first.now.0 first.now.1) }
+    ensures room { room.new ≡ Some first.now }
+    ensures some { least_weight ≤ weight_with first.now.0 first.now.1 }
+    ensures light { weight_with first.now.0 first.now.1 ≤ most_weight }
+{
     let (key, rec) = first.copy();
-    least_of_lent(Some((&key, &rec)), older.peek())
+    let weight = weight(&key, &rec);
+    *room = Some((key, rec));
+    Taken::InRoom(weight)
+}
+
+// The table's entry and an older one of its key, in the room.
+#[inline(never)]
+fn folded(first: &LentEntry, key: &Key, below: &Rec, room: &mut Option<(Key, Rec)>) -> Taken
+    requires { key_cmp key.now first.now.0 ≡ Ordering.Equal }
+    ensures group { result ≡ InRoom (weight_with first.now.0 first.now.1 + weight_with key.now below.now) }
+    ensures room { room.new ≡ Some (first.now.0, fold_of first.now.1 below.now) }
+    ensures some { least_weight ≤ weight_with first.now.0 first.now.1 + weight_with key.now below.now }
+    ensures most { weight_with first.now.0 first.now.1 + weight_with key.now below.now ≤ 2 * most_weight }
+    ensures light { weight_with first.now.0 (fold_of first.now.1 below.now) ≤ weight_with first.now.0 first.now.1 + weight_with key.now below.now }
+    ensures grows { weight_with first.now.0 first.now.1 ≤ weight_with first.now.0 (fold_of first.now.1 below.now) }
+{
+    let (same, rec) = first.copy();
+    let weight = weight(&same, &rec) + weight(key, below);
+    *room = Some((same, fold(rec, below.copy())));
+    Taken::InRoom(weight)
 }
 
 impl Newer for InMemory<'_> {
@@ -97,13 +134,18 @@ impl Newer for InMemory<'_> {
         Ok(())
     }
 
-    fn group_with(&self, at: &Option<Key>, older: &Cursor) -> Option<(Key, Rec, u64)> {
+    fn group_with(
+        &self,
+        at: &Option<Key>,
+        older: &Cursor,
+        room: &mut Option<(Key, Rec)>,
+    ) -> Option<Taken> {
         // A table is sorted.
         let _weight = self.table.weight();
         let Some(first) = self.table.first_above(at) else {
-            return least_of_lent(None, older.peek());
+            return least_of_lent(None, older.peek(), room);
         };
-        group_from(&first, older)
+        group_from(&first, older, room)
     }
 
     fn left_above(&self, _at: &Option<Key>) -> u64 {

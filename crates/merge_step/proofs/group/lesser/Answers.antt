@@ -1,11 +1,10 @@
-use Rattle.std.proofs.Common.{◌≡◌, ◌∙◌, ap, sym, subst}
+use Rattle.std.proofs.Common.{◌≡◌, ◌∙◌, sym, subst}
 use Rattle.std.specs.Cmp.{tied_itself}
 use Rattle.std.specs.declared.cmp.Ordering.{Ordering}
 use Rattle.std.specs.declared.cmp.Ordering.TheVariants.{Equal, Greater}
 use Rattle.std.proofs.lemmas.Cmp.{nat_list_cmp_total}
 use Rattle.blsm_model.specs.declared.key.Key.{Key}
 use Rattle.blsm_model.specs.Keys.{key_cmp}
-use Rattle.record_delta.specs.declared.record.Rec.{Rec}
 use Rattle.merge_step.proofs.group.lesser.Goals as goal
 
 not_greater : (a b : Key) → a ≡ b → key_cmp a b ≡ Greater → ⊥
@@ -18,5 +17,4 @@ not_greater a b same greater =
     apart eq = cc
 
 pub returns-in-Greater-clause-grows : goal.returns-in-Greater-clause-grows
-returns-in-Greater-clause-grows c = λ given is _.
-    absurd (not_greater c.args.key.now c.args.other.now (is ∙ ap (λ g. g.0) c.alone-in-Greater.ensures.entry ∙ ap (λ (e : Key × Rec). e.0) c.copied-in-Greater.ensures) (sym c.cmp.ensures ∙ c.in-Greater.is))
+returns-in-Greater-clause-grows c = λ given is _. absurd (not_greater c.args.key.now c.args.other.now is (sym c.cmp.ensures ∙ c.in-Greater.is))

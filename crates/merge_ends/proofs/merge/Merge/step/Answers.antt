@@ -1,14 +1,17 @@
-use Rattle.std.proofs.Common.{rules, ◌≡◌, ◌∙◌, ◌+◌, ◌≤◌, ℕ, IsTrue, Bool, true, List, [], ◌∷◌, ◌++◌, Option, Some, None, Ok, Err, length, refl, ap, sym, subst, inl, inr, arith}
+use Rattle.std.specs.Prelude.{IfSome}
+use Rattle.std.proofs.Common.{rules, ◌≡◌, ◌∙◌, ◌+◌, ◌*◌, ◌≤◌, ◌⊎◌, ℕ, IsTrue, Bool, true, List, [], ◌∷◌, ◌++◌, Option, Some, None, Ok, Err, Result, length, refl, ap, sym, subst, inl, inr, arith}
 use Rattle.std.proofs.lemmas.Result.{err_from_is_err_and}
 use Rattle.disk_trait.proofs.ReadLemmas.{only_reads_same}
 use Rattle.disk_trait.proofs.RegionLemmas.{same_wider}
 use Rattle.blsm_model.specs.declared.component.Component.{Component}
 use Rattle.blsm_model.specs.declared.key.Key.{Key}
+use Rattle.blsm_model.specs.Format.{least_weight, most_weight}
 use Rattle.record_delta.specs.declared.record.Rec.{Rec}
-use Rattle.record_delta.specs.Entries.{Entries, entries_weight, first_of, folded_over, above, up_to}
+use Rattle.record_delta.specs.Entries.{Entries, AreSorted, entries_weight, first_of, folded_over, above, up_to}
 use Rattle.page_file.specs.Entry.{AreRising}
+use Rattle.page_file.specs.declared.file.Broken.{Broken}
 use Rattle.run_writer.specs.Writer.{WriterState, closed_entries, HasPushed}
-use Rattle.merge_step.specs.Group.{group_of}
+use Rattle.merge_step.specs.Group.{group_at, group_of}
 use Rattle.merge_step.specs.Merged.{IsTaken}
 use Rattle.merge_step.proofs.StepLemmas.{goes_on}
 use Rattle.run_cursor.specs.Cursor.{CursorState, from_head}
@@ -96,7 +99,7 @@ returns-in_err-go_above-2-clause-numbers g c =
 -- ---- nothing is left
 
 none_is : (g : _) (c : goal.In_default g) → group_of (first_of (above c.self.inside.at (at_hand (g.N.Newer.run c.go_above.new.self) (g.N.Newer.table c.go_above.new.self)))) c.go_above-2.new.cursor.head ≡ None
-none_is g c = sym c.in_default.ensures.group
+none_is g c = sym c.group_with-taken.ensures.group ∙ sym (c.in_default.ensures ∙ ap (λ (o : Option (Key × Rec)). group_at c.group_with-taken.result o c.group_with-taken.new.room) c.peek.ensures)
 
 pub returns-in_default-clause-lists : goal.returns-in_default-clause-lists
 returns-in_default-clause-lists g c = λ overs unders over under honest merging other.
@@ -137,7 +140,7 @@ returns-in_default-clause-lists g c = λ overs unders over under honest merging 
         closed_is = old.closed_is;
         left_is = λ some. old.left_is some ∙ sym (same_above c.self.inside.closed (g.N.Newer.run c.args.newer.now) input over under c.go_above.ensures.same_kind);
       },
-      newer_sorted sizes new space role at input table overs over c.group_with.ensures.sorted here,
+      newer_sorted sizes new space role at input table overs over c.group_with-taken.ensures.sorted here,
       inr (subst (λ (k : Option Key). NoneAbove k over under) at_is ends, at_is, refl),
     )
 
@@ -175,8 +178,25 @@ returns-in_default-clause-numbers g c =
 may : (g : _) (c : In-Some g) → MayGoOn c.args.geo.now (stage (progress (record { writer = c.self.inside.writer; older = c.self.inside.older; at = c.self.inside.at; closed = c.self.inside.closed; left = c.self.inside.left }) (g.N.Newer.run c.args.newer.now) (g.N.Newer.table c.args.newer.now)) c.args.space.now c.args.filter.now c.args.fences.now (g.D.Disk.state c.args.disk.now))
 may g c = subst (λ (s : MergeState). MayGoOn c.args.geo.now (stage (progress s (g.N.Newer.run c.args.newer.now) (g.N.Newer.table c.args.newer.now)) c.args.space.now c.args.filter.now c.args.fences.now (g.D.Disk.state c.args.disk.now))) (sym c.self.view_is) c.requires.runs
 
-group : (g : _) (c : In-Some g) → group_of (first_of (above c.self.inside.at (at_hand (g.N.Newer.run c.go_above.new.self) (g.N.Newer.table c.go_above.new.self)))) c.go_above-2.new.cursor.head ≡ Some (c.in-Some.key, c.in-Some.rec, c.in-Some.weight)
-group g c = sym c.in-Some.ensures.group
+-- where the group lies
+lies : (g : _) (c : In-Some g) → Some (c.in-Some.key.now, c.in-Some.rec.now, c.in-Some.weight) ≡ group_at c.group_with-taken.result c.go_above-2.new.cursor.head c.group_with-taken.new.room
+lies g c = c.in-Some.ensures ∙ ap (λ (o : Option (Key × Rec)). group_at c.group_with-taken.result o c.group_with-taken.new.room) c.peek.ensures
+
+group : (g : _) (c : In-Some g) → group_of (first_of (above c.self.inside.at (at_hand (g.N.Newer.run c.go_above.new.self) (g.N.Newer.table c.go_above.new.self)))) c.go_above-2.new.cursor.head ≡ Some (c.in-Some.key.now, c.in-Some.rec.now, c.in-Some.weight)
+group g c = sym c.group_with-taken.ensures.group ∙ sym (lies g c)
+
+-- what it weighs
+weighs_some : (g : _) (c : In-Some g) → least_weight ≤ c.in-Some.weight
+weighs_some g c = subst (λ (o : Option (Key × Rec × ℕ)). IfSome o (λ e. least_weight ≤ e.2)) (sym (lies g c)) c.group_with-taken.ensures.some
+
+weighs_light : (g : _) (c : In-Some g) → (c.in-Some.weight ≤ 2 * most_weight) × (weight c.in-Some.key.now c.in-Some.rec.now ≤ c.in-Some.weight)
+weighs_light g c = subst (λ (o : Option (Key × Rec × ℕ)). IfSome o (λ e. (e.2 ≤ 2 * most_weight) × (weight e.0 e.1 ≤ e.2))) (sym (lies g c)) c.group_with-taken.ensures.light
+
+weighs_more : (g : _) (c : In-Some g) (given : Rec) → first_of (above c.self.inside.at (at_hand (g.N.Newer.run c.go_above.new.self) (g.N.Newer.table c.go_above.new.self))) ≡ Some (c.in-Some.key.now, given)
+    → weight c.in-Some.key.now given ≤ weight c.in-Some.key.now c.in-Some.rec.now
+weighs_more g c =
+    subst (λ (o : Option (Key × Rec × ℕ)). IfSome o (λ e. (given : Rec) → first_of (above c.self.inside.at (at_hand (g.N.Newer.run c.go_above.new.self) (g.N.Newer.table c.go_above.new.self))) ≡ Some (e.0, given) → weight e.0 given ≤ weight e.0 e.1))
+    (sym (lies g c)) c.group_with-taken.ensures.grows
 
 -- what was counted when it was found
 counted : (g : _) (c : In-Some g) → Counts 0 (pages_ahead (cursors_with (g.N.Newer.run c.args.newer.now) c.self.inside.older)) (pages_ahead (cursors_with (g.N.Newer.run c.go_above.new.self) c.go_above-2.new.cursor))
@@ -188,25 +208,25 @@ counted g c =
     (g.D.Disk.state c.args.disk.now) (g.D.Disk.state c.go_above.new.disk) (g.D.Disk.state c.go_above-2.new.disk)
     c.in_ok-go_above.ensures.one_a_page c.go_above.ensures.reads.effect.effect.goes_on.clock (omega (arith, second, later)) (omega (arith, second))
 
-taken : (g : _) (c : In-Some g) → IsTaken c.self.inside.at (at_hand (g.N.Newer.run c.go_above.new.self) (g.N.Newer.table c.go_above.new.self)) (from_head c.go_above-2.new.cursor.head []) c.in-Some.key c.in-Some.rec c.in-Some.weight
+taken : (g : _) (c : In-Some g) → IsTaken c.self.inside.at (at_hand (g.N.Newer.run c.go_above.new.self) (g.N.Newer.table c.go_above.new.self)) (from_head c.go_above-2.new.cursor.head []) c.in-Some.key.now c.in-Some.rec.now c.in-Some.weight
 taken g c =
-    group_taken (g.N.Newer.run c.go_above.new.self) (g.N.Newer.table c.go_above.new.self) c.go_above-2.new.cursor c.self.inside.at c.in-Some.key c.in-Some.rec c.in-Some.weight
-    c.group_with.ensures.sorted c.in_ok-go_above-2.ensures.ready.0 (group g c)
+    group_taken (g.N.Newer.run c.go_above.new.self) (g.N.Newer.table c.go_above.new.self) c.go_above-2.new.cursor c.self.inside.at c.in-Some.key.now c.in-Some.rec.now c.in-Some.weight
+    c.group_with-taken.ensures.sorted c.in_ok-go_above-2.ensures.ready.0 (group g c)
 
 -- it weighs no more than what is gone of what was left
-light : (g : _) (c : In-Some g) → weight c.in-Some.key c.in-Some.rec + (newer_left (Some c.in-Some.key) (g.N.Newer.run c.go_above.new.self) (g.N.Newer.table c.go_above.new.self) + left_in (Some c.in-Some.key) c.go_above-2.new.cursor)
+light : (g : _) (c : In-Some g) → weight c.in-Some.key.now c.in-Some.rec.now + (newer_left (Some c.in-Some.key.now) (g.N.Newer.run c.go_above.new.self) (g.N.Newer.table c.go_above.new.self) + left_in (Some c.in-Some.key.now) c.go_above-2.new.cursor)
     ≤ newer_left c.self.inside.at (g.N.Newer.run c.args.newer.now) (g.N.Newer.table c.args.newer.now) + left_in c.self.inside.at c.self.inside.older
 light g c =
     let t = taken g c in
-    omega (arith, t.taken_is, t.newer_left, t.older_left, newer_less c.self.inside.at c.in-Some.key (g.N.Newer.run c.go_above.new.self) (g.N.Newer.table c.go_above.new.self), c.in_ok-go_above.ensures.ready.1, c.in_ok-go_above-2.ensures.ready.1, c.in-Some.ensures.light.1)
+    omega (arith, t.taken_is, t.newer_left, t.older_left, newer_less c.self.inside.at c.in-Some.key.now (g.N.Newer.run c.go_above.new.self) (g.N.Newer.table c.go_above.new.self), c.in_ok-go_above.ensures.ready.1, c.in_ok-go_above-2.ensures.ready.1, (weighs_light g c).1)
 
 read : (g : _) (c : In-Some g) → HasRun c.args.geo.now (g.D.Disk.state c.go_above-2.new.disk).is_honest (g.D.Disk.state c.go_above-2.new.disk).bytes c.args.space.now c.self.inside.writer c.args.filter.now c.args.fences.now c.self.inside.at
 read g c = run_read c.go_above-2.ensures.reads.effect (run_read c.go_above.ensures.reads.effect (may g c).running.run)
 
-rises : (g : _) (c : In-Some g) (any : Rec) → AreRising ((read g c).out ++ (c.in-Some.key, any) ∷ [])
+rises : (g : _) (c : In-Some g) (any : Rec) → AreRising ((read g c).out ++ (c.in-Some.key.now, any) ∷ [])
 rises g c any =
     let run = read g c in
-    rising_more c.self.inside.at run.out c.in-Some.key any (subst AreRising run.pushed.entries_are run.pushed.is_run.rise) run.ends (taken g c).above_at
+    rising_more c.self.inside.at run.out c.in-Some.key.now any (subst AreRising run.pushed.entries_are run.pushed.is_run.rise) run.ends (taken g c).above_at
 
 pub put-requires-clause-room : goal.put-requires-clause-room
 put-requires-clause-room g c = let arm = (goal.at.put-requires-clause-room g c).In-Some in room_less c.args.space.now c.self.inside.writer _ _ (omega (arith, light g arm)) (may g arm).room
@@ -257,18 +277,20 @@ returns-clause-numbers g c =
     let ready_newer = c.in_ok-go_above.ensures.ready in
     let ready_older = c.in_ok-go_above-2.ensures.ready in
     let third = c.put.ensures.writes.effect.goes_on in
-    let key = c.in-Some.key in
-    let rec = c.in-Some.rec in
+    let key = c.in-Some.key.now in
+    let rec = c.in-Some.rec.now in
     let old = may g arm in
     let run = read g arm in
     let less = light g arm in
     let hand = first_of (above at (at_hand input table)) in
     let pages = c.in_ok-put.ensures.one_a_page in
-    subst (λ (s : MergeState). MergesOn c.args.geo.now (group_calls (g.N.Newer.run c.args.newer.now)) TakesGroup (stage (progress s (g.N.Newer.run c.args.newer.now) (g.N.Newer.table c.args.newer.now)) c.args.space.now c.args.filter.now c.args.fences.now (g.D.Disk.state c.args.disk.now))
+    subst (λ (k : Key). MergesOn c.args.geo.now (group_calls (g.N.Newer.run c.args.newer.now)) TakesGroup (stage (progress c.args.self.now (g.N.Newer.run c.args.newer.now) (g.N.Newer.table c.args.newer.now)) c.args.space.now c.args.filter.now c.args.fences.now (g.D.Disk.state c.args.disk.now))
+    (stage (progress (record { writer = c.put.new.writer; older = older; at = Some k; closed = c.closed_behind-self-inside.result; left = c.left_behind-self-inside.result }) input table) c.put.new.space c.put.new.filter c.put.new.fences (g.D.Disk.state c.put.new.disk)) (Ok c.in-Some.weight)) (sym c.copy.ensures)
+    (subst (λ (s : MergeState). MergesOn c.args.geo.now (group_calls (g.N.Newer.run c.args.newer.now)) TakesGroup (stage (progress s (g.N.Newer.run c.args.newer.now) (g.N.Newer.table c.args.newer.now)) c.args.space.now c.args.filter.now c.args.fences.now (g.D.Disk.state c.args.disk.now))
     (stage (progress (record { writer = c.put.new.writer; older = older; at = Some key; closed = c.closed_behind-self-inside.result; left = c.left_behind-self-inside.result }) input table) c.put.new.space c.put.new.filter c.put.new.fences (g.D.Disk.state c.put.new.disk)) (Ok c.in-Some.weight)) c.self.view_is
     (told_ok
-    (takes_group _ _ (taken g arm) refl (omega (arith, ready_newer.1, newer_less at key input table)) (omega (arith, ready_older.1)) c.in-Some.ensures.some c.in-Some.ensures.light.0
-    (omega (arith, c.in-Some.ensures.light.1, c.in_ok-put.ensures.light)))
+    (takes_group _ _ (taken g arm) refl (omega (arith, ready_newer.1, newer_less at key input table)) (omega (arith, ready_older.1)) (weighs_some g arm) (weighs_light g arm).0
+    (omega (arith, (weighs_light g arm).1, c.in_ok-put.ensures.light)))
     (record {
       running = record {
         run = record {
@@ -285,7 +307,7 @@ returns-clause-numbers g c =
     c.in_ok-put.ensures.size
     (counts_written 0 (g.D.Disk.state c.args.disk.now) (g.D.Disk.state c.go_above-2.new.disk) (g.D.Disk.state c.put.new.disk) (counted g arm) (omega (arith, pages, third.clock)) (omega (arith, pages)))
     (search rules) (search rules)
-    (works g (goal.at.returns-clause-numbers g c).After-put (reads_two g (goal.at.returns-clause-numbers g c).After-go_above-2)) (search rules))
+    (works g (goal.at.returns-clause-numbers g c).After-put (reads_two g (goal.at.returns-clause-numbers g c).After-go_above-2)) (search rules)))
 
 pub returns-clause-lists : goal.returns-clause-lists
 returns-clause-lists g c = λ overs unders over under honest merging other.
@@ -302,8 +324,8 @@ returns-clause-lists g c = λ overs unders over under honest merging other.
     let writer = c.self.inside.writer in
     let role = writer.role in
     let at = c.self.inside.at in
-    let key = c.in-Some.key in
-    let rec = c.in-Some.rec in
+    let key = c.in-Some.key.now in
+    let rec = c.in-Some.rec.now in
     let weighs = c.in-Some.weight in
     let settles = c.args.settles in
     let first = c.go_above.ensures.reads.effect in
@@ -318,7 +340,7 @@ returns-clause-lists g c = λ overs unders over under honest merging other.
     let both : group_of (first_of (above at over)) (first_of (above at under)) ≡ Some (key, rec, weighs) =
     ap (λ (x : Option (Key × Rec)). group_of x (first_of (above at under))) (newer_first sizes mid.bytes space role at input table overs over c.in_ok-go_above.ensures.ready.0 upper)
     ∙ ap (group_of (first_of (above at (at_hand input table)))) (head_is sizes mid.bytes space role at older under c.in_ok-go_above-2.ensures.ready.0 lower) ∙ group g arm in
-    let sorted = newer_sorted sizes mid.bytes space role at input table overs over c.group_with.ensures.sorted upper in
+    let sorted = newer_sorted sizes mid.bytes space role at input table overs over c.group_with-taken.ensures.sorted upper in
     let taken = goes_on at over under key rec weighs sorted lower.sorted both in
     let mid_honest : mid.is_honest ≡ true = second.effect.goes_on.is_honest ∙ still in
     let after_honest : after.is_honest ≡ true = c.put.ensures.writes.effect.goes_on.is_honest ∙ mid_honest in
@@ -334,7 +356,10 @@ returns-clause-lists g c = λ overs unders over under honest merging other.
     let left_is =
     turned_behind (component_left at input + left_in at older) c.self.inside.left _ c.component-pages.result.pages c.component.result.pages writer c.put.new.writer c.left_behind-self-inside.ensures
     (ap (λ (k : Component). k.pages) c.component-pages.ensures.component) (ap (λ (k : Component). k.pages) c.component.ensures.component) in
-    let next : IsNext at (Some key) over under weighs = (key, rec, both, refl) in (
+    let next : IsNext at (Some key) over under weighs = (key, rec, both, refl) in
+    subst (λ (k : Key). (n : ℕ) × (◌≡◌ {A = Result ℕ Broken} (Ok weighs) (Ok n))
+    × IsMerging settles sizes after.bytes after_space (record { writer = c.put.new.writer; older = older; at = Some k; closed = c.closed_behind-self-inside.result; left = c.left_behind-self-inside.result }) input table c.put.new.filter c.put.new.fences overs unders over under
+    × AreSorted over × (IsNext c.args.self.now.at (Some k) over under n ⊎ (NoneAbove c.args.self.now.at over under × (Some k ≡ c.args.self.now.at) × (n ≡ 0)))) (sym c.copy.ensures) (
       weighs,
       refl,
       record {
@@ -389,8 +414,8 @@ returns-clause-covers g c = λ covers.
     let closed = c.self.inside.closed in
     let writer = c.self.inside.writer in
     let turned = has_turned writer c.put.new.writer in
-    let key = c.in-Some.key in
-    let rec = c.in-Some.rec in
+    let key = c.in-Some.key.now in
+    let rec = c.in-Some.rec.now in
     let input = g.N.Newer.run c.go_above.new.self in
     let table = g.N.Newer.table c.go_above.new.self in
     let hand = at_hand input table in
@@ -399,8 +424,9 @@ returns-clause-covers g c = λ covers.
     let behind =
     turned_behind at closed _ c.component-pages.result.pages c.component.result.pages writer c.put.new.writer c.closed_behind-self-inside.ensures
     (ap (λ (k : Component). k.pages) c.component-pages.ensures.component) (ap (λ (k : Component). k.pages) c.component.ensures.component) in
-    let less = gave_less (taken g arm) (λ given is. c.in-Some.ensures.grows given is) in
-    record {
+    let less = gave_less (taken g arm) (weighs_more g arm) in
+    subst (λ (k : Key). Covers c.args.settles (record { writer = c.put.new.writer; older = older; at = Some k; closed = c.closed_behind-self-inside.result; left = c.left_behind-self-inside.result }) input table) (sym c.copy.ensures)
+    (record {
       up = closed_up_more turned at closed c.closed_behind-self-inside.result key behind (taken g arm).above_at old.up;
       light = λ plain none.
           light_more turned at closed c.closed_behind-self-inside.result key table (length c.put.new.writer.buffer.text) (length writer.buffer.text) (weight key rec) behind (c.in_ok-put.ensures.here plain)
@@ -418,4 +444,4 @@ returns-clause-covers g c = λ covers.
             same_left at (g.N.Newer.run c.args.newer.now) input (g.N.Newer.table c.args.newer.now) table c.go_above.ensures.same_kind c.in_ok-go_above.ensures.ready.1,
           ))
           old.left;
-    }
+    })

@@ -1,8 +1,8 @@
-use Rattle.std.proofs.Common.{◌≡◌, ◌+◌, ◌/◌, [], false, None, sym, subst}
+use Rattle.std.proofs.Common.{◌+◌, ◌/◌, [], false, None, sym, subst}
 use Rattle.std.specs.Prelude.{OnOk}
 use Rattle.record_delta.specs.Entries.{Entries}
 use Rattle.merge_ends.specs.Merge.{Covers as MergeCovers, IsMerging, progress}
-use Rattle.merge_ends.specs.Progress.{MayGoOn, MergesOn, TakesQuantum, stage}
+use Rattle.merge_ends.specs.Progress.{MergesOn, TakesQuantum, stage}
 use Rattle.merge_ends.specs.Quantum.{IsQuantum}
 use Rattle.snow_merge.specs.Pass.{SnowState, Covers, IsPass, progress_of_pass}
 use Rattle.snow_merge.proofs.snow.Snow.quantum.Goals as goal
