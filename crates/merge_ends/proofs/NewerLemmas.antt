@@ -11,7 +11,7 @@ use Rattle.page_space.specs.Space.{SpaceState}
 use Rattle.run_cursor.specs.Cursor.{CursorState}
 use Rattle.run_writer.specs.Writer.{role_region}
 use Rattle.merge_step.specs.Group.{group_of}
-use Rattle.merge_ends.specs.Input.{IsBehind, IsInput}
+use Rattle.merge_ends.specs.Input.{IsBehind}
 use Rattle.merge_ends.specs.Newer.{at_hand, newer_calls, newer_left, newer_pages, cursors_with, IsNewer, IsNewerBehind, IsNewerDamage, IsNewerReady}
 use Rattle.merge_ends.specs.Merge.{group_calls, quantum_calls}
 use Rattle.merge_ends.specs.Output.{TakesPages}

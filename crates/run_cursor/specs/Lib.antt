@@ -1,4 +1,6 @@
 pub mod Cursor
 pub mod Given
+pub mod Part
+pub mod Walk
 pub mod Lookup
 pub mod Below

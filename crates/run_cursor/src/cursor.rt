@@ -18,6 +18,7 @@ ghost use Rattle.page_file.specs.File.{Reads};
 ghost use Rattle.page_file.specs.Component.{numbers_of, HasList};
 ghost use Rattle.run_cursor.specs.Cursor.{started, from_head, HasAhead, IsAdvanced, AreInNumber, PageGoesOn, GoesOnAt, IsStepped, IsDamageAt, Rises, AreFull, turned};
 ghost use Rattle.run_cursor.specs.Given.{HasGiven, HasGivenMore};
+ghost use Rattle.run_cursor.specs.Part.{BeginsNext};
 
 use blsm_model::{Component, Geometry, Key};
 use disk_trait::Disk;
@@ -143,7 +144,7 @@ impl Cursor {
     /// The component from the page on that `advance` reads next, as a component of its own, where it reads one then. A cursor that is
     /// started over it stands where this one stands: it has the same entries ahead, on the same pages. It calls no device.
     pub fn from_here(&self) -> Option<Component>
-        ensures part { IfSome result (λ part. (self.now.behind ≡ []) × (0 < part.pages) × (started part ≡ record self.now { head = None })) }
+        ensures part { IfSome result (BeginsNext self.now) }
         ensures none { IfNone result (self.now.behind ≡ [] → self.now.pages ≡ 0) }
         // Where the cursor has entries ahead, the part reads as these.
         ensures list { (sizes : Sizes) (rest : Entries) (file : List ℕ) → page_count sizes ≤ no_page → (ahead : HasAhead sizes self.now rest file)

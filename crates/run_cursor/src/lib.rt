@@ -6,8 +6,10 @@ mod cursor;
 mod guides;
 mod laws;
 mod lookup;
+mod walk;
 
 pub use cursor::Cursor;
 pub use guides::rebuild;
 pub use laws::what_is_ahead;
 pub use lookup::find;
+pub use walk::Walk;

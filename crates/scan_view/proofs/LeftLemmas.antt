@@ -1,10 +1,14 @@
 -- What a cursor has left above a key, while it goes on.
-use Rattle.std.proofs.Common.{◌≡◌, ◌≢◌, ◌∙◌, ◌⊎◌, ℕ, ◌+◌, ◌<◌, ◌≤◌, true, false, List, [], ◌∷◌, length, Option, Some, None, IfSome, IfNone, Result, Ok, Err, ap, sym, subst, arith}
+use Rattle.std.proofs.Common.{◌≡◌, ◌≢◌, ◌∙◌, ◌⊎◌, ℕ, ◌+◌, ◌<◌, ◌≤◌, true, false, List, [], ◌∷◌, length, Option, Some, None, IfSome, IfNone, Result, Ok, Err, inl, inr, refl, ap, sym, subst, arith}
 use Rattle.std.proofs.lemmas.Grind.{common_steps}
 use Rattle.std.proofs.lemmas.Bool.Decides.{nat_tests}
 use Rattle.std.proofs.lemmas.Cmp.{nat_list_cmp_total}
 use Rattle.std.specs.Result.{IsErrAnd}
 use Rattle.std.proofs.lemmas.Result.{err_from_is_err_and}
+use Rattle.std.specs.List.{IsDistinct}
+use Rattle.std.specs.List.Sorted.{IsStrictlySortedBy}
+use Rattle.blsm_model.specs.declared.component.Component.{Component}
+use Rattle.blsm_model.specs.Components.{empty_component}
 use Rattle.blsm_model.specs.declared.key.Key.{Key}
 use Rattle.blsm_model.specs.Sizes.{Sizes}
 use Rattle.disk_trait.specs.Disk.{DiskState}
@@ -17,12 +21,15 @@ use Rattle.record_delta.specs.Records.{weight}
 use Rattle.record_delta.specs.Entries.{Entries, AreSorted, above, is_above, first_of}
 use Rattle.page_file.specs.declared.file.Broken.{Broken}
 use Rattle.page_file.specs.declared.file.Broken.TheVariants.{Fault}
-use Rattle.page_file.specs.Component.{numbers_of}
-use Rattle.run_cursor.specs.Cursor.{CursorState, from_head, HasAhead, IsAdvanced}
+use Rattle.page_file.specs.Component.{RunPage, numbers_of, HasList}
+use Rattle.run_cursor.specs.declared.walk.Walk.{Walk}
+use Rattle.run_cursor.specs.Cursor.{CursorState, from_head, HasAhead, IsAdvanced, AreAmong}
+use Rattle.run_cursor.specs.Part.{IsNextPart}
+use Rattle.run_cursor.specs.Walk.{IsWalk}
 use Rattle.merge_ends.specs.Input.{head_above, key_of}
-use Rattle.merge_ends.proofs.GroupLemmas.{above_further, further}
+use Rattle.merge_ends.proofs.GroupLemmas.{above_further, further, first_none}
 use Rattle.merge_step.proofs.TakenLemmas.{first_above, taken}
-use Rattle.scan_view.specs.Left.{IsFile, IsAheadOf, IsFromOne, HasLeft, count_left}
+use Rattle.scan_view.specs.Left.{IsFile, IsAheadOf, IsFromOne, HasLeft, HasPart, count_left}
 
 -- ---- answers of calls
 
@@ -51,34 +58,128 @@ file_on run is = record { honest = run.effect.goes_on.is_honest ∙ is.honest; b
 
 -- ---- a cursor that goes on
 
-pub left_on : (sizes : Sizes) (file : List ℕ) (at : Option Key) (old new : CursorState) (entries : Entries) → head_above at old.head ≡ false
-    → (has : HasLeft sizes at old entries file) → IsAdvanced sizes new (numbers_of has.ahead.coming) has.rest file → HasLeft sizes at new entries file
-left_on sizes file at old new entries h1 has h2 = grind (arith, common_steps, nat_tests)
+-- what is left is what comes after the head, where that isn't above the key
+left_behind : (at : Option Key) (head : Option (Key × Rec)) (rest entries : Entries) → head_above at head ≡ false → above at (from_head head rest) ≡ above at entries → above at rest ≡ above at entries
+left_behind at head rest entries stale is = grind (arith, common_steps, nat_tests)
 
--- by what a call of `advance` says of lists
-pub advance_left : {result : Result (Unit {0}) Broken} {sizes : Sizes} {file bytes : List ℕ} {at : Option Key} {old new : CursorState} {entries : Entries} → bytes ≡ file
-    → head_above at old.head ≡ false → HasLeft sizes at old entries file
-    → ((rest : Entries) (before : HasAhead sizes old rest bytes) → result ≢ Err Fault → (result ≡ Ok tt) × IsAdvanced sizes new (numbers_of before.coming) rest bytes)
-    → result ≢ Err Fault → (result ≡ Ok tt) × HasLeft sizes at new entries file
-advance_left {sizes = sizes} {bytes = bytes} {at} {old} {new} {entries} same stale has list other =
-    let here = subst (λ (b : List ℕ). HasLeft sizes at old entries b) (sym same) has in
+-- the part in which the next entry stands has left what the one before had
+pub part_left : {sizes : Sizes} {file : List ℕ} {at : Option Key} {walk : Walk} {part : Component} {entries : Entries} {pages : List ℕ} → head_above at walk.cursor.head ≡ false
+    → (has : HasLeft sizes at walk entries pages file) → ((list : HasList sizes part has.rest file) × (list.pages ≡ has.ahead.coming)) ⊎ (part ≡ walk.here) → HasPart sizes at part entries pages file
+part_left {sizes} {file} {at} {walk} {part} {entries} {pages} stale has is = by is
+  where
+    by : ((list : HasList sizes part has.rest file) × (list.pages ≡ has.ahead.coming)) ⊎ (part ≡ walk.here) → HasPart sizes at part entries pages file
+    by (inl begins) = record {
+      of_part = has.rest;
+      list = begins.0;
+      left_is = left_behind at walk.cursor.head has.rest entries stale has.left_is;
+      among = subst (λ (ps : List RunPage). AreAmong ps pages) (sym begins.1) has.among;
+    }
+    by (inr same) = subst (λ (p : Component). HasPart sizes at p entries pages file) (sym same) has.part
+
+left_on : (sizes : Sizes) (file : List ℕ) (at : Option Key) (old new : Walk) (entries : Entries) (pages : List ℕ) → head_above at old.cursor.head ≡ false
+    → (has : HasLeft sizes at old entries pages file) → IsAdvanced sizes new.cursor (numbers_of has.ahead.coming) has.rest file → HasPart sizes at new.here entries pages file
+    → HasLeft sizes at new entries pages file
+left_on sizes file at old new entries pages stale has advanced part = by has.rest (left_behind at old.cursor.head has.rest entries stale has.left_is) advanced
+  where
+    by : (rest : Entries) → above at rest ≡ above at entries → IsAdvanced sizes new.cursor (numbers_of has.ahead.coming) rest file → HasLeft sizes at new entries pages file
+    by [] left_is on = record {
+      rest = [];
+      ahead = on.1;
+      left_is = ap (λ (h : Option (Key × Rec)). above at (from_head h [])) on.0 ∙ left_is;
+      among = λ n in_pages. has.among n (on.2 n in_pages);
+      part = part;
+    }
+    by (e ∷ es) left_is on = record {
+      rest = es;
+      ahead = on.1;
+      left_is = ap (λ (h : Option (Key × Rec)). above at (from_head h es)) on.0 ∙ left_is;
+      among = λ n in_pages. has.among n (on.2 n in_pages);
+      part = part;
+    }
+
+-- by what calls of `next_part` and `advance` say of lists
+pub advance_left : {result : Result (Unit {0}) Broken} {sizes : Sizes} {file bytes : List ℕ} {at : Option Key} {old new : Walk} {entries : Entries} {pages : List ℕ} → bytes ≡ file
+    → head_above at old.cursor.head ≡ false → HasLeft sizes at old entries pages file
+    → ((rest : Entries) (ahead : HasAhead sizes old.cursor rest file) → ((list : HasList sizes new.here rest file) × (list.pages ≡ ahead.coming)) ⊎ (new.here ≡ old.here))
+    → ((rest : Entries) (before : HasAhead sizes old.cursor rest bytes) → result ≢ Err Fault → (result ≡ Ok tt) × IsAdvanced sizes new.cursor (numbers_of before.coming) rest bytes)
+    → result ≢ Err Fault → (result ≡ Ok tt) × HasLeft sizes at new entries pages file
+advance_left {sizes = sizes} {file} {bytes} {at} {old} {new} {entries} {pages} same stale has part list other =
+    let here = subst (λ (b : List ℕ). HasLeft sizes at old entries pages b) (sym same) has in
     let advanced = list here.rest here.ahead other in
-    (advanced.0, subst (λ (b : List ℕ). HasLeft sizes at new entries b) same (left_on sizes bytes at old new entries stale here advanced.1))
+    let next = subst (λ (b : List ℕ). HasPart sizes at new.here entries pages b) (sym same) (part_left {walk = old} stale has (part has.rest has.ahead)) in
+    (advanced.0, subst (λ (b : List ℕ). HasLeft sizes at new entries pages b) same (left_on sizes bytes at old new entries pages stale here advanced.1 next))
 
 -- a cursor that is at an entry above the key, or at the end, is at the first of what it has left
-pub head_first : (sizes : Sizes) (file : List ℕ) (at : Option Key) (cursor : CursorState) (entries : Entries) → HasLeft sizes at cursor entries file
-    → (head_above at cursor.head ≡ true) ⊎ ((cursor.head ≡ None) × (cursor.entries ≡ 0)) → cursor.head ≡ first_of (above at entries)
-head_first sizes file at cursor entries h1 h2 = grind (arith, common_steps, nat_tests)
+pub head_first : (sizes : Sizes) (file : List ℕ) (at : Option Key) (walk : Walk) (entries : Entries) (pages : List ℕ) → HasLeft sizes at walk entries pages file
+    → (head_above at walk.cursor.head ≡ true) ⊎ ((walk.cursor.head ≡ None) × (walk.cursor.entries ≡ 0)) → walk.cursor.head ≡ first_of (above at entries)
+head_first sizes file at walk entries pages h1 h2 = grind (arith, common_steps, nat_tests)
+
+-- at the end nothing is ahead
+none_reads : (sizes : Sizes) (file : List ℕ) → (list : HasList sizes empty_component [] file) × (list.pages ≡ [])
+unfolding IsStrictlySortedBy IsDistinct
+none_reads sizes file = (
+  record {
+    pages = [];
+    reads = record { first_is = refl; chained = tt; rise = tt; apart = tt; pages_is = refl; entries_is = refl; weight_is = refl };
+    entries_are = refl;
+  },
+  refl,
+)
+
+pub left_ended : {sizes : Sizes} {file : List ℕ} {at : Option Key} {old new : Walk} {entries : Entries} {pages : List ℕ} → new.cursor ≡ old.cursor → new.here ≡ empty_component → old.cursor.head ≡ None
+    → old.cursor.entries ≡ 0 → HasLeft sizes at old entries pages file → HasLeft sizes at new entries pages file
+left_ended {sizes} {file} {at} {old} {new} {entries} {pages} cursor here none no_entries has = subst (λ (w : Walk). HasLeft sizes at w entries pages file) is at_end
+  where
+    is : ◌≡◌ {A = Walk} (record { cursor = old.cursor; here = empty_component }) new
+    is = λ i. record { cursor = sym cursor i; here = sym here i }
+
+    at_end : HasLeft sizes at (record { cursor = old.cursor; here = empty_component }) entries pages file
+    at_end = record {
+      rest = has.rest;
+      ahead = has.ahead;
+      left_is = has.left_is;
+      among = has.among;
+      part = record {
+        of_part = [];
+        list = (none_reads sizes file).0;
+        left_is = sym (first_none (above at entries) (sym (head_first sizes file at old entries pages has (inr (none, no_entries))) ∙ none));
+        among = subst (λ (ps : List RunPage). AreAmong ps pages) (sym (none_reads sizes file).1) (λ n in_none. absurd (omega (arith, in_none.1)));
+      };
+    }
 
 -- ---- above another key
 
-pub left_further : (sizes : Sizes) (file : List ℕ) (at : Option Key) (key : Key) (cursor : CursorState) (entries : Entries) → is_above at key ≡ true
-    → HasLeft sizes at cursor entries file → HasLeft sizes (Some key) cursor entries file
-left_further sizes file at key cursor entries key_above has = record {
+pub part_further : (sizes : Sizes) (file : List ℕ) (at : Option Key) (key : Key) (part : Component) (entries : Entries) (pages : List ℕ) → is_above at key ≡ true
+    → HasPart sizes at part entries pages file → HasPart sizes (Some key) part entries pages file
+part_further sizes file at key part entries pages key_above has = record {
+  of_part = has.of_part;
+  list = has.list;
+  left_is = above_further at key has.of_part key_above ∙ ap (above (Some key)) has.left_is ∙ sym (above_further at key entries key_above);
+  among = has.among;
+}
+
+pub left_further : (sizes : Sizes) (file : List ℕ) (at : Option Key) (key : Key) (walk : Walk) (entries : Entries) (pages : List ℕ) → is_above at key ≡ true
+    → HasLeft sizes at walk entries pages file → HasLeft sizes (Some key) walk entries pages file
+left_further sizes file at key walk entries pages key_above has = record {
   rest = has.rest;
   ahead = has.ahead;
-  left_is = above_further at key (from_head cursor.head has.rest) key_above ∙ ap (above (Some key)) has.left_is ∙ sym (above_further at key entries key_above);
+  left_is = above_further at key (from_head walk.cursor.head has.rest) key_above ∙ ap (above (Some key)) has.left_is ∙ sym (above_further at key entries key_above);
+  among = has.among;
+  part = part_further sizes file at key walk.here entries pages key_above has.part;
 }
+
+-- ---- pages ahead
+
+-- by what calls of `next_part` and `advance` say of pages, where an entry came
+pub walks_on : (old new : Walk) → IsWalk old → IsNextPart old.cursor old.here new.here → (old.cursor.behind ≡ [] → 0 < old.cursor.pages → old.cursor.pages ≡ new.cursor.pages + 1)
+    → (old.cursor.behind ≢ [] → new.cursor.pages ≡ old.cursor.pages) → new.cursor.pages ≤ old.cursor.pages → IsWalk new × (new.here.pages ≤ old.here.pages)
+walks_on old new h1 h2 h3 h4 h5 = grind (arith, common_steps, nat_tests)
+
+-- and at the end
+pub walks_ended : (old new : Walk) → new.here ≡ empty_component → new.cursor.pages ≡ 0 → IsWalk new × (new.here.pages ≤ old.here.pages)
+walks_ended old new here none =
+    let no_pages : new.here.pages ≡ 0 = ap (λ (p : Component). p.pages) here in
+    (record { paged = λ no. here; within = omega (arith, none, no_pages); one = omega (arith, none, no_pages) }, omega (arith, no_pages))
 
 -- ---- counts
 

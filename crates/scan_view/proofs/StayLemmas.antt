@@ -60,13 +60,14 @@ held_by_others sizes old new seat other (Some hold) (Some rows) file keeps diffe
 
 -- and what is left of them once the first are given
 pub next_pinned : (sizes : Sizes) (pins : List Members) (seat : ℕ) (rows : List Row) (n : ℕ) (old new : HoldState) (file later : List ℕ) (result : Result ⊤ Broken) (given : List Row)
-    → ((before : HasRows sizes old rows file) → (result ≡ Ok tt) × (given ≡ take n rows) × (now : HasRows sizes new (drop n rows) later) × (pages_held now ≡ pages_held before))
+    → ((before : HasRows sizes old rows file) → (result ≡ Ok tt) × (given ≡ take n rows) × (now : HasRows sizes new (drop n rows) later)
+    × ((page : ℕ) → Contains (pages_held now) page → Contains (pages_held before) page))
     → HasPinned sizes pins seat old rows file → (result ≡ Ok tt) × (given ≡ take n rows) × HasPinned sizes pins seat new (drop n rows) later
 next_pinned sizes pins seat rows n old new file later result given gives held =
     let came = gives held.has in (
       came.0,
       came.1,
-      record { has = came.2; pinned = λ page among. held.pinned page (subst (λ (ns : List ℕ). Contains ns page) came.3 among) },
+      record { has = came.2; pinned = λ page among. held.pinned page (came.3 page among) },
     )
 
 -- ---- runs that are written

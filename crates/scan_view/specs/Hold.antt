@@ -12,8 +12,8 @@ use Rattle.record_delta.specs.Entries.{Entries, AreSorted, folded_over, is_above
 use Rattle.page_file.specs.Component.{numbers_of, HasList}
 use Rattle.tree_machine.specs.Lists.{settled_pairs}
 
--- The range, which has low and hasn't high; the records that the memory table had of it; the components of that moment; and the place:
--- rows up to this key were given.
+-- The range, which has low and hasn't high; the records that the memory table had of it; the place: rows up to this key were given; and of each
+-- component of that moment the part that is still ahead, all of it at first. What stands before a part isn't above the place.
 pub record HoldState : Type 0 where
   pub low : Key
   pub high : Key

@@ -7,8 +7,10 @@ use Rattle.blsm_model.specs.declared.row.Row.{Row}
 use Rattle.blsm_model.specs.Keys.{key_cmp}
 use Rattle.blsm_model.specs.Sizes.{Sizes}
 use Rattle.record_delta.specs.Entries.{Entries, AreSorted, above}
-use Rattle.run_cursor.specs.Cursor.{CursorState, IsDamageAt}
+use Rattle.page_file.specs.Component.{HasList}
+use Rattle.run_cursor.specs.Cursor.{CursorState, started, IsDamageAt}
 use Rattle.run_cursor.specs.Given.{HasGiven}
+use Rattle.blsm_model.specs.Components.{empty_component}
 use Rattle.scan_view.specs.Hold.{HoldState, rows_above}
 
 -- what the three components have, or so much of it as was read
@@ -51,6 +53,34 @@ pub record AreTold (sizes : Sizes) (n : ℕ) (hold : HoldState) (new : Option Ke
   pub begin : BeginWith sizes hold.c1 hold.c1x hold.c2 read file
   pub first : (all : Contents) → AreFronts hold.c1 hold.c1x hold.c2 read all → rows ≡ take n (rows_by hold.place hold all)
   pub others : (all : Contents) → AreFronts hold.c1 hold.c1x hold.c2 read all → rows_by new hold all ≡ drop n (rows_by hold.place hold all)
+
+-- ---- what is ahead
+
+-- In this file the component begins with some entries, none of them above the key, and the part is what comes behind them, from the page on that is to
+-- come next.
+pub record IsBehind (sizes : Sizes) (run : Component) (at : Option Key) (part : Component) (file : List ℕ) : Type 0 where
+  pub cursor : CursorState
+  pub given : Entries
+  pub begins : HasGiven sizes run cursor given file
+  pub passed : above at given ≡ []
+  pub part_is : started part ≡ record cursor { head = None }
+
+-- In this file the component reads as entries of which none is above the key, and nothing is behind them.
+pub record IsThrough (sizes : Sizes) (run : Component) (at : Option Key) (part : Component) (file : List ℕ) : Type 0 where
+  pub all : Entries
+  pub list : HasList sizes run all file
+  pub passed : above at all ≡ []
+  pub part_is : part ≡ empty_component
+
+-- in this file the part is what the component has from one of its pages on, and what stands before that was read, and isn't above the key
+abbrev pub IsPartOf : Sizes → Component → Option Key → Component → List ℕ → Type 0
+IsPartOf sizes run at part file = IsBehind sizes run at part file ⊎ IsThrough sizes run at part file
+
+-- and so each of a hold's three parts is of the one before
+pub record ArePartsOf (sizes : Sizes) (old new : HoldState) (file : List ℕ) : Type 0 where
+  pub c1 : IsPartOf sizes old.c1 new.place new.c1 file
+  pub c1x : IsPartOf sizes old.c1x new.place new.c1x file
+  pub c2 : IsPartOf sizes old.c2 new.place new.c2 file
 
 -- ---- what is damaged
 

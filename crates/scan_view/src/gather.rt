@@ -8,7 +8,7 @@ ghost use Rattle.record_delta.specs.Entries.{Entries, AreSorted, above};
 ghost use Rattle.page_file.specs.File.{Reads};
 ghost use Rattle.scan_view.specs.Hold.{AreGiven, rows_of, view_of};
 ghost use Rattle.scan_view.specs.Left.{IsFile};
-ghost use Rattle.scan_view.specs.Scan.{IsScan, HaveRead, pages_left};
+ghost use Rattle.scan_view.specs.Scan.{IsScan, HaveRead, AreWalks, AreFurther, pages_left};
 ghost use Rattle.scan_view.specs.Told.{Contents, AreTold, IsNeeded, is_before as is_before_end};
 
 use crate::RowRoom;
@@ -64,17 +64,21 @@ pub fn gather<D: Disk>(
     requires few { n ≤ most_rows }
     requires sorted { AreSorted memory.now }
     requires length { IsTrue (D.state disk.old).tells_bytes → length (D.state disk.old).bytes ≡ file_length geo.now }
-    ensures rows { (file : List ℕ) (xs ys zs : Entries) → IsFile file (D.state disk.old) → IsScan geo.now scan.old xs ys zs file
+    ensures rows { (file : List ℕ) (xs ys zs : Entries) (pages : List ℕ) → IsFile file (D.state disk.old) → IsScan geo.now scan.old xs ys zs pages file
         → result ≢ Err Broken.Fault
         → (result ≡ Ok tt) × (rows.new ≡ take n (rows_of low.now high.now (above scan.old.at (view_of memory.now xs ys zs))))
-        × (rows_of low.now high.now (above scan.new.at (view_of memory.now xs ys zs)) ≡ drop n (rows_of low.now high.now (above scan.old.at (view_of memory.now xs ys zs)))) }
+        × (rows_of low.now high.now (above scan.new.at (view_of memory.now xs ys zs)) ≡ drop n (rows_of low.now high.now (above scan.old.at (view_of memory.now xs ys zs))))
+        × IsScan geo.now scan.new xs ys zs pages file }
     ensures given { OnOk result (AreGiven n low.now high.now scan.old.at scan.new.at rows.new) }
     // Whatever the components read as, so it is by what was read of them; and a page is named as damaged only where the next row can't be told without it.
     ensures told { (file : List ℕ) (c1 c1x c2 : Component) (read : Contents) → IsFile file (D.state disk.old) → HaveRead geo.now c1 c1x c2 scan.old read file
-        → OnOk result (AreTold geo.now n (record { low = low.now; high = high.now; memory = memory.now; c1 = c1; c1x = c1x; c2 = c2; place = scan.old.at }) scan.new.at rows.new file) }
+        → OnOk result (AreTold geo.now n (record { low = low.now; high = high.now; memory = memory.now; c1 = c1; c1x = c1x; c2 = c2; place = scan.old.at }) scan.new.at rows.new file
+        × (now : Contents) × HaveRead geo.now c1 c1x c2 scan.new now file) }
     ensures damaged { (k : ℕ) (file : List ℕ) (c1 c1x c2 : Component) (read : Contents) → result ≡ Err (Broken.Damaged k) → IsFile file (D.state disk.old)
         → HaveRead geo.now c1 c1x c2 scan.old read file
         → IsNeeded geo.now n (record { low = low.now; high = high.now; memory = memory.now; c1 = c1; c1x = c1x; c2 = c2; place = scan.old.at }) k file }
+    ensures walks { AreWalks scan.old → OnOk result (AreFurther scan.old scan.new) }
+    ensures one_a_page { OnOk result ((D.state disk.new).clock + pages_left scan.new ≤ (D.state disk.old).clock + pages_left scan.old) }
     ensures reads { Reads (file_length geo.now) (pages_left scan.old) result (D.state disk.old) (D.state disk.new) }
 {
     rows.clear();

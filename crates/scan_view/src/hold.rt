@@ -1,5 +1,6 @@
 //! A snapshot of a range of keys.
-ghost use Rattle.std.specs.Prelude.{◌≡◌, ◌≢◌, ◌+◌, ◌++◌, ◌<◌, ◌≤◌, ℕ, List, Ok, Err, length, take, drop, IsTrue, IsErr, IfOk, OnOk, OnErr};
+ghost use Rattle.std.specs.List.{Contains};
+ghost use Rattle.std.specs.Prelude.{◌≡◌, ◌≢◌, ◌+◌, ◌++◌, ◌<◌, ◌≤◌, ℕ, List, Some, Ok, Err, length, take, drop, IsTrue, IsErr, IfOk, OnOk, OnErr};
 ghost use Rattle.blsm_model.specs.declared.row.Row.{Row};
 ghost use Rattle.blsm_model.specs.Format.{most_rows};
 ghost use Rattle.blsm_model.specs.Geometry.{file_length};
@@ -10,7 +11,8 @@ ghost use Rattle.page_file.specs.File.{Reads};
 ghost use Rattle.tree_machine.specs.Lists.{rows_in};
 ghost use Rattle.scan_view.specs.Hold.{held_from, IsEmptyOrPaged, HasRows, AreGiven, pages_held};
 ghost use Rattle.scan_view.specs.Pins.{Pins};
-ghost use Rattle.scan_view.specs.Told.{AreTold, IsNeeded};
+ghost use Rattle.scan_view.specs.Holds.{pages_behind};
+ghost use Rattle.scan_view.specs.Told.{AreTold, ArePartsOf, IsNeeded};
 
 use crate::RowRoom;
 use crate::copy::{copy_of, copy_range};
@@ -27,7 +29,7 @@ use std::alloc::Global;
 use std::marker::Model;
 
 /// A snapshot of the rows of a range, and how far they were given. Contracts see the range, the memory table's records of it, the
-/// three components, and the place: rows up to this key were given.
+/// place: rows up to this key were given; and of each of the three components the part that is still ahead, as a component of its own.
 #[derive(Debug, Drop)]
 pub struct Hold {
     low: Key,
@@ -94,13 +96,14 @@ impl Hold {
         })
     }
 
-    /// Fills the room with the next n rows, or with as many as are left, from where the last call ended. It goes through the components from
-    /// their first pages on, with one call of the disk for each page at most, which reads, and takes no memory; once a key was passed that
-    /// isn't below the range's end it reads none. After an `Err` the place stays, and the room may have any rows.
+    /// Fills the room with the next n rows, or with as many as are left, from where the last call ended. It goes on through the components from
+    /// the pages on at which that call ended, with one call of the disk for each page at most, which reads, and takes no memory; once a key was
+    /// passed that isn't below the range's end it reads none. After an `Err` the place stays, and what is ahead, so that the next call reads the
+    /// same pages again; the room may have any rows.
     ///
     /// `Damaged` names a page of a component that isn't valid or doesn't go on, and without which the next row can't be told; it never comes
     /// where the components read as lists. `Fault` comes only where the disk's count of faults rose.
-    /// A clause each for the rows of an honest disk, for what any pages tell, for the place, and for the calls.
+    /// A clause each for the rows of an honest disk, for what any pages tell, for the place, for what is ahead, and for the calls.
     pub fn next_rows<D: Disk>(
         &mut self,
         disk: &mut D,
@@ -113,15 +116,20 @@ impl Hold {
         // Of the rows that it has to give it gives the first n, and has the others left.
         ensures rows { (rows : List Row) → IsTrue (D.state disk.old).is_honest → (before : HasRows geo.now self.old rows (D.state disk.old).bytes)
             → result ≢ Err Broken.Fault
-            → (result ≡ Ok tt) × (room.new ≡ take n rows) × (now : HasRows geo.now self.new (drop n rows) (D.state disk.new).bytes) × (pages_held now ≡ pages_held before) }
+            → (result ≡ Ok tt) × (room.new ≡ take n rows) × (now : HasRows geo.now self.new (drop n rows) (D.state disk.new).bytes)
+            × ((page : ℕ) → Contains (pages_held now) page → Contains (pages_held before) page) }
         ensures given { OnOk result (AreGiven n self.old.low self.old.high self.old.place self.new.place room.new) }
         // Whatever the components read as, so it is by what was read of them; and a page is named as damaged only where the next row can't be told
         // without it.
-        ensures told { IsTrue (D.state disk.old).is_honest → OnOk result (AreTold geo.now n self.old self.new.place room.new (D.state disk.old).bytes) }
+        ensures told { IsTrue (D.state disk.old).is_honest → OnOk result (AreTold geo.now n self.old self.new.place room.new (D.state disk.old).bytes
+            × ArePartsOf geo.now self.old self.new (D.state disk.old).bytes) }
         ensures damaged { (k : ℕ) → result ≡ Err (Broken.Damaged k) → IsTrue (D.state disk.old).is_honest
             → IsNeeded geo.now n self.old k (D.state disk.old).bytes }
-        ensures moves { self.new ≡ record self.old { place = self.new.place } }
+        ensures moves { self.new ≡ record self.old { c1 = self.new.c1; c1x = self.new.c1x; c2 = self.new.c2; place = self.new.place } }
         ensures kept { IsErr result → self.new ≡ self.old }
+        // On any disk it has no more pages ahead than before, and its calls are at most those that it passed, and three.
+        ensures ahead { pages_behind (Some self.new) ≤ pages_behind (Some self.old) }
+        ensures passes { OnOk result ((D.state disk.new).clock + pages_behind (Some self.new) ≤ (D.state disk.old).clock + pages_behind (Some self.old) + 3) }
         ensures reads { Reads (file_length geo.now) (self.old.c1.pages + self.old.c1x.pages + self.old.c2.pages) result (D.state disk.old) (D.state disk.new) }
     {
         let mut scan = Scan::start(&self.c1, &self.c1x, &self.c2, copy_of(&self.place));
@@ -135,6 +143,9 @@ impl Hold {
             n,
             room,
         )?;
+        self.c1 = scan.c1.here;
+        self.c1x = scan.c1x.here;
+        self.c2 = scan.c2.here;
         self.place = scan.at;
         Ok(())
     }

@@ -1,5 +1,5 @@
 //! The holds of all callers.
-ghost use Rattle.std.specs.Prelude.{◌≡◌, ◌≢◌, ◌<◌, ◌≤◌, ℕ, List, Option, Some, None, Ok, Err, IsTrue, IsErr, IfOk, OnOk, is_some, length, replicate, slice_index_or, slice_set, take, drop};
+ghost use Rattle.std.specs.Prelude.{◌≡◌, ◌≢◌, ◌+◌, ◌<◌, ◌≤◌, ℕ, List, Option, Some, None, Ok, Err, IsTrue, IsErr, IfOk, OnOk, is_some, length, replicate, slice_index_or, slice_set, take, drop};
 ghost use Rattle.blsm_model.specs.declared.row.Row.{Row};
 ghost use Rattle.blsm_model.specs.Format.{callers, most_rows};
 ghost use Rattle.blsm_model.specs.Geometry.{file_length};
@@ -93,7 +93,8 @@ impl Holds {
         ensures damaged { (k : ℕ) → result ≡ Err (Broken.Damaged k) → IsTrue (D.state disk.old).is_honest → IsDamageBehind geo.now n (hold_of seat self.old) k (D.state disk.old).bytes }
         ensures others { (other : ℕ) → other ≢ seat → hold_of other self.new ≡ hold_of other self.old }
         ensures still { IsTrue (is_some (hold_of seat self.new)) }
-        ensures pages { pages_behind (hold_of seat self.new) ≡ pages_behind (hold_of seat self.old) }
+        ensures ahead { pages_behind (hold_of seat self.new) ≤ pages_behind (hold_of seat self.old) }
+        ensures passes { OnOk result ((D.state disk.new).clock + pages_behind (hold_of seat self.new) ≤ (D.state disk.old).clock + pages_behind (hold_of seat self.old) + 3) }
         ensures kept { IsErr result → self.new ≡ self.old }
         ensures reads { Reads (file_length geo.now) (pages_behind (hold_of seat self.old)) result (D.state disk.old) (D.state disk.new) }
     {

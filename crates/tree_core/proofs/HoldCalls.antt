@@ -38,7 +38,7 @@ use Rattle.tree_core.specs.declared.answers.Holding.TheVariants as holding
 use Rattle.tree_core.specs.declared.answers.Release.{Release}
 use Rattle.tree_core.specs.Answers.{reply_to_drop, reply_to_hold, reply_to_next}
 use Rattle.tree_core.specs.Calls.{GoesOnAs, HoldsRange, LetsGo, ReadsOn}
-use Rattle.tree_core.specs.Causes.{DropsBecause, HoldsBecause, ScansBecause, ScansNone}
+use Rattle.tree_core.specs.Causes.{DropsBecause, HoldsBecause, PassesPages, ScansBecause, ScansNone}
 use Rattle.tree_core.specs.Core.{CoreState, IsCore}
 use Rattle.tree_core.specs.HoldMoves.{MovesHold, undisked}
 use Rattle.tree_core.specs.Holds.{AreFew, StandsWhole}
@@ -100,11 +100,12 @@ hold_does {D} {mid} {after} state seat low high answer old b core timed can move
 pub next_does : {D : Type 0} {after : List (Option HoldState)} (state : D → DiskState) (seat n : ℕ) (answer : Scanned) (old : CoreState D) (disk : D) (b : BookState) → IsCore old.held (state old.disk) → AreFew old.held.runs.sizes old.holds
     → IsTimed (state disk) → may_note_in seat n old.held.book ≡ true → 0 < n → n ≤ most_rows → ((other : ℕ) → other ≢ seat → hold_of other after ≡ hold_of other old.holds)
     → ScansBecause answer seat n (undisked old.held old.holds) (undisked old.held after) (state old.disk) (state disk) → (answer ≡ scanned.Fault → (state disk).faults < 2 ^ 64) → GivesRows seat n answer old after (state old.disk) (state disk)
-    → OnlyReads (file_length old.held.runs.sizes) (pages_behind (hold_of seat old.holds)) (state old.disk) (state disk) → (ScansNone answer → disk ≡ old.disk)
+    → OnlyReads (file_length old.held.runs.sizes) (pages_behind (hold_of seat old.holds)) (state old.disk) (state disk)
+    → PassesPages answer (hold_of seat old.holds) (hold_of seat after) (state old.disk) (state disk) → (ScansNone answer → disk ≡ old.disk)
     → b ≡ noted_in seat (op.Next n) (reply_to_next answer) old.held.book → ReadsOn state seat n answer old (record { disk = disk; held = with_book b old.held; holds = after })
-next_does {D} {after} state seat n answer old disk b core few timed note some within others because counted gives reads untouched is =
+next_does {D} {after} state seat n answer old disk b core few timed note some within others because counted gives reads passes untouched is =
     subst (λ (x : BookState). ReadsOn state seat n answer old (record { disk = disk; held = with_book x old.held; holds = after })) (sym is)
-    (record { goes = goes; cause = next_cause old.held after answer seat n old disk noted (state old.disk) (state disk) because; book = refl; others = leaves_others old disk noted moves; runs = refl; few = few seat; reads = reads; untouched = untouched })
+    (record { goes = goes; cause = next_cause old.held after answer seat n old disk noted (state old.disk) (state disk) because; book = refl; others = leaves_others old disk noted moves; runs = refl; few = few seat; reads = reads; passes = passes; untouched = untouched })
   where
     noted : BookState
     noted = noted_in seat (op.Next n) (reply_to_next answer) old.held.book

@@ -23,7 +23,7 @@ use Rattle.tree_runs.specs.Lookups.{HidesOlder}
 use Rattle.tree_runs.specs.Runs.{page_share}
 use Rattle.core_moves.specs.Moves.{with_book}
 use Rattle.tree_core.specs.Answers.{answer_to_pay, newest_in, reply_to_drop, reply_to_get, reply_to_hold, reply_to_next, reply_to_write}
-use Rattle.tree_core.specs.Causes.{AdmitsBecause, CallsNone, CountsFilters, DropsBecause, FindsBecause, HasBegun, HoldsBecause, LooksNone, PaysBecause, PaysNone, ScansBecause, ScansNone, TurnsBecause, TurnsNone, calls_to_admit, IsLookOn}
+use Rattle.tree_core.specs.Causes.{AdmitsBecause, CallsNone, CountsFilters, DropsBecause, FindsBecause, HasBegun, HoldsBecause, LooksNone, PassesPages, PaysBecause, PaysNone, ScansBecause, ScansNone, TurnsBecause, TurnsNone, calls_to_admit, IsLookOn}
 use Rattle.core_pace.specs.Turns.{move_in}
 use Rattle.tree_core.specs.Clock.{EndsAdmitted, LeavesDisk}
 use Rattle.tree_core.specs.Core.{CoreState, HoldsPace, facts_of_held}
@@ -126,6 +126,7 @@ pub record ReadsOn {D : Type 0} (state : D → DiskState) (seat n : ℕ) (answer
   pub runs : new.held.runs ≡ old.held.runs
   pub few : pages_behind (hold_of seat old.holds) ≤ page_share old.held.runs.sizes
   pub reads : OnlyReads (file_length old.held.runs.sizes) (pages_behind (hold_of seat old.holds)) (state old.disk) (state new.disk)
+  pub passes : PassesPages answer (hold_of seat old.holds) (hold_of seat new.holds) (state old.disk) (state new.disk)
   pub untouched : ScansNone answer → new.disk ≡ old.disk
 
 pub record LetsGo {D : Type 0} (state : D → DiskState) (seat : ℕ) (answer : Release) (old new : CoreState D) : Type 0 where

@@ -8,14 +8,15 @@ use Rattle.blsm_model.specs.Geometry.{charge_limit}
 use Rattle.blsm_model.specs.Histories.{writes_of}
 use Rattle.blsm_model.specs.Legal.{total_weight, is_del}
 use Rattle.blsm_model.specs.declared.key.Key.{Key}
+use Rattle.blsm_model.specs.declared.row.Row.{Row}
 use Rattle.blsm_model.specs.declared.row.Value.{Value}
 use Rattle.disk_trait.specs.Disk.{DiskState}
 use Rattle.record_delta.specs.declared.record.Rec.{Rec}
 use Rattle.record_delta.specs.Records.{settled}
 use Rattle.page_space.specs.PageSet.{none_of}
 use Rattle.page_space.specs.Space.{pins_of}
-use Rattle.scan_view.specs.Hold.{held_from}
-use Rattle.scan_view.specs.Holds.{hold_of, AreGivenBy, AreToldBehind, IsDamageBehind}
+use Rattle.scan_view.specs.Hold.{HoldState, held_from}
+use Rattle.scan_view.specs.Holds.{hold_of, pages_behind, AreGivenBy, AreToldBehind, IsDamageBehind}
 use Rattle.gear_sched.specs.declared.Plan.{Plan}
 use Rattle.gear_sched.specs.declared.Plan.TheVariants.{Snow, Deep, Nothing}
 use Rattle.pacing.specs.Steps.{Move, TakeDeep, TakeSnow, Idle}
@@ -223,6 +224,11 @@ ScansBecause (scanned.Damaged page) seat n old new before after =
     × (IsTrue before.is_honest → IsDamageBehind old.held.runs.sizes n (hold_of seat old.holds) page before.bytes)
     × IsTrue (is_some (hold_of seat old.holds))
 ScansBecause (scanned.Stopped why) seat n old new before after = (old.held.book.stopped ≡ Some why) × (new.holds ≡ old.holds) × (after.faults ≡ before.faults)
+
+-- On every disk: where rows are given, the calls are at most the pages that were passed, and three; and no pages come to those that a hold has ahead.
+pub record PassesPages (answer : Scanned) (old new : Option HoldState) (before after : DiskState) : Type 0 where
+  pub ahead : pages_behind new ≤ pages_behind old
+  pub calls : (rows : List Row) → answer ≡ scanned.Rows rows → after.clock + pages_behind new ≤ before.clock + pages_behind old + 3
 
 -- What dropping a hold is due to. Once it is dropped the seat pins nothing.
 abbrev pub DropsBecause : {D : Type 0} → Release → ℕ → CoreState D → CoreState D → Type 0

@@ -21,7 +21,7 @@ ghost use Rattle.core_moves.specs.Needs.{IsOn};
 ghost use Rattle.tree_core.specs.declared.answers.Holding.TheVariants as holding;
 ghost use Rattle.tree_core.specs.Answers.{reply_to_hold, reply_to_next, reply_to_drop};
 ghost use Rattle.tree_core.specs.Calls.{HoldsRange, LetsGo, ReadsOn};
-ghost use Rattle.tree_core.specs.Causes.{HoldsBecause, ScansBecause, DropsBecause, ScansNone};
+ghost use Rattle.tree_core.specs.Causes.{HoldsBecause, PassesPages, ScansBecause, DropsBecause, ScansNone};
 ghost use Rattle.tree_core.specs.Holds.{AreFew};
 ghost use Rattle.tree_core.specs.HoldMoves.{MovesHold, undisked};
 ghost use Rattle.tree_core.specs.Scanned as scanned;
@@ -95,6 +95,7 @@ fn read_on<D: Disk>(
     ensures few { AreFew held.now.runs.sizes holds.old → AreFew held.now.runs.sizes holds.new }
     ensures counted { scanned_by result room.new ≡ scanned.Fault → (D.state disk.new).faults < 2 ^ 64 }
     ensures reads { OnlyReads (file_length held.now.runs.sizes) (pages_behind (hold_of seat holds.old)) (D.state disk.old) (D.state disk.new) }
+    ensures passes { PassesPages (scanned_by result room.new) (hold_of seat holds.old) (hold_of seat holds.new) (D.state disk.old) (D.state disk.new) }
     ensures untouched { ScansNone (scanned_by result room.new) → disk.new ≡ disk.old }
 {
     if let Some(why) = held.book.stopped() {

@@ -9,20 +9,27 @@ use Rattle.record_delta.specs.Entries.{Entries, AreSorted, above, first_of}
 use Rattle.page_file.specs.File.{Reads}
 use Rattle.scan_view.specs.Hold.{AreGiven, rows_of, view_of}
 use Rattle.scan_view.specs.Left.{key_or}
-use Rattle.scan_view.specs.Scan.{pages_left}
+use Rattle.scan_view.specs.Scan.{AreWalks, AreFurther, pages_left}
 use Rattle.scan_view.proofs.LeftLemmas.{not_failed, failed_as, calm_of, one_value, file_on, key_is_ahead, reads_after, reads_err, reads_ok}
 use Rattle.scan_view.proofs.ReadLemmas.{scan_begins, told_by}
 use Rattle.scan_view.proofs.ScanLemmas.{view_sorted}
 use Rattle.scan_view.proofs.RangeLemmas.{rows_behind}
 use Rattle.scan_view.proofs.RowLemmas.{AreSoFar, AreFirst, rows_none, rows_on, first_rows, last_rows, given_none, given_more}
 use Rattle.scan_view.proofs.gather.gather.Goals as goal
-use Rattle.scan_view.proofs.gather.gather.Goals.{After-next, In_default, Else-is_before, After-loop-scan}
+use Rattle.scan_view.proofs.gather.gather.Goals.{After-next, In_ok-key, In_default, Else-is_before, After-loop-scan}
 
 -- one entry more
 reads_on : (g : _) (c : After-next g) → Reads (file_length c.args.geo.now) (pages_left c.args.scan.now) c.next.result (g.D.Disk.state c.args.disk.now) (g.D.Disk.state c.next.new.disk)
 reads_on g c =
     let inv = c.loop-scan.invariant in
     reads_after (pages_left c.args.scan.now) (g.met.D.Disk.timed c.loop-scan.disk) inv.stands inv.effect c.next.ensures.reads (omega (arith, inv.one_a_page, c.next.ensures.reads.effect.effect.calls))
+
+-- the walks have gone on
+further_on : (g : _) (c : In_ok-key g) → AreWalks c.args.scan.now → AreFurther c.args.scan.now c.next.new.self
+further_on g c walks =
+    let before = c.loop-scan.invariant.walks walks in
+    let on = c.in_ok-key.ensures.walks before.0 in
+    (on.0, omega (arith, on.1, before.1))
 
 -- nothing is left
 none_left : (g : _) (c : In_default g) (view : Entries) → AreSoFar c.args.low.now c.args.high.now c.args.scan.now.at c.loop-scan.scan.at c.loop-scan.rows view → first_of (above c.loop-scan.scan.at view) ≡ None
@@ -54,7 +61,8 @@ loop-scan-init g c = record {
   effect = only_reads_start (g.D.Disk.state c.args.disk.now) (g.met.D.Disk.timed c.args.disk.now);
   one_a_page = omega arith;
   stands = refl;
-  list = λ file xs ys zs is scan.
+  walks = λ walks. (walks, omega arith);
+  list = λ file xs ys zs pages is scan.
       (scan, sym (ap (λ (l : List Row). l ++ rows_of c.args.low.now c.args.high.now (above c.args.scan.now.at (view_of c.args.memory.now xs ys zs))) c.clear.ensures));
   read = λ file c1 c1x c2 read is have. (
     record { now = read; read = have; onward = λ all fronts. fronts },
@@ -63,9 +71,9 @@ loop-scan-init g c = record {
 }
 
 pub returns-in_err-key-clause-rows : goal.returns-in_err-key-clause-rows
-returns-in_err-key-clause-rows g c = λ file xs ys zs is scan other.
+returns-in_err-key-clause-rows g c = λ file xs ys zs pages is scan other.
     let inv = c.loop-scan.invariant in
-    absurd (not_failed c.from_residual.ensures.1 c.in_err-key.was other (λ calm. (c.next.ensures.list file xs ys zs (file_on inv.effect is) (inv.list file xs ys zs is scan).0 calm).0))
+    absurd (not_failed c.from_residual.ensures.1 c.in_err-key.was other (λ calm. (c.next.ensures.list file xs ys zs pages (file_on inv.effect is) (inv.list file xs ys zs pages is scan).0 calm).0))
 
 pub returns-in_err-key-clause-damaged : goal.returns-in_err-key-clause-damaged
 returns-in_err-key-clause-damaged g c = λ k file run run_x run_2 read damaged is have.
@@ -86,21 +94,25 @@ pub returns-in_err-key-clause-reads : goal.returns-in_err-key-clause-reads
 returns-in_err-key-clause-reads g c = reads_err c.from_residual.ensures.1 c.in_err-key.was (reads_on g (goal.at.returns-in_err-key-clause-reads g c).After-next)
 
 pub returns-in_default-clause-rows : goal.returns-in_default-clause-rows
-returns-in_default-clause-rows g c = λ file xs ys zs is scan other.
+returns-in_default-clause-rows g c = λ file xs ys zs pages is scan other.
     let inv = c.loop-scan.invariant in
-    let now = inv.list file xs ys zs is scan in
-    let came = c.next.ensures.list file xs ys zs (file_on inv.effect is) now.0 (calm_of c.next.result _ c.in_ok-key.was) in
+    let now = inv.list file xs ys zs pages is scan in
+    let came = c.next.ensures.list file xs ys zs pages (file_on inv.effect is) now.0 (calm_of c.next.result _ c.in_ok-key.was) in
     let none = one_value c.next.result _ _ came.0 (c.in_ok-key.was ∙ ap Ok c.in_default.is) in
     let rows = none_left g (goal.at.returns-in_default-clause-rows g c).In_default (view_of c.args.memory.now xs ys zs) now.1 none in
-    (refl, rows.0, rows.1)
+    (refl, rows.0, rows.1, came.1)
 
 pub returns-in_default-clause-told : goal.returns-in_default-clause-told
 returns-in_default-clause-told g c = λ file run run_x run_2 read is have.
     let inv = c.loop-scan.invariant in
     let was = inv.read file run run_x run_2 read is have in
     let now = c.in_ok-key.ensures.read file run run_x run_2 was.0.now (file_on inv.effect is) was.0.read in
-    told_by now.0 (λ all fronts.
-    none_left g (goal.at.returns-in_default-clause-told g c).In_default (view_of c.args.memory.now all.c1 all.c1x all.c2) (was.1 all (now.0.onward all fronts)) (sym (now.1 all fronts) ∙ c.in_default.is))
+    (
+      told_by now.0 (λ all fronts.
+      none_left g (goal.at.returns-in_default-clause-told g c).In_default (view_of c.args.memory.now all.c1 all.c1x all.c2) (was.1 all (now.0.onward all fronts)) (sym (now.1 all fronts) ∙ c.in_default.is)),
+      now.0.now,
+      now.0.read,
+    )
 
 pub returns-in_default-clause-reads : goal.returns-in_default-clause-reads
 returns-in_default-clause-reads g c = reads_ok c.in_ok-key.was (reads_on g (goal.at.returns-in_default-clause-reads g c).After-next)
@@ -124,9 +136,10 @@ loop-scan-preserved g c =
       effect = reads.effect;
       one_a_page = omega (arith, inv.one_a_page, c.in_ok-key.ensures.one_a_page);
       stands = reads.stands (calm_of c.next.result _ c.in_ok-key.was);
-      list = λ file xs ys zs is scan.
-          let now = inv.list file xs ys zs is scan in
-          let came = c.next.ensures.list file xs ys zs (file_on inv.effect is) now.0 (calm_of c.next.result _ c.in_ok-key.was) in
+      walks = further_on g (goal.at.loop-scan-preserved g c).In_ok-key;
+      list = λ file xs ys zs pages is scan.
+          let now = inv.list file xs ys zs pages is scan in
+          let came = c.next.ensures.list file xs ys zs pages (file_on inv.effect is) now.0 (calm_of c.next.result _ c.in_ok-key.was) in
           let first = one_value c.next.result _ _ came.0 (c.in_ok-key.was ∙ ap Ok c.in-Some.is) in
           (came.1, rows_on low high old at _ c.loop-scan.rows _ (view_of memory xs ys zs) e (view_sorted memory xs ys zs now.0.sorted_c2) first now.1 c.put_row.ensures at_is);
       read = λ file run run_x run_2 read is have.
@@ -139,25 +152,36 @@ loop-scan-preserved g c =
     }
 
 pub returns-else-is_before-clause-rows : goal.returns-else-is_before-clause-rows
-returns-else-is_before-clause-rows g c = λ file xs ys zs is scan other.
-    let now = c.loop-scan.invariant.list file xs ys zs is scan in
+returns-else-is_before-clause-rows g c = λ file xs ys zs pages is scan other.
+    let now = c.loop-scan.invariant.list file xs ys zs pages is scan in
     let rows = none_inside g (goal.at.returns-else-is_before-clause-rows g c).Else-is_before (view_of c.args.memory.now xs ys zs) (view_sorted c.args.memory.now xs ys zs now.0.sorted_c2) now.1 in
-    (refl, rows.0, rows.1)
+    (refl, rows.0, rows.1, now.0)
 
 pub returns-else-is_before-clause-told : goal.returns-else-is_before-clause-told
 returns-else-is_before-clause-told g c = λ file run run_x run_2 read is have.
     let memory = c.args.memory.now in
     let now = c.loop-scan.invariant.read file run run_x run_2 read is have in
-    told_by now.0 (λ all fronts.
-    none_inside g (goal.at.returns-else-is_before-clause-told g c).Else-is_before (view_of memory all.c1 all.c1x all.c2) (view_sorted memory all.c1 all.c1x all.c2 fronts.c2.sorted) (now.1 all fronts))
+    (
+      told_by now.0 (λ all fronts.
+      none_inside g (goal.at.returns-else-is_before-clause-told g c).Else-is_before (view_of memory all.c1 all.c1x all.c2) (view_sorted memory all.c1 all.c1x all.c2 fronts.c2.sorted) (now.1 all fronts)),
+      now.0.now,
+      now.0.read,
+    )
 
 pub returns-after-loop-scan-clause-rows : goal.returns-after-loop-scan-clause-rows
-returns-after-loop-scan-clause-rows g c = λ file xs ys zs is scan other.
-    let now = c.loop-scan.invariant.list file xs ys zs is scan in
+returns-after-loop-scan-clause-rows g c = λ file xs ys zs pages is scan other.
+    let now = c.loop-scan.invariant.list file xs ys zs pages is scan in
     let rows = filled g (goal.at.returns-after-loop-scan-clause-rows g c).After-loop-scan (view_of c.args.memory.now xs ys zs) now.1 in
-    (refl, rows.0, rows.1)
+    (refl, rows.0, rows.1, now.0)
 
 pub returns-after-loop-scan-clause-told : goal.returns-after-loop-scan-clause-told
 returns-after-loop-scan-clause-told g c = λ file run run_x run_2 read is have.
     let now = c.loop-scan.invariant.read file run run_x run_2 read is have in
-    told_by now.0 (λ all fronts. filled g (goal.at.returns-after-loop-scan-clause-told g c).After-loop-scan (view_of c.args.memory.now all.c1 all.c1x all.c2) (now.1 all fronts))
+    (
+      told_by now.0 (λ all fronts. filled g (goal.at.returns-after-loop-scan-clause-told g c).After-loop-scan (view_of c.args.memory.now all.c1 all.c1x all.c2) (now.1 all fronts)),
+      now.0.now,
+      now.0.read,
+    )
+
+pub returns-in_default-clause-walks : goal.returns-in_default-clause-walks
+returns-in_default-clause-walks g c = further_on g (goal.at.returns-in_default-clause-walks g c).In_ok-key

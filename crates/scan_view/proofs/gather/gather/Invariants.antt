@@ -5,7 +5,7 @@ use Rattle.disk_trait.specs.Reads.{OnlyReads}
 use Rattle.record_delta.specs.Entries.{Entries, above}
 use Rattle.scan_view.specs.Hold.{AreGiven, rows_of, view_of}
 use Rattle.scan_view.specs.Left.{IsFile}
-use Rattle.scan_view.specs.Scan.{IsScan, HaveRead, HaveReadOn, pages_left, all_left}
+use Rattle.scan_view.specs.Scan.{IsScan, HaveRead, HaveReadOn, AreWalks, AreFurther, pages_left, all_left}
 use Rattle.scan_view.specs.Told.{Contents, AreFronts}
 use Rattle.scan_view.proofs.gather.gather.Given as goal
 
@@ -16,8 +16,9 @@ invariant-loop-scan g l = record {
   effect : OnlyReads (file_length l.geo) (pages_left l.fn.scan) (g.D.Disk.state l.fn.disk) (g.D.Disk.state l.disk);
   one_a_page : (g.D.Disk.state l.disk).clock + pages_left l.scan ≤ (g.D.Disk.state l.fn.disk).clock + pages_left l.fn.scan;
   stands : (g.D.Disk.state l.disk).faults ≡ (g.D.Disk.state l.fn.disk).faults;
-  list : (file : List ℕ) (xs ys zs : Entries) → IsFile file (g.D.Disk.state l.fn.disk) → IsScan l.geo l.fn.scan xs ys zs file
-      → IsScan l.geo l.scan xs ys zs file
+  walks : AreWalks l.fn.scan → AreFurther l.fn.scan l.scan;
+  list : (file : List ℕ) (xs ys zs : Entries) (pages : List ℕ) → IsFile file (g.D.Disk.state l.fn.disk) → IsScan l.geo l.fn.scan xs ys zs pages file
+      → IsScan l.geo l.scan xs ys zs pages file
       × (rows_of l.low l.high (above l.fn.scan.at (view_of l.memory xs ys zs)) ≡ l.rows ++ rows_of l.low l.high (above l.scan.at (view_of l.memory xs ys zs)));
   read : (file : List ℕ) (c1 c1x c2 : Component) (read : Contents) → IsFile file (g.D.Disk.state l.fn.disk) → HaveRead l.geo c1 c1x c2 l.fn.scan read file
       → (on : HaveReadOn l.geo c1 c1x c2 l.scan read file)

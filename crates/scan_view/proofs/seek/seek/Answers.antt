@@ -1,15 +1,21 @@
-use Rattle.std.proofs.Common.{rules, ◌≡◌, ◌≢◌, ◌∙◌, ◌+◌, ◌≤◌, ℕ, List, Ok, Err, inl, inr, refl, sym, subst, arith}
+use Rattle.std.proofs.Common.{rules, ◌≡◌, ◌≢◌, ◌∙◌, ◌⊎◌, ◌+◌, ◌≤◌, ℕ, List, Option, None, Ok, Err, inl, inr, refl, sym, subst, arith}
 use Rattle.std.proofs.lemmas.Grind.{common_steps}
 use Rattle.std.proofs.lemmas.Bool.Decides.{nat_tests}
 use Rattle.disk_trait.proofs.ReadLemmas.{only_reads_start}
 use Rattle.blsm_model.specs.declared.component.Component.{Component}
+use Rattle.blsm_model.specs.Components.{empty_component}
+use Rattle.blsm_model.specs.declared.key.Key.{Key}
+use Rattle.record_delta.specs.declared.record.Rec.{Rec}
 use Rattle.blsm_model.specs.Geometry.{file_length}
 use Rattle.page_file.specs.File.{Reads}
 use Rattle.page_file.specs.declared.file.Broken.TheVariants.{Fault}
 use Rattle.record_delta.specs.Entries.{Entries}
-use Rattle.run_cursor.specs.Cursor.{IsDamageAt}
+use Rattle.run_cursor.specs.declared.walk.Walk.{Walk}
+use Rattle.run_cursor.specs.Cursor.{CursorState, IsDamageAt}
+use Rattle.run_cursor.specs.Given.{HasGivenMore}
+use Rattle.run_cursor.specs.Part.{IsNextPart}
 use Rattle.scan_view.specs.Left.{IsFile, HasLeft, HasRead, HasReadOn}
-use Rattle.scan_view.proofs.LeftLemmas.{not_failed, failed_as, calm_of, file_on, advance_left, head_first, at_end, count_falls, reads_after, reads_err, reads_ok}
+use Rattle.scan_view.proofs.LeftLemmas.{not_failed, failed_as, calm_of, file_on, advance_left, head_first, left_ended, walks_on, walks_ended, at_end, count_falls, reads_after, reads_err, reads_ok, Ends}
 use Rattle.scan_view.proofs.ReadLemmas.{stale_none, advance_read, read_first}
 use Rattle.scan_view.proofs.seek.seek.Goals as goal
 use Rattle.scan_view.proofs.seek.seek.Goals.{After-advance, In_ok-advance}
@@ -20,96 +26,121 @@ few_calls pages all old mid new so_far one none = grind (arith, common_steps, na
 
 -- ---- one call of `advance` more
 
-reads_on : (g : _) (c : After-advance g) → Reads (file_length c.args.geo.now) c.args.cursor.now.pages c.advance.result (g.D.Disk.state c.args.disk.now) (g.D.Disk.state c.advance.new.disk)
+-- the walk behind it, in the part where the entry stands that it came to
+abbrev on_part : (g : _) (c : After-advance g) → Walk
+on_part g c = record { cursor = c.advance.new.self; here = c.next_part-part.result }
+
+reads_on : (g : _) (c : After-advance g) → Reads (file_length c.args.geo.now) c.args.walk.now.cursor.pages c.advance.result (g.D.Disk.state c.args.disk.now) (g.D.Disk.state c.advance.new.disk)
 reads_on g c =
-    let inv = c.loop-cursor.invariant in
-    reads_after c.args.cursor.now.pages (g.met.D.Disk.timed c.loop-cursor.disk) inv.stands inv.effect c.advance.ensures.reads
+    let inv = c.loop-walk.invariant in
+    reads_after c.args.walk.now.cursor.pages (g.met.D.Disk.timed c.loop-walk.disk) inv.stands inv.effect c.advance.ensures.reads
     (few_calls _ _ _ _ _ inv.one_a_page c.advance.ensures.reads.effect.effect.calls c.advance.ensures.no_call)
 
-list_on : (g : _) (c : After-advance g) (file : List ℕ) (entries : Entries) → IsFile file (g.D.Disk.state c.args.disk.now) → HasLeft c.args.geo.now c.args.at.now c.args.cursor.now entries file → c.advance.result ≢ Err Fault
-    → (c.advance.result ≡ Ok tt) × HasLeft c.args.geo.now c.args.at.now c.advance.new.self entries file
-list_on g c file entries is has =
-    let inv = c.loop-cursor.invariant in
+list_on : (g : _) (c : After-advance g) (file : List ℕ) (entries : Entries) (pages : List ℕ) → IsFile file (g.D.Disk.state c.args.disk.now) → HasLeft c.args.geo.now c.args.at.now c.args.walk.now entries pages file
+    → c.advance.result ≢ Err Fault → (c.advance.result ≡ Ok tt) × HasLeft c.args.geo.now c.args.at.now (on_part g c) entries pages file
+list_on g c file entries pages is has =
+    let inv = c.loop-walk.invariant in
     let here = file_on inv.effect is in
-    advance_left (file_on c.advance.ensures.reads.effect here).bytes_are (sym c.is_above.ensures ∙ c.loop-cursor-test.true) (inv.list file entries is has)
-    (λ rest before. c.advance.ensures.list rest (g.met.D.Disk.honest_tells c.loop-cursor.disk here.honest) before)
+    advance_left {old = c.loop-walk.walk} {new = on_part g c} (file_on c.advance.ensures.reads.effect here).bytes_are (sym c.is_above.ensures ∙ c.loop-walk-test.true) (inv.list file entries pages is has)
+    (λ rest ahead. c.next_part-part.ensures.list rest file ahead)
+    (λ rest before. c.advance.ensures.list rest (g.met.D.Disk.honest_tells c.loop-walk.disk here.honest) before)
 
-read_on : (g : _) (c : In_ok-advance g) (file : List ℕ) (run : Component) (given : Entries) → IsFile file (g.D.Disk.state c.args.disk.now) → HasRead c.args.geo.now run c.args.at.now c.args.cursor.now given file
-    → HasReadOn c.args.geo.now run c.args.at.now c.advance.new.self given file
-read_on g c file run given is has =
-    let inv = c.loop-cursor.invariant in
+read_on : (g : _) (c : In_ok-advance g) (walk : Walk) → walk.cursor ≡ c.advance.new.self
+    → IsNextPart c.loop-walk.walk.cursor c.loop-walk.walk.here walk.here ⊎ ((walk.cursor.head ≡ None) × (walk.here ≡ empty_component)) → (file : List ℕ) (run : Component) (given : Entries)
+    → IsFile file (g.D.Disk.state c.args.disk.now) → HasRead c.args.geo.now run c.args.at.now c.args.walk.now given file → HasReadOn c.args.geo.now run c.args.at.now walk given file
+read_on g c walk cursor part file run given is has =
+    let inv = c.loop-walk.invariant in
     let here = file_on inv.effect is in
     let was = inv.read file run given is has in
-    advance_read (file_on c.advance.ensures.reads.effect here).bytes_are (sym c.is_above.ensures ∙ c.loop-cursor-test.true) was
-    (λ has_given. c.in_ok-advance.ensures.given run was.now (g.met.D.Disk.honest_tells c.loop-cursor.disk here.honest) has_given)
+    advance_read {old = c.loop-walk.walk} (file_on c.advance.ensures.reads.effect here).bytes_are (sym c.is_above.ensures ∙ c.loop-walk-test.true) part was
+    (λ has_given. subst (λ (s : CursorState). HasGivenMore c.args.geo.now run s s.head was.now (g.D.Disk.state c.advance.new.disk).bytes) (sym cursor)
+    (c.in_ok-advance.ensures.given run was.now (g.met.D.Disk.honest_tells c.loop-walk.disk here.honest) has_given))
 
 -- ---- the goals
 
-pub loop-cursor-init : goal.loop-cursor-init
-loop-cursor-init g c = record {
+pub loop-walk-init : goal.loop-walk-init
+loop-walk-init g c = record {
   effect = only_reads_start (g.D.Disk.state c.args.disk.now) (g.met.D.Disk.timed c.args.disk.now);
   one_a_page = omega arith;
   stands = refl;
   falls = omega arith;
-  list = λ file entries is has. has;
+  walks = λ walk. (walk, omega arith);
+  list = λ file entries pages is has. has;
   read = λ file run given is has. record { now = given; read = has; onward = λ all front. front };
 }
 
 pub returns-in_err-advance-clause-list : goal.returns-in_err-advance-clause-list
-returns-in_err-advance-clause-list g c = λ file entries is has other.
-    absurd (not_failed c.from_residual.ensures.1 c.in_err-advance.was other (λ calm. (list_on g (goal.at.returns-in_err-advance-clause-list g c).After-advance file entries is has calm).0))
+returns-in_err-advance-clause-list g c = λ file entries pages is has other.
+    absurd (not_failed c.from_residual.ensures.1 c.in_err-advance.was other (λ calm. (list_on g (goal.at.returns-in_err-advance-clause-list g c).After-advance file entries pages is has calm).0))
 
 pub returns-in_err-advance-clause-damaged : goal.returns-in_err-advance-clause-damaged
 returns-in_err-advance-clause-damaged g c = λ k file run given is_damage is has.
-    let inv = c.loop-cursor.invariant in
+    let inv = c.loop-walk.invariant in
     let here = file_on inv.effect is in
     let was = inv.read file run given is has in
     record {
-      cursor = c.loop-cursor.cursor;
+      cursor = c.loop-walk.walk.cursor;
       given = was.now;
       begins = was.read.begins;
-      passed = was.read.passed ∙ stale_none c.args.at.now c.loop-cursor.cursor.head (sym c.is_above.ensures ∙ c.loop-cursor-test.true);
-      damage = subst (λ (b : List ℕ). IsDamageAt c.args.geo.now c.loop-cursor.cursor k b) (file_on c.advance.ensures.reads.effect here).bytes_are
-          (c.advance.ensures.damaged k (failed_as c.from_residual.ensures.1 c.in_err-advance.was is_damage) (g.met.D.Disk.honest_tells c.loop-cursor.disk here.honest));
+      passed = was.read.passed ∙ stale_none c.args.at.now c.loop-walk.walk.cursor.head (sym c.is_above.ensures ∙ c.loop-walk-test.true);
+      damage = subst (λ (b : List ℕ). IsDamageAt c.args.geo.now c.loop-walk.walk.cursor k b) (file_on c.advance.ensures.reads.effect here).bytes_are
+          (c.advance.ensures.damaged k (failed_as c.from_residual.ensures.1 c.in_err-advance.was is_damage) (g.met.D.Disk.honest_tells c.loop-walk.disk here.honest));
     }
 
 pub returns-in_err-advance-clause-reads : goal.returns-in_err-advance-clause-reads
 returns-in_err-advance-clause-reads g c = reads_err c.from_residual.ensures.1 c.in_err-advance.was (reads_on g (goal.at.returns-in_err-advance-clause-reads g c).After-advance)
 
 pub returns-then-is_none-clause-list : goal.returns-then-is_none-clause-list
-returns-then-is_none-clause-list g c = λ file entries is has other.
-    let now = (list_on g (goal.at.returns-then-is_none-clause-list g c).After-advance file entries is has (calm_of c.advance.result tt c.in_ok-advance.was)).1 in
-    (refl, now, head_first c.args.geo.now file c.args.at.now c.advance.new.self entries now (inr (at_end c.loop-cursor.cursor c.advance.new.self (search rules) c.in_ok-advance.ensures.ended)))
+returns-then-is_none-clause-list g c = λ file entries pages is has other.
+    let arm = (goal.at.returns-then-is_none-clause-list g c).After-advance in
+    let on = (list_on g arm file entries pages is has (calm_of c.advance.result tt c.in_ok-advance.was)).1 in
+    let ended = at_end c.loop-walk.walk.cursor c.advance.new.self (search rules) c.in_ok-advance.ensures.ended in
+    (refl, left_ended {old = on_part g arm} refl c.no_component-walk.ensures.empty ended.0 ended.1 on, head_first c.args.geo.now file c.args.at.now (on_part g arm) entries pages on (inr ended))
 
 pub returns-then-is_none-clause-read : goal.returns-then-is_none-clause-read
 returns-then-is_none-clause-read g c = λ file run given is has.
-    let on = read_on g (goal.at.returns-then-is_none-clause-read g c).In_ok-advance file run given is has in
-    (on, λ all front. read_first c.args.geo.now file run c.args.at.now c.advance.new.self on.now on.read (inr (at_end c.loop-cursor.cursor c.advance.new.self (search rules) c.in_ok-advance.ensures.ended)) all front)
+    let ended = at_end c.loop-walk.walk.cursor c.advance.new.self (search rules) c.in_ok-advance.ensures.ended in
+    let walk : Walk = record { cursor = c.advance.new.self; here = c.no_component-walk.result } in
+    let on = read_on g (goal.at.returns-then-is_none-clause-read g c).In_ok-advance walk refl (inr (ended.0, c.no_component-walk.ensures.empty)) file run given is has in
+    (on, λ all front. read_first c.args.geo.now file run c.args.at.now walk on.now on.read (inr ended) all front)
+
+pub returns-then-is_none-clause-walks : goal.returns-then-is_none-clause-walks
+returns-then-is_none-clause-walks g c = λ was.
+    let before = c.loop-walk.invariant.walks was in
+    let ended = subst (λ (h : Option (Key × Rec)). Ends c.loop-walk.walk.cursor c.advance.new.self h) (at_end c.loop-walk.walk.cursor c.advance.new.self (search rules) c.in_ok-advance.ensures.ended).0
+    c.in_ok-advance.ensures.ended in
+    walks_ended c.args.walk.now (record { cursor = c.advance.new.self; here = c.no_component-walk.result }) c.no_component-walk.ensures.empty ended.3
 
 pub returns-then-is_none-clause-reads : goal.returns-then-is_none-clause-reads
 returns-then-is_none-clause-reads g c = reads_ok c.in_ok-advance.was (reads_on g (goal.at.returns-then-is_none-clause-reads g c).After-advance)
 
-pub loop-cursor-preserved : goal.loop-cursor-preserved
-loop-cursor-preserved g c =
-    let inv = c.loop-cursor.invariant in
-    let arm = (goal.at.loop-cursor-preserved g c).In_ok-advance in
-    let reads = reads_on g (goal.at.loop-cursor-preserved g c).After-advance in
+pub loop-walk-preserved : goal.loop-walk-preserved
+loop-walk-preserved g c =
+    let inv = c.loop-walk.invariant in
+    let arm = (goal.at.loop-walk-preserved g c).In_ok-advance in
+    let after = (goal.at.loop-walk-preserved g c).After-advance in
+    let reads = reads_on g after in
     let calm = calm_of c.advance.result tt c.in_ok-advance.was in
     record {
       effect = reads.effect;
       one_a_page = omega (arith, inv.one_a_page, c.in_ok-advance.ensures.one_a_page);
       stands = reads.stands calm;
-      falls = omega (arith, inv.falls, count_falls c.args.at.now c.loop-cursor.cursor c.advance.new.self (sym c.is_above.ensures ∙ c.loop-cursor-test.true) c.in_ok-advance.ensures.falls c.in_ok-advance.ensures.ended);
-      list = λ file entries is has. (list_on g (goal.at.loop-cursor-preserved g c).After-advance file entries is has calm).1;
-      read = read_on g arm;
+      falls = omega (arith, inv.falls, count_falls c.args.at.now c.loop-walk.walk.cursor c.advance.new.self (sym c.is_above.ensures ∙ c.loop-walk-test.true) c.in_ok-advance.ensures.falls c.in_ok-advance.ensures.ended);
+      walks = λ was.
+          let before = inv.walks was in
+          let on = walks_on c.loop-walk.walk (on_part g after) before.0 c.next_part-part.ensures.part c.in_ok-advance.ensures.turns c.in_ok-advance.ensures.stays
+          (omega (arith, c.in_ok-advance.ensures.one_a_page, c.advance.ensures.reads.effect.effect.goes_on.clock)) in
+          (on.0, omega (arith, on.1, before.1));
+      list = λ file entries pages is has. (list_on g after file entries pages is has calm).1;
+      read = read_on g arm (on_part g after) refl (inl c.next_part-part.ensures.part);
     }
 
 pub returns-clause-list : goal.returns-clause-list
-returns-clause-list g c = λ file entries is has other.
-    let now = c.loop-cursor.invariant.list file entries is has in
-    (refl, now, head_first c.args.geo.now file c.args.at.now c.loop-cursor.cursor entries now (inl (sym c.is_above.ensures ∙ c.loop-cursor-test.false)))
+returns-clause-list g c = λ file entries pages is has other.
+    let now = c.loop-walk.invariant.list file entries pages is has in
+    (refl, now, head_first c.args.geo.now file c.args.at.now c.loop-walk.walk entries pages now (inl (sym c.is_above.ensures ∙ c.loop-walk-test.false)))
 
 pub returns-clause-read : goal.returns-clause-read
 returns-clause-read g c = λ file run given is has.
-    let on = c.loop-cursor.invariant.read file run given is has in
-    (on, λ all front. read_first c.args.geo.now file run c.args.at.now c.loop-cursor.cursor on.now on.read (inl (sym c.is_above.ensures ∙ c.loop-cursor-test.false)) all front)
+    let on = c.loop-walk.invariant.read file run given is has in
+    (on, λ all front. read_first c.args.geo.now file run c.args.at.now c.loop-walk.walk on.now on.read (inl (sym c.is_above.ensures ∙ c.loop-walk-test.false)) all front)

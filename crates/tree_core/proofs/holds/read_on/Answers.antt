@@ -40,15 +40,15 @@ returns-in-Err-Damaged-clause-rows g c = λ rows honest runs has not.
 
 pub returns-in-Ok-clause-few : goal.returns-in-Ok-clause-few
 returns-in-Ok-clause-few g c = λ few.
-    few_by c.args.held.now.runs.sizes c.args.seat c.args.holds.now c.next_rows.new.self c.next_rows.ensures.others (omega (arith, few c.args.seat, c.next_rows.ensures.pages)) few
+    few_by c.args.held.now.runs.sizes c.args.seat c.args.holds.now c.next_rows.new.self c.next_rows.ensures.others (omega (arith, few c.args.seat, c.next_rows.ensures.ahead)) few
 
 pub returns-in-Err-Fault-clause-few : goal.returns-in-Err-Fault-clause-few
 returns-in-Err-Fault-clause-few g c = λ few.
-    few_by c.args.held.now.runs.sizes c.args.seat c.args.holds.now c.next_rows.new.self c.next_rows.ensures.others (omega (arith, few c.args.seat, c.next_rows.ensures.pages)) few
+    few_by c.args.held.now.runs.sizes c.args.seat c.args.holds.now c.next_rows.new.self c.next_rows.ensures.others (omega (arith, few c.args.seat, c.next_rows.ensures.ahead)) few
 
 pub returns-in-Err-Damaged-clause-few : goal.returns-in-Err-Damaged-clause-few
 returns-in-Err-Damaged-clause-few g c = λ few.
-    few_by c.args.held.now.runs.sizes c.args.seat c.args.holds.now c.next_rows.new.self c.next_rows.ensures.others (omega (arith, few c.args.seat, c.next_rows.ensures.pages)) few
+    few_by c.args.held.now.runs.sizes c.args.seat c.args.holds.now c.next_rows.new.self c.next_rows.ensures.others (omega (arith, few c.args.seat, c.next_rows.ensures.ahead)) few
 
 pub returns-in-Err-Damaged-clause-cause : goal.returns-in-Err-Damaged-clause-cause
 returns-in-Err-Damaged-clause-cause g c =
@@ -73,3 +73,12 @@ returns-in-Ok-clause-cause g c =
       λ honest. subst (λ (z : Sizes). AreToldBehind z c.args.n (hold_of seat c.args.holds.now) (hold_of seat c.next_rows.new.self) c.next_rows.new.room file) c.geometry.ensures
           (c.in-Ok.ensures.told honest),
     )
+
+pub returns-in-Ok-clause-passes : goal.returns-in-Ok-clause-passes
+returns-in-Ok-clause-passes g c = record { ahead = c.next_rows.ensures.ahead; calls = λ rows is. c.in-Ok.ensures.passes }
+
+pub returns-in-Err-Fault-clause-passes : goal.returns-in-Err-Fault-clause-passes
+returns-in-Err-Fault-clause-passes g c = record { ahead = c.next_rows.ensures.ahead; calls = λ rows is. absurd (cc) }
+
+pub returns-in-Err-Damaged-clause-passes : goal.returns-in-Err-Damaged-clause-passes
+returns-in-Err-Damaged-clause-passes g c = record { ahead = c.next_rows.ensures.ahead; calls = λ rows is. absurd (cc) }

@@ -9,25 +9,25 @@ use Rattle.scan_view.proofs.ScanLemmas.{scan_further}
 use Rattle.scan_view.proofs.scan.Scan.next.Goals as goal
 
 pub returns-in_err-seek_all-clause-list : goal.returns-in_err-seek_all-clause-list
-returns-in_err-seek_all-clause-list g c = λ file xs ys zs is scan other.
-    absurd (not_failed c.from_residual.ensures.1 c.in_err-seek_all.was other (λ calm. (c.seek_all.ensures.list file xs ys zs is scan calm).0))
+returns-in_err-seek_all-clause-list g c = λ file xs ys zs pages is scan other.
+    absurd (not_failed c.from_residual.ensures.1 c.in_err-seek_all.was other (λ calm. (c.seek_all.ensures.list file xs ys zs pages is scan calm).0))
 
 pub returns-in_default-clause-list : goal.returns-in_default-clause-list
-returns-in_default-clause-list g c = λ file xs ys zs is scan other.
-    let came = c.seek_all.ensures.list file xs ys zs is scan (calm_of c.seek_all.result tt c.in_ok-seek_all.was) in
+returns-in_default-clause-list g c = λ file xs ys zs pages is scan other.
+    let came = c.seek_all.ensures.list file xs ys zs pages is scan (calm_of c.seek_all.result tt c.in_ok-seek_all.was) in
     let now = came.1 in
     let none = c.in_default.ensures.first xs ys zs now.sorted_c1 now.sorted_c1x now.sorted_c2 came.2 in
     (ap Ok (none ∙ ap (λ (at : Option Key). first_of (above at (view_of c.args.memory.now xs ys zs))) c.seek_all.ensures.at), now)
 
 pub returns-clause-list : goal.returns-clause-list
-returns-clause-list g c = λ file xs ys zs is scan other.
-    let came = c.seek_all.ensures.list file xs ys zs is scan (calm_of c.seek_all.result tt c.in_ok-seek_all.was) in
+returns-clause-list g c = λ file xs ys zs pages is scan other.
+    let came = c.seek_all.ensures.list file xs ys zs pages is scan (calm_of c.seek_all.result tt c.in_ok-seek_all.was) in
     let now = came.1 in
     let mid = c.seek_all.new.self in
     let some = c.in-Some.ensures.first xs ys zs now.sorted_c1 now.sorted_c1x now.sorted_c2 came.2 in (
       ap Ok (some ∙ ap (λ (at : Option Key). first_of (above at (view_of c.args.memory.now xs ys zs))) c.seek_all.ensures.at),
-      subst (λ (key : Key). IsScan c.args.geo.now (record { c1 = mid.c1; c1x = mid.c1x; c2 = mid.c2; at = Some key }) xs ys zs file) (sym c.copy.ensures)
-          (scan_further c.args.geo.now mid c.in-Some.key xs ys zs file c.in-Some.ensures.ahead now),
+      subst (λ (key : Key). IsScan c.args.geo.now (record { c1 = mid.c1; c1x = mid.c1x; c2 = mid.c2; at = Some key }) xs ys zs pages file) (sym c.copy.ensures)
+          (scan_further c.args.geo.now mid c.in-Some.key xs ys zs pages file c.in-Some.ensures.ahead now),
     )
 
 pub returns-in_default-clause-read : goal.returns-in_default-clause-read
@@ -55,3 +55,8 @@ returns-clause-read g c = λ file run run_x run_2 read is have.
 pub returns-in_err-seek_all-clause-damaged : goal.returns-in_err-seek_all-clause-damaged
 returns-in_err-seek_all-clause-damaged g c = λ k file run run_x run_2 read damaged is have.
     c.seek_all.ensures.damaged k file run run_x run_2 read (failed_as c.from_residual.ensures.1 c.in_err-seek_all.was damaged) is have
+
+pub returns-clause-walks : goal.returns-clause-walks
+returns-clause-walks g c = λ walks.
+    let on = c.in_ok-seek_all.ensures.walks walks in
+    (record { c1 = on.0.c1; c1x = on.0.c1x; c2 = on.0.c2 }, on.1)

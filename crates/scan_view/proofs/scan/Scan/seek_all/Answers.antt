@@ -4,25 +4,25 @@ use Rattle.scan_view.proofs.LeftLemmas.{not_failed, failed_as, calm_of, file_on,
 use Rattle.scan_view.proofs.scan.Scan.seek_all.Goals as goal
 
 pub returns-in_err-seek-clause-list : goal.returns-in_err-seek-clause-list
-returns-in_err-seek-clause-list g c = λ file xs ys zs is scan other. absurd (not_failed c.from_residual.ensures.1 c.in_err-seek.was other (λ calm. (c.seek.ensures.list file xs is scan.c1 calm).0))
+returns-in_err-seek-clause-list g c = λ file xs ys zs pages is scan other. absurd (not_failed c.from_residual.ensures.1 c.in_err-seek.was other (λ calm. (c.seek.ensures.list file xs pages is scan.c1 calm).0))
 
 pub returns-in_err-seek-2-clause-list : goal.returns-in_err-seek-2-clause-list
-returns-in_err-seek-2-clause-list g c = λ file xs ys zs is scan other.
-    absurd (not_failed c.from_residual-in_err-seek-2.ensures.1 c.in_err-seek-2.was other (λ calm. (c.seek-2.ensures.list file ys (file_on c.seek.ensures.reads.effect is) scan.c1x calm).0))
+returns-in_err-seek-2-clause-list g c = λ file xs ys zs pages is scan other.
+    absurd (not_failed c.from_residual-in_err-seek-2.ensures.1 c.in_err-seek-2.was other (λ calm. (c.seek-2.ensures.list file ys pages (file_on c.seek.ensures.reads.effect is) scan.c1x calm).0))
 
 pub returns-in_err-seek-2-clause-reads : goal.returns-in_err-seek-2-clause-reads
 returns-in_err-seek-2-clause-reads g c =
-    let total = c.args.self.now.c1.pages + c.args.self.now.c1x.pages + c.args.self.now.c2.pages in
+    let total = c.args.self.now.c1.cursor.pages + c.args.self.now.c1x.cursor.pages + c.args.self.now.c2.cursor.pages in
     reads_err c.from_residual-in_err-seek-2.ensures.1 c.in_err-seek-2.was
     (reads_after total (g.met.D.Disk.timed c.seek.new.disk) (c.seek.ensures.reads.stands (calm_of c.seek.result tt c.in_ok-seek.was)) c.seek.ensures.reads.effect c.seek-2.ensures.reads
     (omega (arith, c.in_ok-seek.ensures.one_a_page, c.seek-2.ensures.reads.effect.effect.calls)))
 
 pub returns-clause-list : goal.returns-clause-list
-returns-clause-list g c = λ file xs ys zs is scan other.
-    let first = c.seek.ensures.list file xs is scan.c1 (calm_of c.seek.result tt c.in_ok-seek.was) in
+returns-clause-list g c = λ file xs ys zs pages is scan other.
+    let first = c.seek.ensures.list file xs pages is scan.c1 (calm_of c.seek.result tt c.in_ok-seek.was) in
     let is_mid = file_on c.seek.ensures.reads.effect is in
-    let second = c.seek-2.ensures.list file ys is_mid scan.c1x (calm_of c.seek-2.result tt c.in_ok-seek-2.was) in
-    let third = c.seek-3.ensures.list file zs (file_on c.seek-2.ensures.reads.effect is_mid) scan.c2 other in (
+    let second = c.seek-2.ensures.list file ys pages is_mid scan.c1x (calm_of c.seek-2.result tt c.in_ok-seek-2.was) in
+    let third = c.seek-3.ensures.list file zs pages (file_on c.seek-2.ensures.reads.effect is_mid) scan.c2 other in (
       third.0,
       record { c1 = first.1; c1x = second.1; c2 = third.1; sorted_c1 = scan.sorted_c1; sorted_c1x = scan.sorted_c1x; sorted_c2 = scan.sorted_c2 },
       record { c1 = first.2; c1x = second.2; c2 = third.2 },
@@ -58,8 +58,14 @@ pub returns-clause-reads : goal.returns-clause-reads
 returns-clause-reads g c =
     let calm = c.seek.ensures.reads.stands (calm_of c.seek.result tt c.in_ok-seek.was) in
     let calm_mid = c.seek-2.ensures.reads.stands (calm_of c.seek-2.result tt c.in_ok-seek-2.was) ∙ calm in
-    let total = c.args.self.now.c1.pages + c.args.self.now.c1x.pages + c.args.self.now.c2.pages in
+    let total = c.args.self.now.c1.cursor.pages + c.args.self.now.c1x.cursor.pages + c.args.self.now.c2.cursor.pages in
     let first = reads_after total (g.met.D.Disk.timed c.seek.new.disk) calm c.seek.ensures.reads.effect c.seek-2.ensures.reads
     (omega (arith, c.in_ok-seek.ensures.one_a_page, c.in_ok-seek-2.ensures.one_a_page)) in
     reads_after total (g.met.D.Disk.timed c.seek-2.new.disk) calm_mid first.effect c.seek-3.ensures.reads
     (omega (arith, c.in_ok-seek.ensures.one_a_page, c.in_ok-seek-2.ensures.one_a_page, c.seek-3.ensures.reads.effect.effect.calls))
+
+pub returns-clause-walks : goal.returns-clause-walks
+returns-clause-walks g c = λ walks.
+    let first = c.in_ok-seek.ensures.walks walks.c1 in
+    let second = c.in_ok-seek-2.ensures.walks walks.c1x in
+    on_ok_weaker c.seek-3.result (λ third. (record { c1 = first.0; c1x = second.0; c2 = third.0 }, omega (arith, first.1, second.1, third.1))) (c.seek-3.ensures.walks walks.c2)

@@ -35,7 +35,7 @@ returns-clause-reads g c =
     subst (λ (s : CoreState g.row.D.Denot). may_note_in seat n s.held.book ≡ true → ReadsOn state seat n (scanned_in scan.result c.note_scan.new.book) s new) c.self.view_is
     (λ note. subst (λ (answer : Scanned). ReadsOn state seat n answer (record { disk = old.disk; held = old.held; holds = old.holds }) new) told
     (next_does state seat n gave (record { disk = old.disk; held = old.held; holds = old.holds }) scan.new.disk c.note_scan.new.book c.self.invariant.0 c.self.invariant.1 (g.met.D.Disk.timed scan.new.disk)
-    note c.requires.some c.requires.few e.others e.cause e.counted (λ rows honest runs has whole. e.rows rows honest runs has whole) e.reads (λ none. e.untouched none) c.note_scan.ensures)) c.requires.note
+    note c.requires.some c.requires.few e.others e.cause e.counted (λ rows honest runs has whole. e.rows rows honest runs has whole) e.reads e.passes (λ none. e.untouched none) c.note_scan.ensures)) c.requires.note
 
 pub returns-clause-counts : goal.returns-clause-counts
 returns-clause-counts g c =
