@@ -1,11 +1,12 @@
-// Runs a script of puts, adds, tails, dels, gets and works over LevelDB, each write synced before its caller's next command, and prints the history.
+// Runs a script over LevelDB, each write synced before its caller's next command, and prints the history.
 //
 //     leveldb_run [--buffer BYTES] [--count] FOLDER < script.txt        (or --version)
 //
 // Each caller of the script does its lines in order, on a thread of its own where there are several. LevelDB has no blind add, so an add or a tail reads the
 // value first; so that no other write of the key comes between, a caller has the key's lock (one of many, by its hash) while it does a command. Writes of other
 // keys still meet in LevelDB, which syncs them together. The history's order is that in which the locks were had: commands of one key took effect in it, and
-// those of two keys are nothing to one another. A work does nothing, since LevelDB merges by itself.
+// those of two keys are nothing to one another. A hold is a snapshot with an iterator on it, which the caller's nexts move on; it is of all keys, so
+// the caller has all locks while it is made. A work does nothing, since LevelDB merges by itself.
 //
 // A value is stored as its count and its text, without compression: a text of one letter would be next to nothing. --buffer is the size of the write buffer,
 // 65,536 bytes at least (else LevelDB's own, 4 MB). With --count tables are read by calls, which a tracer sees, and not by a map of memory; and each entry
@@ -22,11 +23,11 @@
 #include <map>
 #include <memory>
 #include <mutex>
-#include <sstream>
 #include <string>
 #include <thread>
 #include <vector>
 
+#include "commands.h"
 #include "leveldb/db.h"
 #include "leveldb/env.h"
 
@@ -88,11 +89,6 @@ class CountingEnv : public leveldb::EnvWrapper {
 
 // ---- values
 
-struct Value {
-  uint64_t count = 0;
-  std::string text;
-};
-
 std::string Encode(const Value& value) { return std::to_string(value.count) + " " + value.text; }
 
 Value Decode(const std::string& bytes) {
@@ -111,31 +107,47 @@ bool Find(leveldb::DB* db, const std::string& key, Value* value) {
   return done.ok();
 }
 
-// ---- commands
+// ---- held ranges
 
-struct Command {
-  std::string line, kind, key, text;
-  int caller = 0;
-  uint64_t count = 0;
-  std::string reply;
+// The rows of a moment from a key on, without the high one, as far as they weren't given yet.
+class Held {
+ public:
+  Held(leveldb::DB* db, const std::string& low, const std::string& high) : db_(db), snapshot_(db->GetSnapshot()), high_(high) {
+    leveldb::ReadOptions of_moment;
+    of_moment.snapshot = snapshot_;
+    rows_.reset(db->NewIterator(of_moment));
+    rows_->Seek(low);
+  }
+  ~Held() {
+    rows_.reset();
+    db_->ReleaseSnapshot(snapshot_);
+  }
+
+  std::string Next(uint64_t most) {
+    std::string rows;
+    uint64_t count = 0;
+    for (; count < most && rows_->Valid() && rows_->key().compare(high_) < 0; rows_->Next(), ++count) {
+      rows += " " + rows_->key().ToString() + " " + Printed(Decode(rows_->value().ToString()));
+    }
+    if (!rows_->status().ok()) std::exit(7);
+    return "rows " + std::to_string(count) + rows;
+  }
+
+ private:
+  leveldb::DB* const db_;
+  const leveldb::Snapshot* const snapshot_;
+  const std::string high_;
+  std::unique_ptr<leveldb::Iterator> rows_;
 };
 
-Command Parse(const std::string& line) {
-  Command command;
-  command.line = line;
-  std::istringstream words(line);
-  words >> command.caller >> command.kind >> command.key;
-  if (command.kind != "tail") words >> command.count;
-  words >> command.text;
-  return command;
-}
+// ---- commands
 
 class Store {
  public:
   Store(leveldb::DB* db, size_t commands) : db_(db), order_(commands) {}
 
   void Do(Command* command) {
-    std::lock_guard<std::mutex> lock(locks_[std::hash<std::string>()(command->key) % locks_.size()]);
+    const auto locks = LocksOf(*command);
     command->reply = Answer(*command);
     const uint64_t place = next_++;
     order_[place] = {command, bytes_of_tables.load()};
@@ -144,28 +156,47 @@ class Store {
   void Print() const {
     uint64_t place = 0, before = 0;
     for (const auto& [command, bytes] : order_) {
-      std::cout << ++place << " " << command->line << " => " << command->reply << " m" << (bytes > before ? bytes - before : 0) << "\n";
+      PrintEntry(++place, *command, bytes > before ? bytes - before : 0);
       before = std::max(before, bytes);
     }
   }
 
  private:
+  std::vector<std::unique_lock<std::mutex>> LocksOf(const Command& command) {
+    std::vector<std::unique_lock<std::mutex>> locks;
+    if (command.kind == "hold") {
+      for (std::mutex& lock : locks_) locks.emplace_back(lock);
+    } else if (!command.key.empty()) {
+      locks.emplace_back(locks_[std::hash<std::string>()(command.key) % locks_.size()]);
+    }
+    return locks;
+  }
+
   std::string Answer(const Command& command) {
     Value value;
-    if (command.kind == "put") return Put(command.key, {command.count, command.text == "-" ? "" : command.text});
+    if (command.kind == "put") return Put(command.key, command.value());
     if (command.kind == "del") return Done(db_->Delete(durable(), command.key));
     if (command.kind == "work") return "did 0";
+    if (command.kind == "hold" || command.kind == "next" || command.kind == "drop") return OfHold(command, &held_[command.caller]);
     const bool found = Find(db_.get(), command.key, &value);
     if (command.kind == "add") return Put(command.key, {value.count + command.count, value.text});
     if (command.kind == "tail") return Put(command.key, {value.count, LastOf(value.text + command.text)});
     if (command.kind != "get") std::exit(2);
-    return found ? "is " + std::to_string(value.count) + " " + (value.text.empty() ? "-" : value.text) : "none";
+    return found ? "is " + Printed(value) : "none";
+  }
+
+  std::string OfHold(const Command& command, std::unique_ptr<Held>* held) {
+    if (command.kind == "hold") {
+      held->reset(new Held(db_.get(), command.key, command.text));
+      return "held";
+    }
+    if (*held == nullptr) return "nohold";
+    if (command.kind == "next") return (*held)->Next(command.count);
+    held->reset();
+    return "ok";
   }
 
   std::string Put(const std::string& key, const Value& value) { return Done(db_->Put(durable(), key, Encode(value))); }
-
-  // What stays of a text and the tail behind it.
-  static std::string LastOf(const std::string& text) { return text.size() > 64 ? text.substr(text.size() - 64) : text; }
 
   static std::string Done(const Status& status) {
     if (!status.ok()) std::exit(7);
@@ -179,6 +210,7 @@ class Store {
   }
 
   std::unique_ptr<leveldb::DB> db_;
+  std::array<std::unique_ptr<Held>, 17> held_;  // of each caller, 1 to 16
   std::array<std::mutex, 1024> locks_;
   std::atomic<uint64_t> next_{0};
   std::vector<std::pair<const Command*, uint64_t>> order_;
@@ -214,8 +246,7 @@ int main(int argc, char** argv) {
     if (option == "--buffer" && word + 1 < argc) options.write_buffer_size = std::stoull(argv[++word]);
   }
   if (word + 1 != argc) return 1;
-  std::vector<Command> commands;
-  for (std::string line; std::getline(std::cin, line);) commands.push_back(Parse(line));
+  std::vector<Command> commands = ReadCommands();
   leveldb::DB* db = nullptr;
   if (!leveldb::DB::Open(options, argv[word], &db).ok()) return 7;
   Store store(db, commands.size());
