@@ -21,6 +21,7 @@ from dataclasses import dataclass
 from pathlib import Path
 
 import compare
+import measuring
 
 LANES = 4096  # where the lanes begin in a file
 PAGES = LANES + 12 * compare.GEOMETRY.half  # and where the pages do
@@ -56,10 +57,10 @@ def tables_after_writes(text: str) -> list[int]:
     return merged
 
 
-def of_program(store: compare.Store, script: Path, folder: Path) -> list[int]:
+def of_program(store: measuring.Store, script: Path, folder: Path) -> list[int]:
     trace = folder / "trace.txt"
     store.fill((), folder)
-    text = compare.run(["strace", "-f", "--seccomp-bpf", "-y", "-s", "0", "-o", str(trace), "-e", "trace=pwrite64", *store.words], script)
+    text = measuring.run(["strace", "-f", "--seccomp-bpf", "-y", "-s", "0", "-o", str(trace), "-e", "trace=pwrite64", *store.words], script)
     store.judged(script.read_text(), text)
     with open(trace) as lines:
         merged = pages_after_appends(lines, store.path)
@@ -67,9 +68,9 @@ def of_program(store: compare.Store, script: Path, folder: Path) -> list[int]:
     return merged
 
 
-def of_leveldb(store: compare.Store, script: Path, folder: Path) -> list[int]:
+def of_leveldb(store: measuring.Store, script: Path, folder: Path) -> list[int]:
     store.fill((), folder)
-    text = compare.run(store.counting, script)
+    text = measuring.run(store.counting, script)
     store.judged(script.read_text(), text)
     return tables_after_writes(text)
 
@@ -177,7 +178,7 @@ def main() -> None:
     generated = compare.generated(asked.seed, asked.count)
     script = folder / "script.txt"
     script.write_text(generated.dealt(1))
-    program, _, leveldb = compare.stores_of(str(Path(asked.program).resolve()), folder, 0)
+    program, _, leveldb = measuring.stores_of(measuring.builds(asked.program), measuring.runner_of_leveldb(folder), folder)
     pages, tables = of_program(program, script, folder), of_leveldb(leveldb, script, folder)
     if not len(pages) == len(tables) == generated.durable():
         sys.exit(f"the script has {generated.durable()} writes, the program appended {len(pages)} times, LevelDB wrote {len(tables)} times")
