@@ -1,3 +1,4 @@
 pub mod FilterLemmas
 pub mod FenceLemmas
+pub mod PartLemmas
 pub mod Examples

@@ -3,3 +3,4 @@ pub mod BitSet
 pub mod Filter
 pub mod Fences
 pub mod Guides
+pub mod Parts

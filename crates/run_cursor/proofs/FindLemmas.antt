@@ -1,9 +1,9 @@
 -- What some entries say of a key whose list they are part of: those that are left of a page, and those of the one page that its fences name.
 use Rattle.std.proofs.lemmas.Bool.Decides.{nat_tests}
 use Rattle.std.proofs.lemmas.Grind.{common_steps}
-use Rattle.std.proofs.Common.{◌≡◌, ◌≢◌, ℕ, ◌+◌, ◌<◌, ◌≤◌, Bool, true, false, List, [], ◌∷◌, ◌++◌, length, Option, Some, None, Result, Ok, Err, IfOk, refl, ap, sym, subst, ◌∙◌, append_assoc, length-append, arith}
+use Rattle.std.proofs.Common.{◌≡◌, ◌≢◌, ℕ, ◌+◌, ◌<◌, ◌≤◌, Bool, true, false, List, [], ◌∷◌, ◌++◌, length, Option, Some, None, Result, Ok, Err, IfOk, refl, ap, sym, subst, ◌∙◌, arith}
 use Rattle.std.specs.Prelude.{cond}
-use Rattle.std.specs.FinMap.{find as find_in, slice_cmp-IsAntisymmetric, nat_cmp-IsAntisymmetric}
+use Rattle.std.specs.FinMap.{find as find_in}
 use Rattle.std.specs.List.{AllByRecursion, Contains, between}
 use Rattle.std.specs.List.Sorted.{IsStrictlySortedBy}
 use Rattle.std.specs.Ordering.{is_eq, ordering_reverse}
@@ -20,11 +20,13 @@ use Rattle.blsm_model.specs.Sizes.{Sizes}
 use Rattle.blsm_model.specs.Components.{no_page}
 use Rattle.blsm_model.specs.Geometry.{page_count}
 use Rattle.bloom_bits.specs.BitSet.{BitState}
+use Rattle.bloom_bits.specs.declared.fences.Fence.{Fence}
 use Rattle.bloom_bits.specs.Fences.{FencesState, IsBelowAll, IsPlaceOf}
 use Rattle.bloom_bits.specs.Filter.{MayHave}
-use Rattle.bloom_bits.specs.Guides.{fence_of, fences_of}
+use Rattle.bloom_bits.specs.Guides.{fence_of, fences_from, fences_of}
+use Rattle.bloom_bits.proofs.PartLemmas.{all_parts, fences_join, front_below, page_of_fence, tied}
 use Rattle.record_delta.specs.declared.record.Rec.{Rec}
-use Rattle.record_delta.specs.Entries.{Entries}
+use Rattle.record_delta.specs.Entries.{Entries, entries_weight}
 use Rattle.entry_codec.specs.Spelling.{BeginsWith}
 use Rattle.page_file.specs.Entry.{IsPageEntry, entries_bytes, AreEntries, AreRising, keys_of}
 use Rattle.page_file.specs.declared.file.Broken.{Broken}
@@ -33,7 +35,7 @@ use Rattle.page_file.specs.Page.{IsPageOf, used_by}
 use Rattle.page_file.proofs.PageLemmas.{page_same}
 use Rattle.page_file.specs.File.{page_at}
 use Rattle.page_file.specs.Component.{RunPage, AreChained, entries_of, first_number}
-use Rattle.page_file.proofs.ComponentLemmas.{entries_join}
+use Rattle.page_file.proofs.ComponentLemmas.{chain_split, entries_join, rise_back}
 use Rattle.run_cursor.specs.Below.{BeginsBelow, NoneBelow}
 use Rattle.run_cursor.specs.Lookup.{IsAsked, IsDamaged, IsFoundBy, IsOnPage}
 use Rattle.run_cursor.proofs.CursorLemmas.{same_first, on_page}
@@ -125,9 +127,6 @@ first_decides key entries rest found rec l none b =
 
 -- ---- the page that the fences name
 
-tied : (a b : Key) → key_cmp a b ≡ Equal → a ≡ b
-tied a b e = slice_cmp-IsAntisymmetric nat_cmp-IsAntisymmetric a b e
-
 -- a key that no entry has isn't found
 pub not_found : (key : Key) (es : Entries) → (Contains (keys_of es) key → ⊥) → find_in key_cmp key es ≡ None
 not_found key [] none = refl
@@ -146,149 +145,118 @@ pub record OnPage (sizes : Sizes) (key : Key) (n : ℕ) (pages : List RunPage) (
   pub valid : IsPageOf (page_count sizes) next entries (page_at sizes n file)
   pub same : find_in key_cmp key (entries_of pages) ≡ find_in key_cmp key entries
 
-back_part : {X : Type 0} (P : X → Type 0) (xs ys : List X) → AllByRecursion P (xs ++ ys) → AllByRecursion P ys
-back_part P [] ys all = all
-back_part P (x ∷ xs) ys all = back_part P xs ys all.1
-
-keys_below : (low : Key) (es : Entries) → AllByRecursion (λ (k : Key). key_cmp low k ≡ Less) (keys_of es) → AllByRecursion (λ (y : Key × Rec). key_cmp low y.0 ≡ Less) es
-keys_below low [] all = tt
-keys_below low (e ∷ es) all = (all.0, keys_below low es all.1)
-
-pub rising_apart : (xs ys : Entries) → AreRising (xs ++ ys) → AllByRecursion (λ (x : Key × Rec). AllByRecursion (λ (y : Key × Rec). key_cmp x.0 y.0 ≡ Less) ys) xs
-unfolding IsStrictlySortedBy
-rising_apart [] ys rise = tt
-rising_apart (x ∷ xs) ys rise = (back_part (λ (y : Key × Rec). key_cmp x.0 y.0 ≡ Less) xs ys (keys_below x.0 (xs ++ ys) rise.0), rising_apart xs ys rise.1)
-
-rising_behind : (xs ys : Entries) → AreRising (xs ++ ys) → AreRising ys
-rising_behind [] ys rise = rise
-rising_behind (x ∷ xs) ys rise = rising_behind xs ys (rising_tail x (xs ++ ys) rise)
-
--- so a key that is above all that is below the latter is above the former
-all_above : (key : Key) (xs ys : Entries) → AllByRecursion (λ (x : Key × Rec). AllByRecursion (λ (y : Key × Rec). key_cmp x.0 y.0 ≡ Less) ys) xs
-    → ((x : Key) → AllByRecursion (λ (y : Key × Rec). key_cmp x y.0 ≡ Less) ys → key_cmp key x ≡ Greater) → IsAbove key xs
-all_above key [] ys apart above = tt
-all_above key (x ∷ xs) ys apart above = (above x.0 apart.0, all_above key xs ys apart.1 above)
-
--- a key that isn't below one is above a lesser one
-above_lesser : (key first x : Key) → key_cmp key first ≢ Less → key_cmp x first ≡ Less → key_cmp key x ≡ Greater
-above_lesser key first x not_below less = nat_list_cmp_total.antisymm key x ∙ ap ordering_reverse (by (key_cmp first key) refl)
-  where
-    by : (o : Ordering) → key_cmp first key ≡ o → key_cmp x key ≡ Less
-    by o h1 = grind (arith, common_steps, nat_tests, nat_list_cmp_total, less, tied)
+-- entries below a key, which is above them
+greater : (key : Key) (xs : Entries) → AllByRecursion (λ (x : Key × Rec). key_cmp x.0 key ≡ Less) xs → IsAbove key xs
+greater key [] below = tt
+greater key (x ∷ xs) below = (nat_list_cmp_total.antisymm key x.0 ∙ ap ordering_reverse below.0, greater key xs below.1)
 
 -- ---- where no fence isn't above the key
 
-none_on_page : (key : Key) (number : ℕ) (es rest : Entries) (fences : List (Key × ℕ)) → 1 ≤ length es → AreRising (es ++ rest) → IsBelowAll key (fence_of number es ++ fences) → find_in key_cmp key (es ++ rest) ≡ None
-none_on_page key number [] rest fences some rise below = absurd (omega (arith, some))
-none_on_page key number (e ∷ es) rest fences some rise below = below_first key e (es ++ rest) rise (All-head (λ (f : Key × ℕ). key_cmp key f.0 ≡ Less) (e.0, number) fences below)
+none_on_page : (key : Key) (count weight number : ℕ) (es rest : Entries) (fences : List Fence) → 1 ≤ length es → AreRising (es ++ rest) → IsBelowAll key (fence_of count weight number es ++ fences)
+    → find_in key_cmp key (es ++ rest) ≡ None
+none_on_page key count weight number [] rest fences some rise below = absurd (omega (arith, some))
+none_on_page key count weight number (e ∷ es) rest fences some rise below =
+    below_first key e (es ++ rest) rise (All-head (λ (f : Fence). key_cmp key f.first ≡ Less) (record { first = e.0; page = number; entries = count; weight = weight }) fences below)
+
+none_from : (sizes : Sizes) (key : Key) (file : List ℕ) (count weight : ℕ) (pages : List RunPage) (end : Option ℕ) → AreChained sizes pages end file → AreRising (entries_of pages)
+    → IsBelowAll key (fences_from count weight pages) → find_in key_cmp key (entries_of pages) ≡ None
+none_from sizes key file count weight [] end chain rise below = refl
+none_from sizes key file count weight (p ∷ ps) end chain rise below =
+    let some = chain.1.content.head.some in
+    none_on_page key count weight p.number p.entries (entries_of ps) (fences_from (count + length p.entries) (weight + entries_weight p.entries) ps) some rise below
 
 pub none_on : (sizes : Sizes) (key : Key) (file : List ℕ) (pages : List RunPage) (end : Option ℕ) → AreChained sizes pages end file → AreRising (entries_of pages) → IsBelowAll key (fences_of pages)
     → find_in key_cmp key (entries_of pages) ≡ None
-none_on sizes key file [] end chain rise below = refl
-none_on sizes key file (p ∷ ps) end chain rise below = let some = chain.1.content.head.some in none_on_page key p.number p.entries (entries_of ps) (fences_of ps) some rise below
+none_on sizes key file pages end chain rise below = none_from sizes key file 0 0 pages end chain rise below
 
 -- ---- where one is the last that isn't
 
--- the page, and what is below all entries of the list is below the key
-record Named (sizes : Sizes) (key : Key) (n : ℕ) (pages : List RunPage) (file : List ℕ) : Type 0 where
-  pub on : OnPage sizes key n pages file
-  pub above : (x : Key) → AllByRecursion (λ (y : Key × Rec). key_cmp x y.0 ≡ Less) (entries_of pages) → key_cmp key x ≡ Greater
-
-no_fence : {X : Type 0} (before : List X) (x : X) (behind : List X) → [] ≡ before ++ x ∷ behind → ⊥
-no_fence before x behind is = omega (arith, ap length is, length-append before (x ∷ behind))
-
-named_first : (sizes : Sizes) (key : Key) (n : ℕ) (file : List ℕ) (number : ℕ) (es : Entries) (ps : List RunPage) (end : Option ℕ)
-    → 1 ≤ length es → number < page_count sizes → IsPageOf (page_count sizes) (first_number ps end) es (page_at sizes number file) → AreChained sizes ps end file → AreRising (es ++ entries_of ps)
-    → (IsPlaceOf key n (fences_of ps) → Named sizes key n ps file)
-    → (before : List (Key × ℕ)) (first : Key) (behind : List (Key × ℕ)) → fence_of number es ++ fences_of ps ≡ before ++ (first, n) ∷ behind → key_cmp key first ≢ Less → IsBelowAll key behind
-    → Named sizes key n (record { number = number; entries = es } ∷ ps) file
-named_first sizes key n file number [] ps end some inside valid chain rise later before first behind parts not_below below = absurd (omega (arith, some))
-named_first sizes key n file number (e ∷ es) ps end some inside valid chain rise later [] first behind parts not_below below =
-    let rest_is : fences_of ps ≡ behind = cc in
-    let fence_is : (e.0, number) ≡ (first, n) = cc in
-    let number_is : number ≡ n = ap (λ (f : Key × ℕ). f.1) fence_is in
-    let first_is : e.0 ≡ first = ap (λ (f : Key × ℕ). f.0) fence_is in
-    let none = none_on sizes key file ps end chain (rising_behind (e ∷ es) (entries_of ps) rise) (subst (IsBelowAll key) (sym rest_is) below) in
-    record {
-      on = record {
-        next = first_number ps end;
-        entries = e ∷ es;
-        inside = subst (λ m. m < page_count sizes) number_is inside;
-        valid = subst (λ m. IsPageOf (page_count sizes) (first_number ps end) (e ∷ es) (page_at sizes m file)) number_is valid;
-        same = before key (e ∷ es) (entries_of ps) none;
-      };
-      above = λ x all. above_lesser key first x not_below (subst (λ (k : Key). key_cmp x k ≡ Less) first_is all.0);
-    }
-named_first sizes key n file number (e ∷ es) ps end some inside valid chain rise later (b ∷ bs) first behind parts not_below below =
-    let rest_is : fences_of ps ≡ bs ++ (first, n) ∷ behind = cc in
-    let one = later (record { before = bs; first = first; behind = behind; parts = rest_is; not_below = not_below; below_others = below }) in
-    record {
-      on = record {
-        next = one.on.next;
-        entries = one.on.entries;
-        inside = one.on.inside;
-        valid = one.on.valid;
-        same = past key (e ∷ es) (entries_of ps) (all_above key (e ∷ es) (entries_of ps) (rising_apart (e ∷ es) (entries_of ps) rise) one.above) ∙ one.on.same;
-      };
-      above = λ x all. one.above x (back_part (λ (y : Key × Rec). key_cmp x y.0 ≡ Less) (e ∷ es) (entries_of ps) all);
-    }
-
-named : (sizes : Sizes) (key : Key) (n : ℕ) (file : List ℕ) (pages : List RunPage) (end : Option ℕ) → AreChained sizes pages end file → AreRising (entries_of pages) → IsPlaceOf key n (fences_of pages)
-    → Named sizes key n pages file
-named sizes key n file [] end chain rise place = absurd (no_fence place.before (place.first, n) place.behind place.parts)
-named sizes key n file (p ∷ ps) end chain rise place =
-    let some = chain.1.content.head.some in
-    named_first sizes key n file p.number p.entries ps end some chain.0 chain.1 chain.2 rise
-    (λ later. named sizes key n file ps end chain.2 (rising_behind p.entries (entries_of ps) rise) later)
-    place.before place.first place.behind place.parts place.not_below place.below_others
-
 pub on_page_of : (sizes : Sizes) (key : Key) (n : ℕ) (file : List ℕ) (pages : List RunPage) (end : Option ℕ) → AreChained sizes pages end file → AreRising (entries_of pages) → IsPlaceOf key n (fences_of pages)
     → OnPage sizes key n pages file
-on_page_of sizes key n file pages end chain rise place = (named sizes key n file pages end chain rise place).on
+on_page_of sizes key n file pages end chain rise place =
+    let at = page_of_fence sizes file 0 0 pages end chain place.before place.fence place.behind place.parts in
+    let all = all_parts 0 0 pages place.before place.fence place.behind at in
+    let rising : AreRising (entries_of at.front ++ (at.page.entries ++ entries_of at.back)) = subst AreRising all rise in
+    let from = (chain_split sizes at.front (at.page ∷ at.back) end file (subst (λ (ps : List RunPage). AreChained sizes ps end file) at.parts chain)).1 in
+    let number : at.page.number ≡ n = at.number ∙ place.is_page in
+    let none = none_from sizes key file at.count_behind at.weight_behind at.back end from.2 (rise_back at.page.entries (entries_of at.back) (rise_back (entries_of at.front) (at.page.entries ++ entries_of at.back) rising))
+    (subst (IsBelowAll key) (sym at.rest) place.below_others) in
+    record {
+      next = first_number at.back end;
+      entries = at.page.entries;
+      inside = subst (λ m. m < page_count sizes) number from.0;
+      valid = subst (λ m. IsPageOf (page_count sizes) (first_number at.back end) at.page.entries (page_at sizes m file)) number from.1;
+      same = ap (find_in key_cmp key) all
+          ∙ past key (entries_of at.front) (at.page.entries ++ entries_of at.back) (greater key (entries_of at.front) (front_below key 0 0 pages place.before place.fence place.behind at place.not_below rising))
+          ∙ before key at.page.entries (entries_of at.back) none;
+    }
 
 -- ---- a front of the pages
 
-pub fences_join : (ps qs : List RunPage) → fences_of (ps ++ qs) ≡ fences_of ps ++ fences_of qs
-fences_join [] qs = refl
-fences_join (p ∷ ps) qs = ap (λ l. fence_of p.number p.entries ++ l) (fences_join ps qs) ∙ sym (append_assoc (fence_of p.number p.entries) (fences_of ps) (fences_of qs))
-
-below_front : (key : Key) (fs gs : List (Key × ℕ)) → IsBelowAll key (fs ++ gs) → IsBelowAll key fs
-below_front key [] gs below = All-nil (λ (f : Key × ℕ). key_cmp key f.0 ≡ Less)
+below_front : (key : Key) (fs gs : List Fence) → IsBelowAll key (fs ++ gs) → IsBelowAll key fs
+below_front key [] gs below = All-nil (λ (f : Fence). key_cmp key f.first ≡ Less)
 below_front key (f ∷ fs) gs below =
-    let P = λ (x : Key × ℕ). key_cmp key x.0 ≡ Less in
+    let P = λ (x : Fence). key_cmp key x.first ≡ Less in
     All-cons P f fs (All-head P f (fs ++ gs) below) (below_front key fs gs (All-tail P f (fs ++ gs) below))
 
-below_one : (key : Key) (before : List (Key × ℕ)) (f : Key × ℕ) (behind : List (Key × ℕ)) → IsBelowAll key (before ++ f ∷ behind) → key_cmp key f.0 ≡ Less
-below_one key [] f behind below = All-head (λ (x : Key × ℕ). key_cmp key x.0 ≡ Less) f behind below
-below_one key (b ∷ bs) f behind below = below_one key bs f behind (All-tail (λ (x : Key × ℕ). key_cmp key x.0 ≡ Less) b (bs ++ f ∷ behind) below)
+below_one : (key : Key) (before : List Fence) (f : Fence) (behind : List Fence) → IsBelowAll key (before ++ f ∷ behind) → key_cmp key f.first ≡ Less
+below_one key [] f behind below = All-head (λ (x : Fence). key_cmp key x.first ≡ Less) f behind below
+below_one key (b ∷ bs) f behind below = below_one key bs f behind (All-tail (λ (x : Fence). key_cmp key x.first ≡ Less) b (bs ++ f ∷ behind) below)
+
+place_later : (key : Key) (n : ℕ) (f : Fence) (fs : List Fence) → IsPlaceOf key n fs → IsPlaceOf key n (f ∷ fs)
+place_later key n f fs place = record {
+  before = f ∷ place.before;
+  fence = place.fence;
+  behind = place.behind;
+  parts = ap (λ (l : List Fence). f ∷ l) place.parts;
+  is_page = place.is_page;
+  not_below = place.not_below;
+  below_others = place.below_others;
+}
 
 -- the page that is named for a key that is below those of the other pages is one of the front
-place_front : (key : Key) (n : ℕ) (fs gs before : List (Key × ℕ)) (first : Key) (behind : List (Key × ℕ)) → fs ++ gs ≡ before ++ (first, n) ∷ behind → key_cmp key first ≢ Less → IsBelowAll key behind → IsBelowAll key gs
-    → IsPlaceOf key n fs
-place_front key n [] gs before first behind parts not_below below below_gs = absurd (not_below (below_one key before (first, n) behind (subst (IsBelowAll key) parts below_gs)))
-place_front key n (f ∷ fs) gs [] first behind parts not_below below below_gs =
-    let f_is : f ≡ (first, n) = cc in
+place_front : (key : Key) (n : ℕ) (fs gs before : List Fence) (fence : Fence) (behind : List Fence) → fs ++ gs ≡ before ++ fence ∷ behind → fence.page ≡ n → key_cmp key fence.first ≢ Less → IsBelowAll key behind
+    → IsBelowAll key gs → IsPlaceOf key n fs
+place_front key n [] gs before fence behind parts page not_below below below_gs = absurd (not_below (below_one key before fence behind (subst (IsBelowAll key) parts below_gs)))
+place_front key n (f ∷ fs) gs [] fence behind parts page not_below below below_gs =
+    let f_is : f ≡ fence = cc in
     let rest_is : fs ++ gs ≡ behind = cc in
-    record { before = []; first = first; behind = fs; parts = ap (λ (x : Key × ℕ). x ∷ fs) f_is; not_below = not_below; below_others = below_front key fs gs (subst (IsBelowAll key) (sym rest_is) below) }
-place_front key n (f ∷ fs) gs (b ∷ bs) first behind parts not_below below below_gs =
-    let f_is : f ≡ b = cc in
-    let rest_is : fs ++ gs ≡ bs ++ (first, n) ∷ behind = cc in
-    let place = place_front key n fs gs bs first behind rest_is not_below below below_gs in
     record {
-      before = b ∷ place.before;
-      first = place.first;
-      behind = place.behind;
-      parts = ap (λ (x : Key × ℕ). x ∷ fs) f_is ∙ ap (λ (l : List (Key × ℕ)). b ∷ l) place.parts;
-      not_below = place.not_below;
-      below_others = place.below_others;
+      before = [];
+      fence = fence;
+      behind = fs;
+      parts = ap (λ (x : Fence). x ∷ fs) f_is;
+      is_page = page;
+      not_below = not_below;
+      below_others = below_front key fs gs (subst (IsBelowAll key) (sym rest_is) below);
     }
+place_front key n (f ∷ fs) gs (b ∷ bs) fence behind parts page not_below below below_gs = place_later key n f fs (place_front key n fs gs bs fence behind (cc) page not_below below below_gs)
+
+-- a key is below first keys, whatever stands before their pages
+below_page : (key : Key) (count weight c w number : ℕ) (es : Entries) (fs gs : List Fence) → (IsBelowAll key fs → IsBelowAll key gs) → IsBelowAll key (fence_of count weight number es ++ fs)
+    → IsBelowAll key (fence_of c w number es ++ gs)
+below_page key count weight c w number [] fs gs more below = more below
+below_page key count weight c w number (e ∷ es) fs gs more below =
+    let P = λ (f : Fence). key_cmp key f.first ≡ Less in
+    let fence : Fence = record { first = e.0; page = number; entries = count; weight = weight } in
+    All-cons P (record { first = e.0; page = number; entries = c; weight = w }) gs (All-head P fence fs below) (more (All-tail P fence fs below))
+
+below_from : (key : Key) (count weight c w : ℕ) (pages : List RunPage) → IsBelowAll key (fences_from count weight pages) → IsBelowAll key (fences_from c w pages)
+below_from key count weight c w [] below = below
+below_from key count weight c w (p ∷ ps) below =
+    below_page key count weight c w p.number p.entries (fences_from (count + length p.entries) (weight + entries_weight p.entries) ps) (fences_from (c + length p.entries) (w + entries_weight p.entries) ps)
+    (below_from key (count + length p.entries) (weight + entries_weight p.entries) (c + length p.entries) (w + entries_weight p.entries) ps) below
 
 pub place_in_front : (key : Key) (n : ℕ) (pages behind : List RunPage) → IsPlaceOf key n (fences_of (pages ++ behind)) → IsBelowAll key (fences_of behind) → IsPlaceOf key n (fences_of pages)
 place_in_front key n pages behind place below =
-    place_front key n (fences_of pages) (fences_of behind) place.before place.first place.behind (sym (fences_join pages behind) ∙ place.parts) place.not_below place.below_others below
+    let count = 0 + length (entries_of pages) in
+    let weight = 0 + entries_weight (entries_of pages) in
+    place_front key n (fences_of pages) (fences_from count weight behind) place.before place.fence place.behind (sym (fences_join 0 0 pages behind) ∙ place.parts) place.is_page place.not_below place.below_others
+    (below_from key 0 0 count weight behind below)
 
 pub none_in_front : (key : Key) (pages behind : List RunPage) → IsBelowAll key (fences_of (pages ++ behind)) → IsBelowAll key (fences_of pages)
-none_in_front key pages behind below = below_front key (fences_of pages) (fences_of behind) (subst (IsBelowAll key) (fences_join pages behind) below)
+none_in_front key pages behind below =
+    below_front key (fences_of pages) (fences_from (0 + length (entries_of pages)) (0 + entries_weight (entries_of pages)) behind) (subst (IsBelowAll key) (fences_join 0 0 pages behind) below)
 
 pub keys_in_front : (key : Key) (pages behind : List RunPage) → Contains (keys_of (entries_of pages)) key → Contains (keys_of (entries_of (pages ++ behind))) key
 keys_in_front key pages behind has =

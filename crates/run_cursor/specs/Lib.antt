@@ -4,3 +4,4 @@ pub mod Part
 pub mod Walk
 pub mod Lookup
 pub mod Below
+pub mod Rebuild

@@ -7,6 +7,7 @@ use Rattle.blsm_model.specs.Keys.{key_cmp}
 use Rattle.blsm_model.specs.Sizes.{Sizes}
 use Rattle.blsm_model.specs.Geometry.{page_count}
 use Rattle.bloom_bits.specs.BitSet.{BitState}
+use Rattle.bloom_bits.specs.declared.fences.Fence.{Fence}
 use Rattle.bloom_bits.specs.Fences.{FencesState, IsAboveAll, IsBelowAll, IsPlaceOf}
 use Rattle.bloom_bits.specs.Filter.{MayHave}
 use Rattle.bloom_bits.specs.Guides.{Guide}
@@ -21,7 +22,7 @@ abbrev pub IsGuided : BitState → FencesState → List RunPage → Type 0
 IsGuided filter fences pages = (pages ≡ [] → ⊥) → Guide filter fences pages
 
 -- there are entries, and the first one's key is above those of the fences
-abbrev pub IsFirstAbove : Entries → List (Key × ℕ) → Type 0
+abbrev pub IsFirstAbove : Entries → List Fence → Type 0
 IsFirstAbove [] fences = ⊥
 IsFirstAbove (e ∷ es) fences = IsAboveAll e.0 fences
 

@@ -1,5 +1,5 @@
 //! A sorted run's filter and fences, made anew from its pages.
-ghost use Rattle.std.specs.Prelude.{◌≡◌, ◌≢◌, ◌<◌, ◌≤◌, ◌++◌, ℕ, List, Option, Ok, Err, length, IsTrue, IfSome, IfNone};
+ghost use Rattle.std.specs.Prelude.{◌≡◌, ◌≢◌, ◌+◌, ◌^◌, ◌<◌, ◌≤◌, ◌++◌, ℕ, List, Option, Ok, Err, length, IsTrue, IfOk, IfSome, IfNone};
 ghost use Rattle.blsm_model.specs.declared.key.Key.{Key};
 ghost use Rattle.blsm_model.specs.Components.{no_page};
 ghost use Rattle.blsm_model.specs.Geometry.{page_count, file_length};
@@ -9,16 +9,25 @@ ghost use Rattle.entry_codec.specs.Spelling.{BeginsWith};
 ghost use Rattle.page_file.specs.Component.{RunPage, ReadsOn};
 ghost use Rattle.page_file.specs.Entry.{entries_bytes, keys_of, AreEntries, HasFirstEntry};
 ghost use Rattle.page_file.specs.File.{page_at, Reads};
-ghost use Rattle.page_file.specs.Page.{page_number, IsPageOf};
+ghost use Rattle.page_file.specs.Page.{IsPageOf};
 ghost use Rattle.record_delta.specs.declared.record.Rec.{Rec};
 ghost use Rattle.record_delta.specs.Entries.{Entries};
 ghost use Rattle.run_cursor.specs.Lookup.{IsFirstAbove};
+ghost use Rattle.run_cursor.specs.Rebuild.{place_behind};
 
-use bloom_bits::{Fences, Filter};
+use bloom_bits::{Fence, Fences, Filter};
 use blsm_model::{Component, Geometry, Key};
 use disk_trait::Disk;
 use entry_codec::decode;
 use page_file::{Broken, PAGE_HEAD_LEN, PAGE_LEN, PageHead, number_of, read_page};
+
+// A place among a run's pages: the number of the page that comes next, and how many entries, of which weight in bytes, stand before it.
+#[derive(Clone, Copy)]
+struct Place {
+    page: u32,
+    entries: u64,
+    weight: u64,
+}
 
 // The key of the entry at the front of the bytes, and the bytes behind that entry, if one is there.
 fn first_entry<'a>(bytes: &'a [u8]) -> Option<(Key, &'a [u8])>
@@ -44,9 +53,9 @@ fn add_keys(filter: &mut Filter, bytes: &[u8])
 }
 
 // Adds the keys of a page's entries, which are in these bytes, and its fence, if there is room for it and its key is above the others'.
-fn add_entries(filter: &mut Filter, fences: &mut Fences, bytes: &[u8], page: u32) -> bool
+fn add_entries(filter: &mut Filter, fences: &mut Fences, bytes: &[u8], at: Place) -> bool
     ensures added { (entries : Entries) → AreEntries entries → bytes.now ≡ entries_bytes entries → length fences.old.list < fences.old.reserved → IsFirstAbove entries fences.old.list
-        → IsTrue result × (fences.new.list ≡ fences.old.list ++ fence_of page entries) × ((keys : List Key) → HasKeys filter.old keys → HasKeys filter.new (keys ++ keys_of entries)) }
+        → IsTrue result × (fences.new.list ≡ fences.old.list ++ fence_of at.entries at.weight at.page entries) × ((keys : List Key) → HasKeys filter.old keys → HasKeys filter.new (keys ++ keys_of entries)) }
     ensures reserves { KeepReserves filter.old filter.new fences.old fences.new }
 {
     let Some((first, _)) = first_entry(bytes) else {
@@ -55,39 +64,51 @@ fn add_entries(filter: &mut Filter, fences: &mut Fences, bytes: &[u8], page: u32
     if !fences.takes(&first) {
         return false;
     }
-    fences.push(&first, page);
+    fences.push(Fence {
+        first,
+        page: at.page,
+        entries: at.entries,
+        weight: at.weight,
+    });
     add_keys(filter, bytes);
     true
 }
 
-// Reads a page, adds its keys and its fence, and gives the number of the page behind it.
+// Reads a page, adds its keys and its fence, and gives the place behind it.
 fn add_page<D: Disk>(
     disk: &mut D,
     geo: &Geometry,
-    n: u32,
+    at: Place,
     filter: &mut Filter,
     fences: &mut Fences,
-) -> Result<u32, Broken>
+) -> Result<Place, Broken>
     requires length { IsTrue (D.state disk.old).tells_bytes → length (D.state disk.old).bytes ≡ file_length geo.now }
-    ensures page { (next : Option ℕ) (entries : Entries) → IsTrue (D.state disk.old).is_honest → n < page_count geo.now
-        → IsPageOf (page_count geo.now) next entries (page_at geo.now n (D.state disk.old).bytes) → length fences.old.list < fences.old.reserved
+    requires few { at.entries + 2 ^ 16 < 2 ^ 64 }
+    requires light { at.weight + 2 ^ 16 < 2 ^ 64 }
+    ensures page { (next : Option ℕ) (entries : Entries) → IsTrue (D.state disk.old).is_honest → at.page < page_count geo.now
+        → IsPageOf (page_count geo.now) next entries (page_at geo.now at.page (D.state disk.old).bytes) → length fences.old.list < fences.old.reserved
         → IsFirstAbove entries fences.old.list → result ≢ Err Broken.Fault
-        → (result ≡ Ok (page_number next)) × (fences.new.list ≡ fences.old.list ++ fence_of n entries)
+        → (result ≡ Ok (place_behind at next entries)) × (fences.new.list ≡ fences.old.list ++ fence_of at.entries at.weight at.page entries)
         × ((keys : List Key) → HasKeys filter.old keys → HasKeys filter.new (keys ++ keys_of entries)) }
+    ensures sums { IfOk result (λ now. (now.entries ≤ at.entries + 2 ^ 16) × (now.weight ≤ at.weight + 2 ^ 16)) }
     ensures reserves { KeepReserves filter.old filter.new fences.old fences.new }
     ensures reads { Reads (file_length geo.now) 1 result (D.state disk.old) (D.state disk.new) }
 {
-    if u64::from(n) >= geo.pages() {
-        return Err(Broken::Damaged(n));
+    if u64::from(at.page) >= geo.pages() {
+        return Err(Broken::Damaged(at.page));
     }
     let mut page = [0; PAGE_LEN];
-    read_page(disk, geo, n, &mut page)?;
+    read_page(disk, geo, at.page, &mut page)?;
     let head = PageHead::read(&page);
     let entries = &page[PAGE_HEAD_LEN..PAGE_HEAD_LEN + head.used as usize];
-    if add_entries(filter, fences, entries, n) {
-        Ok(number_of(head.next))
+    if add_entries(filter, fences, entries, at) {
+        Ok(Place {
+            page: number_of(head.next),
+            entries: at.entries + u64::from(head.count),
+            weight: at.weight + u64::from(head.used),
+        })
     } else {
-        Err(Broken::Damaged(n))
+        Err(Broken::Damaged(at.page))
     }
 }
 
@@ -114,9 +135,13 @@ pub fn rebuild<D: Disk>(
 {
     filter.reset(bits);
     fences.clear();
-    let mut n = run.first;
+    let mut at = Place {
+        page: run.first,
+        entries: 0,
+        weight: 0,
+    };
     for _ in 0..run.pages {
-        n = add_page(disk, geo, n, filter, fences)?;
+        at = add_page(disk, geo, at, filter, fences)?;
     }
     Ok(())
 }

@@ -1,7 +1,7 @@
 -- The closed pages of a run that is written, as a run of their own.
 use Rattle.std.proofs.lemmas.Bool.Decides.{nat_tests}
 use Rattle.std.proofs.lemmas.Grind.{common_steps}
-use Rattle.std.proofs.Common.{◌≡◌, ◌∙◌, ◌+◌, ◌-◌, ◌<◌, ℕ, Bool, List, [], ◌∷◌, ◌++◌, length, take, Option, Some, None, refl, ap, sym, subst, length-append, arith}
+use Rattle.std.proofs.Common.{◌≡◌, ◌∙◌, ◌+◌, ◌-◌, ◌<◌, ℕ, Bool, List, [], ◌∷◌, ◌++◌, length, take, Some, None, refl, ap, sym, subst, length-append, arith}
 use Rattle.std.specs.Prelude.{nat_eq, nat_lt, if◌then◌else◌, IsTrue}
 use Rattle.std.proofs.Math.Seq.{take-append_seam}
 use Rattle.std.proofs.lemmas.List.{take-append-le}
@@ -20,12 +20,12 @@ use Rattle.record_delta.specs.Entries.{Entries, entries_weight}
 use Rattle.entry_codec.specs.Spelling.{spelling}
 use Rattle.entry_codec.proofs.SpellingLemmas.{length-spelling}
 use Rattle.page_space.specs.Space.{SpaceState}
-use Rattle.page_file.specs.Entry.{entries_bytes, keys_of, AreRising}
+use Rattle.page_file.specs.Entry.{keys_of, AreRising}
 use Rattle.page_file.specs.Page.{page_number}
 use Rattle.page_file.specs.Component.{RunPage, numbers_of, entries_of, first_number, AreChained, ReadsOn}
 use Rattle.page_file.proofs.ComponentLemmas.{entries_join, weight_join, weight_is_length}
-use Rattle.run_writer.specs.Run.{Run, page_of, pages_of, IsRun}
-use Rattle.run_writer.specs.Writer.{WriterState, closed_entries, closed_of, put_in, turned, whole_of, Holds, HasPushed}
+use Rattle.run_writer.specs.Run.{page_of}
+use Rattle.run_writer.specs.Writer.{WriterState, closed_entries, closed_of, put_in, turned, whole_of, HasPushed}
 use Rattle.run_writer.proofs.RunLemmas.{of_page, no_pages}
 
 -- ---- fronts

@@ -23,7 +23,7 @@ use Rattle.bloom_bits.specs.Guides.{Guide}
 use Rattle.run_writer.specs.Run.{Run, page_of, pages_of, IsRun, AreTagged}
 use Rattle.run_writer.specs.Writer.{WriterState, IsCounted, Holds, Stands, HasPushed}
 use Rattle.run_writer.proofs.RunLemmas.{empty_run, pushed_here, pushed_on, entries_here, entries_on}
-use Rattle.run_writer.proofs.GuideLemmas.{Adds, guide_here, guide_on, fences_below}
+use Rattle.run_writer.proofs.GuideLemmas.{Adds, next_fence, guide_here, guide_on, fences_below}
 
 -- a run with pages has an entry in its open page
 pub has_open : (writer : WriterState) (run : Run) → Holds writer run → 0 < writer.component.pages → run.entries ≡ [] → ⊥
@@ -168,7 +168,7 @@ more_here sizes honest file space writer new filter after fences key rec entries
 
 pub more_on : (sizes : Sizes) (honest : Bool) (old_file file : List ℕ) (old space : SpaceState) (writer new : WriterState) (filter after : BitState) (fences fences_after : FencesState) (page : ℕ) (key : Key) (rec : Rec) (entries : List (Key × Rec))
     → AreRising ((entries ++ (key, rec) ∷ [])) → IsFree old page → Claims writer.role page old space → ((run : Run) → Holds writer run → Holds new (pushed_on page key rec run))
-    → Adds key filter after → fences_after.list ≡ fences.list ++ (key, page) ∷ []
+    → Adds key filter after → fences_after.list ≡ fences.list ++ next_fence key page writer.component ∷ []
     → ((run : Run) → Holds writer run → IsRun run → IsTrue honest → Stands sizes run old_file → Stands sizes (pushed_on page key rec run) file) → new.role ≡ writer.role
     → new.component.pages ≡ writer.component.pages + 1 → IsCounted new
     → HasPushed sizes honest old_file old writer filter fences entries → HasPushed sizes honest file space new after fences_after (entries ++ (key, rec) ∷ [])
@@ -179,8 +179,8 @@ more_on sizes honest old_file file old space writer new filter after fences fenc
       run = pushed_on page key rec run;
       held = holds run has.held;
       is_run = grows_on old writer.role page key rec run has.is_run has.tagged free (subst AreRising (sym is) rise);
-      guide = guide_on filter after fences fences_after page key rec run adds fenced has.guide;
-      one_a_page = omega (arith, ap length fenced, length-append fences.list ((key, page) ∷ []), has.one_a_page, pages);
+      guide = guide_on filter after fences fences_after page key rec run writer.component adds fenced has.held.entries_is has.held.weight_is has.guide;
+      one_a_page = omega (arith, ap length fenced, length-append fences.list (next_fence key page writer.component ∷ []), has.one_a_page, pages);
       counted = counted;
       tagged = subst (λ r. AreTagged space r (pushed_on page key rec run)) (sym role) (tagged_on old space writer.role page key rec run has.tagged claims);
       entries_are = entries_on page key rec run ∙ is;

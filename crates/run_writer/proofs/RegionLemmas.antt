@@ -5,7 +5,6 @@ use Rattle.std.proofs.Common.{◌≡◌, Bool, ℕ, ◌<◌, List, [], ◌∷◌
 use Rattle.record_delta.specs.Entries.{Entries}
 use Rattle.std.specs.Prelude.{IsTrue, OnOk, OnErr, IsErr, nat_eq}
 use Rattle.std.specs.List.{Contains, IsDistinct}
-use Rattle.std.proofs.lemmas.Bool.{false≢true}
 use Rattle.std.proofs.lemmas.List.Elements.{Contains-append_cases}
 use Rattle.disk_trait.specs.Region.{IsWithin, AreApart, IsSameOutside}
 use Rattle.disk_trait.proofs.RegionLemmas.{same_wider}

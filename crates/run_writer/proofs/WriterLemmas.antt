@@ -4,7 +4,6 @@ use Rattle.std.proofs.lemmas.Grind.{common_steps}
 use Rattle.std.proofs.Common.{◌≡◌, Bool, true, false, ◌&&◌, ℕ, ◌+◌, ◌<◌, ◌≤◌, List, [], ◌∷◌, ◌++◌, length, Option, Some, None, refl, ap, sym, subst, ◌∙◌, length-append, arith}
 use Rattle.record_delta.specs.Entries.{Entries}
 use Rattle.std.specs.Prelude.{IsTrue, IfSome, IsSome}
-use Rattle.std.proofs.lemmas.Bool.{false≢true}
 use Rattle.disk_trait.specs.Region.{IsSameOutside}
 use Rattle.blsm_model.specs.Format.{least_full}
 use Rattle.blsm_model.specs.declared.key.Key.{Key}

@@ -18,7 +18,7 @@ ghost use Rattle.run_writer.specs.Buffer.{sealed};
 ghost use Rattle.run_writer.specs.Writer.{started, closed_of, has_place, open_region, IsInside, IsCounted, put_in, turned, HasPushed};
 
 use crate::buffer::PageBuffer;
-use bloom_bits::{Fences, Filter};
+use bloom_bits::{Fence, Fences, Filter};
 use blsm_model::{Component, Geometry, Key, Op};
 use disk_trait::Disk;
 use page_file::{MOST_USED, PAGE_LEN, no_component, write_page};
@@ -182,6 +182,18 @@ impl Writer {
         Ok(())
     }
 
+    // The fence of the open page, which this key is to begin: all entries so far stand before it.
+    fn fence(&self, first: &Key) -> Fence
+        ensures { result ≡ record { first = first.now; page = self.now.number; entries = self.now.component.entries; weight = self.now.component.weight } }
+    {
+        Fence {
+            first: first.copy(),
+            page: self.number,
+            entries: self.component.entries,
+            weight: self.component.weight,
+        }
+    }
+
     // Puts one entry into the open page.
     fn put(&mut self, key: &Key, rec: &Rec)
         requires { IsTrue (has_place self.old (weight key.now rec.now)) }
@@ -246,7 +258,7 @@ impl Writer {
             return Ok(());
         }
         self.turn(disk, geo, space)?;
-        fences.push(key, self.number);
+        fences.push(self.fence(key));
         self.put(key, rec);
         filter.add(key);
         Ok(())

@@ -1,7 +1,6 @@
-use Rattle.std.proofs.Common.{◌≡◌, ◌∙◌, ◌++◌, List, ap, refl, sym}
+use Rattle.std.proofs.Common.{◌∙◌, ◌++◌, ap, refl, sym}
 use Rattle.std.proofs.lemmas.Bool.{false≢true}
 use Rattle.bloom_bits.specs.Fences.{FencesState}
-use Rattle.blsm_model.specs.declared.key.Key.{Key}
 use Rattle.run_cursor.proofs.RebuildLemmas.{above_first, above_key, fence_first, first_of_all, none_first, not_none}
 use Rattle.run_cursor.proofs.guides.add_entries.Goals as goal
 
@@ -20,6 +19,6 @@ returns-clause-added c = λ entries each is room above.
     let found = c.in-Some.ensures.found in
     let first = first_of_all entries c.args.bytes.now c.in-Some.first _ each is found in (
       refl,
-      ap (λ (f : FencesState). f.list) c.push.ensures ∙ ap (λ l. c.args.fences.now.list ++ l) (fence_first c.args.page entries found.entry first.0 c.in-Some.first first.1 found.key_is),
+      ap (λ (f : FencesState). f.list) c.push.ensures ∙ ap (λ l. c.args.fences.now.list ++ l) (fence_first c.args.at entries found.entry first.0 c.in-Some.first first.1 found.key_is),
       λ keys has. c.add_keys.ensures.keys keys entries has each is,
     )

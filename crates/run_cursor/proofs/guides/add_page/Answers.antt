@@ -1,4 +1,4 @@
-use Rattle.std.proofs.Common.{◌≡◌, ◌≢◌, ◌∙◌, ◌+◌, ◌<◌, ◌≤◌, ℕ, IsTrue, List, Option, Result, Ok, Err, length, ap, sym, subst, arith}
+use Rattle.std.proofs.Common.{◌≡◌, ◌≢◌, ◌∙◌, ◌+◌, ◌≤◌, ℕ, IsTrue, List, Option, Result, Ok, Err, length, ap, sym, subst, arith}
 use Rattle.std.proofs.lemmas.Bool.{false≢true}
 use Rattle.std.proofs.lemmas.Result.{err_from_is_err_and}
 use Rattle.std.specs.List.{between}
@@ -10,10 +10,10 @@ use Rattle.page_file.specs.declared.file.Broken.TheVariants.{Fault}
 use Rattle.page_file.specs.declared.page.PageHead.{PageHead}
 use Rattle.page_file.specs.Entry.{entries_bytes}
 use Rattle.page_file.specs.File.{page_at}
-use Rattle.page_file.specs.Page.{page_number, used_by, IsPageOf}
+use Rattle.page_file.specs.Page.{used_by, IsPageOf}
 use Rattle.record_delta.specs.Entries.{Entries}
 use Rattle.run_cursor.proofs.CursorLemmas.{on_page}
-use Rattle.run_cursor.proofs.RebuildLemmas.{read_fails}
+use Rattle.run_cursor.proofs.RebuildLemmas.{place_is, read_fails}
 use Rattle.run_cursor.proofs.guides.add_page.Goals as goal
 use Rattle.run_cursor.proofs.guides.add_page.Goals.{After-add_entries}
 
@@ -25,16 +25,16 @@ returns-in_err-read_page-clause-page g c = λ next entries honest inside valid r
     let sizes = c.args.geo.now in
     let p = err_from_is_err_and c.from_residual.result c.from_residual.ensures.1 in
     let calm : c.read_page.result ≢ Err Fault = λ fault. other (p.1 ∙ ap Err (p.2 ∙ fault_is c.read_page.result c.in_err-read_page.field-0.0 c.in_err-read_page.was fault)) in
-    let reads = c.read_page.ensures.bytes calm (g.met.D.Disk.honest_tells c.args.disk.now honest) ∙ ap (page_at sizes c.args.n) (only_reads_same c.read_page.ensures.reads.effect honest) in
-    absurd (read_fails (page_count sizes) c.args.n next entries c.read_page.new.into c.read_page.result c.in_err-read_page.field-0.0 c.in_err-read_page.was calm c.read_page.ensures.answer
+    let reads = c.read_page.ensures.bytes calm (g.met.D.Disk.honest_tells c.args.disk.now honest) ∙ ap (page_at sizes c.args.at.page) (only_reads_same c.read_page.ensures.reads.effect honest) in
+    absurd (read_fails (page_count sizes) c.args.at.page next entries c.read_page.new.into c.read_page.result c.in_err-read_page.field-0.0 c.in_err-read_page.was calm c.read_page.ensures.answer
     (subst (IsPageOf (page_count sizes) next entries) (sym reads) valid))
 
 -- the page as it was read
 read_is : (g : _) (c : After-add_entries g) (next : Option ℕ) (entries : Entries) → IsTrue (g.D.Disk.state c.args.disk.now).is_honest
-    → IsPageOf (page_count c.args.geo.now) next entries (page_at c.args.geo.now c.args.n (g.D.Disk.state c.args.disk.now).bytes) → IsPageOf (page_count c.args.geo.now) next entries c.read_page.new.into
+    → IsPageOf (page_count c.args.geo.now) next entries (page_at c.args.geo.now c.args.at.page (g.D.Disk.state c.args.disk.now).bytes) → IsPageOf (page_count c.args.geo.now) next entries c.read_page.new.into
 read_is g c next entries honest valid =
     let sizes = c.args.geo.now in
-    let reads = c.in_ok-read_page.ensures.bytes (λ wrong. cc) (g.met.D.Disk.honest_tells c.args.disk.now honest) ∙ ap (page_at sizes c.args.n) (only_reads_same c.read_page.ensures.reads.effect honest) in
+    let reads = c.in_ok-read_page.ensures.bytes (λ wrong. cc) (g.met.D.Disk.honest_tells c.args.disk.now honest) ∙ ap (page_at sizes c.args.at.page) (only_reads_same c.read_page.ensures.reads.effect honest) in
     subst (IsPageOf (page_count sizes) next entries) (sym reads) valid
 
 head_is : (g : _) (c : After-add_entries g) (next : Option ℕ) (entries : Entries) → IsPageOf (page_count c.args.geo.now) next entries c.read_page.new.into
@@ -52,7 +52,7 @@ returns-then-add_entries-clause-page g c = λ next entries honest inside valid r
     let head = head_is g at next entries page in
     let added =
     c.add_entries.ensures.added entries page.content.each (bytes_are c.read_page.new.into (page_count c.args.geo.now) c.read-head.result.used next entries (ap (λ (h : PageHead). h.used) head) page) room above in
-    (ap Ok (c.number_of.ensures ∙ ap (λ (h : PageHead). page_number h.next) head), added.1, added.2)
+    (ap Ok (place_is c.args.at c.read-head.result next entries _ _ _ head c.number_of.ensures c.from-then-add_entries.ensures c.from-then-add_entries-2.ensures), added.1, added.2)
 
 pub returns-else-add_entries-clause-page : goal.returns-else-add_entries-clause-page
 returns-else-add_entries-clause-page g c = λ next entries honest inside valid room above other.

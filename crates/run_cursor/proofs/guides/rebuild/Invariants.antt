@@ -1,4 +1,4 @@
-use Rattle.std.proofs.Common.{◌≡◌, ◌+◌, ◌≤◌, ℕ, List, Option, IsTrue}
+use Rattle.std.proofs.Common.{◌≡◌, ◌+◌, ◌*◌, ◌^◌, ◌≤◌, ℕ, List, Option, IsTrue}
 use Rattle.blsm_model.specs.Geometry.{file_length}
 use Rattle.bloom_bits.specs.Filter.{rounded}
 use Rattle.bloom_bits.specs.Guides.{KeepSized}
@@ -14,6 +14,8 @@ invariant-loop g l = record {
   calls : (g.D.Disk.state l.disk).clock ≤ (g.D.Disk.state l.fn.disk).clock + l.counter;
   stands : (g.D.Disk.state l.disk).faults ≡ (g.D.Disk.state l.fn.disk).faults;
   reserves : KeepSized (rounded l.bits) l.fn.filter l.filter l.fn.fences l.fences;
+  few : l.at.entries ≤ 2 ^ 16 * l.counter;
+  light : l.at.weight ≤ 2 ^ 16 * l.counter;
   building : (pages : List RunPage) (next : Option ℕ) → IsTrue (g.D.Disk.state l.fn.disk).is_honest → ReadsOn l.geo l.run pages next (g.D.Disk.state l.fn.disk).bytes
-      → Building l.geo l.counter l.n l.filter l.fences pages next (g.D.Disk.state l.fn.disk).bytes;
+      → Building l.geo l.counter l.at l.filter l.fences pages next (g.D.Disk.state l.fn.disk).bytes;
 }

@@ -6,6 +6,6 @@ use Rattle.bloom_bits.proofs.fences.Fences.push.Goals as goal
 pub invariant_of-self : goal.invariant_of-self
 invariant_of-self c =
     let room : length c.self.inside.fences.items < c.self.inside.reserved = subst (λ (f : FencesState). length f.list < f.reserved) (sym c.self.view_is) c.requires.room in
-    let above : IsAboveAll c.args.first.now c.self.inside.fences.items = subst (λ (f : FencesState). IsAboveAll c.args.first.now f.list) (sym c.self.view_is) c.requires.above in
-    rw (c.push_reserved.ensures.items, c.copy.ensures)
-    (fences_pushed c.self.inside.fences.items c.self.inside.reserved c.self.inside.fences.cap c.push_reserved.new.self.cap c.args.first.now c.args.page c.self.invariant room above c.push_reserved.ensures.capacity)
+    let above : IsAboveAll c.args.fence.first c.self.inside.fences.items = subst (λ (f : FencesState). IsAboveAll c.args.fence.first f.list) (sym c.self.view_is) c.requires.above in
+    rw c.push_reserved.ensures.items
+    (fences_pushed c.self.inside.fences.items c.self.inside.reserved c.self.inside.fences.cap c.push_reserved.new.self.cap c.args.fence c.self.invariant room above c.push_reserved.ensures.capacity)

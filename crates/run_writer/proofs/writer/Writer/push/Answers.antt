@@ -1,5 +1,6 @@
 use Rattle.std.proofs.Common.{◌≡◌, ◌∙◌, ◌≤◌, sym, ap, subst, Some, Bool, [], ◌∷◌, ◌++◌, inl, arith}
 use Rattle.disk_trait.proofs.RegionLemmas.{same_wider}
+use Rattle.bloom_bits.specs.declared.fences.Fence.{Fence}
 use Rattle.bloom_bits.specs.Fences.{FencesState}
 use Rattle.record_delta.specs.Entries.{Entries}
 use Rattle.record_delta.specs.Records.{weight}
@@ -7,6 +8,7 @@ use Rattle.run_writer.specs.Writer.{WriterState, put_in, turned, Holds, HasPushe
 use Rattle.run_writer.proofs.RunLemmas.{pushed_here, pushed_on, holds_here, holds_on}
 use Rattle.run_writer.proofs.WriterLemmas.{place_parts, no_place, chained}
 use Rattle.run_writer.proofs.GrowthLemmas.{more_here, more_on}
+use Rattle.run_writer.proofs.GuideLemmas.{next_fence}
 use Rattle.run_writer.proofs.RegionLemmas.{pushed_kept, always_err}
 use Rattle.run_writer.proofs.writer.Writer.push.Goals as goal
 
@@ -35,8 +37,8 @@ returns-clause-pushed g c = λ entries rise has.
     let taken = c.in_ok-turn.ensures.turned in
     let page = taken.0 in
     let put : c.put-2.new.self ≡ put_in key rec (turned page writer) = c.put-2.ensures.put ∙ ap (put_in key rec) taken.3.0 in
-    let fenced : c.push.new.self.list ≡ c.args.fences.now.list ++ (key, page) ∷ [] =
-    ap (λ (f : FencesState). f.list) c.push.ensures ∙ ap (λ n. c.args.fences.now.list ++ (key, n) ∷ []) (ap (λ (x : WriterState). x.number) (c.self.view_is ∙ taken.3.0)) in
+    let fenced : c.push.new.self.list ≡ c.args.fences.now.list ++ next_fence key page writer.component ∷ [] =
+    ap (λ (f : FencesState). f.list) c.push.ensures ∙ ap (λ (f : Fence). c.args.fences.now.list ++ f ∷ []) (c.fence.ensures ∙ ap (λ (x : WriterState). next_fence key x.number x.component) taken.3.0) in
     let light : w ≤ 512 = c.has_place.ensures.light in
     subst (λ (h : Bool). HasPushed sizes h new.bytes c.turn.new.space c.put-2.new.self c.add-2.new.self c.push.new.self more) (sym c.turn.ensures.writes.effect.goes_on.is_honest)
     (more_on sizes old.is_honest old.bytes new.bytes c.args.space.now c.turn.new.space writer c.put-2.new.self c.args.filter.now c.add-2.new.self c.args.fences.now c.push.new.self page key rec entries rise taken.1.free taken.2

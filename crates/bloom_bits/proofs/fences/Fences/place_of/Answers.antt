@@ -1,18 +1,17 @@
-use Rattle.std.proofs.Common.{ℕ, ◌≡◌, ◌+◌, ◌<◌, length, rules, of_calls, ap, sym, subst, ◌-◌, refl, arith}
+use Rattle.std.proofs.Common.{◌≡◌, ◌+◌, ◌<◌, length, rules, of_calls, ap, sym, subst, ◌-◌, refl, arith}
 use Rattle.std.specs.Ordering.{is_le}
 use Rattle.std.proofs.lemmas.Fn.{always_returns_same}
 use Rattle.std.proofs.lemmas.Bool.{true≢false}
-use Rattle.blsm_model.specs.declared.key.Key.{Key}
 use Rattle.blsm_model.specs.Keys.{key_cmp}
 use Rattle.bloom_bits.specs.Fences.{FencesState, IsPlaceOf, IsBelowAll}
 use Rattle.bloom_bits.proofs.FenceLemmas.{IsSplit, partitioned, place_at, none_before, some_before}
-use Rattle.bloom_bits.proofs.fences.Fences.page_of.Goals as goal
-use Rattle.bloom_bits.proofs.fences.Fences.page_of.Goals.{After-partition_point-behind, After-index}
+use Rattle.bloom_bits.proofs.fences.Fences.place_of.Goals as goal
+use Rattle.bloom_bits.proofs.fences.Fences.place_of.Goals.{After-partition_point-behind, After-index}
 
 -- the closure compares a fence's key, and the slice is the fences
 split : (c : After-partition_point-behind) → IsSplit c.self.inside.fences.items c.args.key.now c.partition_point-behind.result
 split c =
-    let clause = c.partition_point-behind.ensures.partitioned (λ f. is_le (key_cmp f.0 c.args.key.now)) (always_returns_same _ _ _ (λ a r f k. search (rules, of_calls))) in
+    let clause = c.partition_point-behind.ensures.partitioned (λ f. is_le (key_cmp f.first c.args.key.now)) (always_returns_same _ _ _ (λ a r f k. search (rules, of_calls))) in
     rw c.deref.ensures.value at clause (partitioned c.self.inside.fences.items c.args.key.now c.self.invariant.rise)
 
 pub returns-then-behind-eq0-clause-none : goal.returns-then-behind-eq0-clause-none
@@ -34,10 +33,8 @@ last_within c = omega (arith, c.if-behind-eq0.false, c.partition_point-behind.en
 pub returns-clause-some : goal.returns-clause-some
 returns-clause-some c =
     let b = split (goal.at.returns-clause-some c).After-partition_point-behind in
-    let there = place_at c.self.inside.fences.items c.args.key.now (c.partition_point-behind.result - 1) c.index.result.now (last_is c b) (last_within c) in
-    let page = ap (λ (f : Key × ℕ). f.1) c.index.ensures in
-    subst (λ (f : FencesState). IsPlaceOf c.args.key.now c.index.result.now.1 f.list) c.self.view_is
-    (subst (λ p. IsPlaceOf c.args.key.now p c.self.inside.fences.items) (sym page) there)
+    let there = place_at c.self.inside.fences.items c.args.key.now (c.partition_point-behind.result - 1) c.index.result.now c.index.ensures (last_is c b) (last_within c) in
+    subst (λ (f : FencesState). (place : IsPlaceOf c.args.key.now c.index.result.now.page f.list) × (place.fence ≡ c.index.result.now) × (length place.before ≡ c.partition_point-behind.result - 1)) c.self.view_is there
 
 pub returns-clause-none : goal.returns-clause-none
 returns-clause-none c =
