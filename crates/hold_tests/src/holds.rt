@@ -16,10 +16,11 @@ use std::process::Abort;
 // The roles of C1, C1' and C2.
 const ROLES: [u8; 3] = [0, 1, 2];
 
-// A row as it is written down: a key, a count and a text.
-type Written<'a> = (&'a [u8], u64, &'a [u8]);
+/// A row as it is written down: a key, a count and a text.
+pub type Written<'a> = (&'a [u8], u64, &'a [u8]);
 
-fn is_row(rt: &impl Abort, row: &Row, (key, count, text): Written) {
+/// The row is this one.
+pub fn is_row(rt: &impl Abort, row: &Row, (key, count, text): Written) {
     assert_that(rt, row.key.as_bytes() == key);
     assert_same(rt, row.value.count, count);
     assert_that(rt, row.value.text.as_bytes() == text);
@@ -32,8 +33,8 @@ fn are_rows(rt: &impl Abort, found: &[Row], rows: &[Written]) {
     }
 }
 
-// A hold gives these rows.
-fn gives(rt: &impl Abort, store: &mut Store, hold: &mut Hold, n: u32, rows: &[Written]) {
+/// A hold gives these rows.
+pub fn gives(rt: &impl Abort, store: &mut Store, hold: &mut Hold, n: u32, rows: &[Written]) {
     assert_that(rt, store.next(rt, hold, n).is_ok());
     are_rows(rt, store.room.as_slice(), rows);
 }
@@ -48,8 +49,8 @@ fn claim(rt: &impl Abort, space: &mut Space, role: u8, page: u32) {
     space.claim(Role::new(role), page);
 }
 
-// A free-page map in which each component's pages have its role.
-fn map_of(rt: &impl Abort, alloc: Global, pages: &[(u8, u32)]) -> Space {
+/// A free-page map in which each component's pages have its role.
+pub fn map_of(rt: &impl Abort, alloc: Global, pages: &[(u8, u32)]) -> Space {
     let mut space = Space::reserve(alloc, 798).expect(rt, "memory");
     for (role, page) in pages {
         claim(rt, &mut space, *role, *page);
@@ -57,14 +58,14 @@ fn map_of(rt: &impl Abort, alloc: Global, pages: &[(u8, u32)]) -> Space {
     space
 }
 
-// What a hold is made over.
+/// What a hold is made over.
 #[derive(Drop)]
-struct Tree {
-    a: Table,
-    b: Table,
-    c1: Component,
-    c1x: Component,
-    c2: Component,
+pub struct Tree {
+    pub a: Table,
+    pub b: Table,
+    pub c1: Component,
+    pub c1x: Component,
+    pub c2: Component,
     ghost reserved: { b.reserved ≡ 65536 },
 }
 
@@ -75,7 +76,8 @@ fn is_component(rt: &impl Abort, run: &Component)
 }
 
 impl Tree {
-    fn hold(
+    /// A hold of the rows from low on, without high.
+    pub fn hold(
         &self,
         rt: &impl Abort,
         alloc: Global,
@@ -246,13 +248,14 @@ fn the_place_stays_where_a_page_is_damaged(rt: HostRuntime) {
     gives(&rt, &mut store, &mut hold, 1, &[(b"d", 15, b"x")]);
 }
 
-const TEXT: [u8; 435] = [b't'; 435];
+/// The text of long entries.
+pub const TEXT: [u8; 435] = [b't'; 435];
 
-// Nine long entries.
-fn front(rt: &impl Abort, alloc: Global) -> Vec<Entry> {
+/// Nine long entries, which fill a page, of keys that begin with this letter.
+pub fn page_of(rt: &impl Abort, alloc: Global, letter: u8) -> Vec<Entry> {
     let mut entries = Vec::new(alloc);
     for number in 0..9u8 {
-        let entry = named(rt, &[b'a', number], u64::from(number), &TEXT);
+        let entry = named(rt, &[letter, number], u64::from(number), &TEXT);
         assert_that(rt, entries.push(entry).is_ok());
     }
     entries
@@ -260,7 +263,7 @@ fn front(rt: &impl Abort, alloc: Global) -> Vec<Entry> {
 
 // A C1 of two pages: the long entries, and three short ones.
 fn make_long(rt: &impl Abort, alloc: Global, store: &mut Store) -> Component {
-    let front = front(rt, alloc);
+    let front = page_of(rt, alloc, b'a');
     let back = [
         (key(rt, b"b"), Rec::added(11)),
         (key(rt, b"c"), Rec::Tomb),

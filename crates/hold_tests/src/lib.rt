@@ -6,4 +6,6 @@ mod asserts;
 #[cfg(test)]
 mod holds;
 #[cfg(test)]
+mod scans;
+#[cfg(test)]
 mod store;
