@@ -11,3 +11,4 @@ pub mod RowLemmas
 pub mod DamageLemmas
 pub mod HoldLemmas
 pub mod ReplyLemmas
+pub mod ScanLemmas

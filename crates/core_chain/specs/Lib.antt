@@ -5,3 +5,4 @@ pub mod Steps
 pub mod Damage
 pub mod Holds
 pub mod Replies
+pub mod Scans

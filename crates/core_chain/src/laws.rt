@@ -13,6 +13,7 @@ ghost use Rattle.core_chain.specs.Damage.{StopsAtPage};
 ghost use Rattle.core_chain.specs.Holds.{ChainTellsHolds, HoldsNone};
 ghost use Rattle.core_chain.specs.Quanta.{ChainHelps, ChainTakesFew};
 ghost use Rattle.core_chain.specs.Replies.{IsNoted};
+ghost use Rattle.core_chain.specs.Scans.{ReadsWell, ReadOnce};
 ghost use Rattle.core_chain.specs.Start.{IsUnasked};
 ghost use Rattle.core_chain.specs.Steps.{ChainIsSteps};
 ghost use Rattle.core_chain.specs.Tells.{ChainTells};
@@ -54,6 +55,13 @@ pub fn calls_meet_damage<D: Disk + Drop>(core: &Core<D>)
 pub fn calls_tell_holds<D: Disk + Drop>(core: &Core<D>)
     ensures { (calls : List (Step × CoreState D)) (start : CoreState D) → start.held.book.book.entries ≡ [] → HoldsNone start → AreCalls D.state calls start core.now
         → ChainTellsHolds core.now }
+{}
+
+/// The nexts of a seat's hold read each page once that it had ahead, and three more each at most: where the seat makes no hold meanwhile and drops
+/// none, and each next gives rows.
+pub fn nexts_read_once<D: Disk + Drop>(core: &Core<D>)
+    ensures { (seat : ℕ) (calls : List (Step × CoreState D)) (start : CoreState D) → AreCalls D.state calls start core.now → ReadsWell seat calls
+        → ReadOnce D.state seat calls start core.now }
 {}
 
 /// Each entry was noted by one of the calls, which says why it has its reply.
