@@ -8,11 +8,8 @@ ghost use Rattle.tree_session.specs.Lines.{HasRoomFor};
 ghost use Rattle.tree_shared.specs.Runs.{IsFresh};
 
 use disk_trait::Disk;
-use tree_session::an_opened_core_rests;
 
 /// A run may begin with a core that was just opened, whose annals have room for the lines.
 pub fn an_opened_core_is_fresh<D: Disk + Drop>()
     ensures { (annals : Book) (faults : ℕ) (lines : List Line) (core : CoreState D) → IsOpened annals faults core.held → HasRoomFor annals.room lines → IsFresh lines core }
-{
-    an_opened_core_rests();
-}
+{}
