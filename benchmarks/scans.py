@@ -147,7 +147,7 @@ class Scan:
     def cells(self) -> list[str]:
         spent, openings = least(self.whole.runs), least(self.openings.runs)
         row = (spent.processor - openings.processor) / len(self.rows)
-        times = [f"{it:.2f} s" for it in (spent.user, spent.system, openings.processor, min(took.wall for took in self.whole.runs))]
+        times = [f"{it:.3f} s" for it in (spent.user, spent.system, openings.processor, min(took.wall for took in self.whole.runs))]
         counts = [f"{it:,}" for it in (len(self.scripts), self.whole.reads, self.openings.reads, self.whole.read)]
         return [self.store.name, *counts, *times, f"{row * 1e6:.1f} us"]
 
