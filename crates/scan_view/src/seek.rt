@@ -12,17 +12,16 @@ ghost use Rattle.scan_view.specs.Told.{IsFront, IsDamageIn};
 use blsm_model::{Geometry, Key};
 use disk_trait::Disk;
 use page_file::{Broken, no_component};
-use record_delta::Stream;
 use run_cursor::{Cursor, Walk};
 
 // Whether a cursor is at an entry above a key.
 fn is_above(cursor: &Cursor, at: &Option<Key>) -> bool
     ensures { result ≡ head_above at.now cursor.now.head }
 {
-    match (cursor.head(), at) {
+    match (cursor.peek(), at) {
         (None, _) => false,
         (Some(_), None) => true,
-        (Some((key, _)), Some(low)) => *low < key,
+        (Some((key, _)), Some(low)) => *low < *key,
     }
 }
 
@@ -54,7 +53,7 @@ pub fn seek<D: Disk>(
     while !is_above(&walk.cursor, at) {
         let part = walk.next_part(geo);
         walk.cursor.advance(disk, geo)?;
-        if walk.cursor.head().is_none() {
+        if walk.cursor.peek().is_none() {
             walk.here = no_component();
             return Ok(());
         }
