@@ -344,7 +344,8 @@ class Built(WithRoom):
             commands = [Put(f"k{i % 50:02}", 1000 * trial + i, "x" * draw.randrange(400)) for i in range(1000)]
             values = {row.key: row.count for row in self.store.rows()}
             opened = self.store.live()
-            late = threading.Timer(draw.random() / 2, self.process().send_signal, [signal.SIGKILL])
+            process = self.process()
+            late = threading.Timer(draw.random() / 2, process.send_signal, [signal.SIGKILL])
             late.start()
             try:
                 answered = opened.batch(commands)
@@ -352,6 +353,7 @@ class Built(WithRoom):
                 answered = list(error.entries)
                 self.assertEqual(error.command, commands[len(answered)])
             late.join()
+            process.wait()  # it holds the file until it has ended
             values.update((put.key, put.count) for put in commands[: len(answered)])
             untold = values | {put.key: put.count for put in commands[len(answered) : len(answered) + 1]}
             self.assertIn({row.key: row.count for row in self.store.rows()}, (values, untold))
