@@ -106,10 +106,9 @@ pub returns-in_default-clause-told : goal.returns-in_default-clause-told
 returns-in_default-clause-told g c = λ file run run_x run_2 read is have.
     let inv = c.loop-scan.invariant in
     let was = inv.read file run run_x run_2 read is have in
-    let now = c.in_ok-key.ensures.read file run run_x run_2 was.0.now (file_on inv.effect is) was.0.read in
-    (
+    let now = c.in_ok-key.ensures.read file run run_x run_2 was.0.now (file_on inv.effect is) was.0.read in (
       told_by now.0 (λ all fronts.
-      none_left g (goal.at.returns-in_default-clause-told g c).In_default (view_of c.args.memory.now all.c1 all.c1x all.c2) (was.1 all (now.0.onward all fronts)) (sym (now.1 all fronts) ∙ c.in_default.is)),
+          none_left g (goal.at.returns-in_default-clause-told g c).In_default (view_of c.args.memory.now all.c1 all.c1x all.c2) (was.1 all (now.0.onward all fronts)) (sym (now.1 all fronts) ∙ c.in_default.is)),
       now.0.now,
       now.0.read,
     )
@@ -160,10 +159,9 @@ returns-else-is_before-clause-rows g c = λ file xs ys zs pages is scan other.
 pub returns-else-is_before-clause-told : goal.returns-else-is_before-clause-told
 returns-else-is_before-clause-told g c = λ file run run_x run_2 read is have.
     let memory = c.args.memory.now in
-    let now = c.loop-scan.invariant.read file run run_x run_2 read is have in
-    (
+    let now = c.loop-scan.invariant.read file run run_x run_2 read is have in (
       told_by now.0 (λ all fronts.
-      none_inside g (goal.at.returns-else-is_before-clause-told g c).Else-is_before (view_of memory all.c1 all.c1x all.c2) (view_sorted memory all.c1 all.c1x all.c2 fronts.c2.sorted) (now.1 all fronts)),
+          none_inside g (goal.at.returns-else-is_before-clause-told g c).Else-is_before (view_of memory all.c1 all.c1x all.c2) (view_sorted memory all.c1 all.c1x all.c2 fronts.c2.sorted) (now.1 all fronts)),
       now.0.now,
       now.0.read,
     )
@@ -176,8 +174,7 @@ returns-after-loop-scan-clause-rows g c = λ file xs ys zs pages is scan other.
 
 pub returns-after-loop-scan-clause-told : goal.returns-after-loop-scan-clause-told
 returns-after-loop-scan-clause-told g c = λ file run run_x run_2 read is have.
-    let now = c.loop-scan.invariant.read file run run_x run_2 read is have in
-    (
+    let now = c.loop-scan.invariant.read file run run_x run_2 read is have in (
       told_by now.0 (λ all fronts. filled g (goal.at.returns-after-loop-scan-clause-told g c).After-loop-scan (view_of c.args.memory.now all.c1 all.c1x all.c2) (now.1 all fronts)),
       now.0.now,
       now.0.read,

@@ -71,7 +71,7 @@ returns-clause-rows g c =
     let scan = c.start-scan.ensures.list sizes held.of_c1 held.of_c1x held.of_c2 file held.c1 held.c1x held.c2 in
     let came = c.gather.ensures.rows file held.of_c1 held.of_c1x held.of_c2 (pages_held held) (record { honest = honest; bytes_are = refl }) scan (calm_of c.gather.result tt c.in_ok-gather.was) in
     let left = ap (λ (l : List Row). drop n l) held.rows_are ∙ sym came.2
-        ∙ ap (λ (m : Entries). rows_of inside.low inside.high (above c.gather.new.scan.at (view_of m held.of_c1 held.of_c1x held.of_c2))) c.deref.ensures.value in
+    ∙ ap (λ (m : Entries). rows_of inside.low inside.high (above c.gather.new.scan.at (view_of m held.of_c1 held.of_c1x held.of_c2))) c.deref.ensures.value in
     let parts = parts_have sizes now c.gather.new.scan held.of_c1 held.of_c1x held.of_c2 (pages_held held) (drop n rows) file c.self.invariant.sorted came.3 refl refl refl refl left in
     let same = only_reads_same c.gather.ensures.reads.effect honest in
     let kept = rows_kept sizes now (drop n rows) file (g.D.Disk.state c.gather.new.disk).bytes parts.0 (λ k has. ap (λ (f : List ℕ). page_at sizes k f) same) in
