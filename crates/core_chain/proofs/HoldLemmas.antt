@@ -33,6 +33,7 @@ use Rattle.tree_core.specs.Causes.{DropsBecause, HoldsBecause, ScansBecause}
 use Rattle.tree_core.specs.Core.{CoreState}
 use Rattle.tree_core.specs.Holds.{KeepsHolds}
 use Rattle.tree_core.specs.declared.answers.Holding.{Holding}
+use Rattle.tree_core.specs.declared.answers.Holding.TheVariants as holding
 use Rattle.tree_core.specs.declared.answers.Release.{Release}
 use Rattle.tree_core.specs.Scanned.{Scanned}
 use Rattle.tree_core.specs.Scanned as scanned
@@ -134,7 +135,13 @@ module _ {D : Type 0} where
 
   own_of_hold : (answer : Holding) (seat : ℕ) (low high : Key) (old new : CoreState D) → HoldsBecause answer seat low high old new → (told : Option ToldHold) → IsTold (hold_of seat old.holds) told
       → IsTold (hold_of seat new.holds) (held_by (op.Hold low high) (reply_to_hold answer) told) × TellsHold told (op.Hold low high) (reply_to_hold answer)
-  own_of_hold answer seat low high old new h1 told h2 = grind (arith, common_steps, nat_tests, none_rise)
+  own_of_hold holding.Held seat low high old new because told is = (
+    subst (λ (h : Option HoldState). IsTold h (Some (record { low = low; high = high; given = [] }))) (sym (because.1.1 ∙ ap Some because.1.2.hold_is))
+        (record { low = refl; high = refl; rise = none_rise; up_to_place = tt }),
+    tt,
+  )
+  own_of_hold holding.NoMemory seat low high old new because told is = (stays seat told old new because.1 is, tt)
+  own_of_hold (holding.Stopped why) seat low high old new because told is = (stays seat told old new because.1 is, tt)
 
   own_of_scan : (answer : Scanned) (seat n : ℕ) (old new : CoreState D) (before after : DiskState) → ScansBecause answer seat n old new before after → (told : Option ToldHold) → IsTold (hold_of seat old.holds) told
       → IsTold (hold_of seat new.holds) (held_by (op.Next n) (reply_to_next answer) told) × TellsHold told (op.Next n) (reply_to_next answer)

@@ -1,7 +1,8 @@
-// A hold over merges.
+// A hold over merges, and how many pages one of the last keys reads.
 use crate::asserts::{assert_same, assert_that_at};
-use crate::samples::{del, key, put, value};
-use crate::stores::{check_reply, fresh, make, work, write};
+use crate::samples::{del, key, key_of, put, put_of, value};
+use crate::stops::calls_of;
+use crate::stores::{File, check_reply, fresh, make, smallest, work, write};
 use blsm_model::{Annals, Geometry, Op, Row, ShortReply, Totals};
 use disk_mem::MemDisk;
 use std::alloc::Global;
@@ -84,4 +85,78 @@ fn a_hold_lasts_over_merges(rt: HostRuntime) {
     check_end(&rt, &annals);
     check_held(&rt, &annals);
     check_totals(&rt, &totals);
+}
+
+// How many keys a store has, and the number from which on the last hundredth of them stands.
+const KEYS: usize = 200;
+
+const LAST: usize = 198;
+
+// A store whose keys were put in another order than theirs, 512 bytes each, and merged down as the writes paid.
+fn filled(rt: &impl Abort, alloc: Global) -> Core<MemDisk> {
+    let mut core = fresh(rt, alloc, smallest(rt));
+    for number in 0..KEYS {
+        let op = put_of(rt, number.saturating_mul(77) % KEYS);
+        write(alloc, &mut core, 0, op);
+    }
+    core
+}
+
+// The row of the put of a number.
+fn row_of(rt: &impl Abort, number: usize) -> Row {
+    Row {
+        key: key_of(rt, number.saturating_mul(5).saturating_add(4)),
+        value: value(rt, 0, &[b'x'; 435]),
+    }
+}
+
+// Caller 1 holds the last hundredth of the keys.
+fn last_held(rt: &impl Abort, alloc: Global) -> Core<MemDisk> {
+    let mut core = filled(rt, alloc);
+    let low = row_of(rt, LAST).key;
+    make(alloc, &mut core, 1, Kind::Hold(low, key_of(rt, 4_095)));
+    core
+}
+
+// Its rows are the last entry's.
+fn check_last(rt: &impl Abort, annals: &Annals) {
+    let rows = [row_of(rt, LAST), row_of(rt, LAST.saturating_add(1))];
+    let place = (annals.len() as u32).saturating_sub(1);
+    check_rows(rt, annals, place, &rows);
+}
+
+// The components have twenty pages at least.
+fn check_pages(rt: &impl Abort, disk: MemDisk) {
+    let now = File::over(rt, smallest(rt), disk).newest(rt);
+    let mut all = 0u32;
+    for run in [now.c1, now.c1x, now.c2] {
+        all = all.saturating_add(run.pages);
+    }
+    assert!(rt; all >= 20, "{all} pages");
+}
+
+// How many calls the disk has had when the last hundredth is held.
+fn calls_before(rt: &impl Abort, alloc: Global) -> u64 {
+    let (disk, _, _) = last_held(rt, alloc).end();
+    calls_of(disk)
+}
+
+// And when its rows are read.
+fn calls_behind(rt: &impl Abort, alloc: Global) -> u64 {
+    let mut core = last_held(rt, alloc);
+    make(alloc, &mut core, 1, Kind::Next(32));
+    let (disk, annals, _) = core.end();
+    check_last(rt, &annals);
+    calls_of(disk)
+}
+
+// A hold begins at its low key's page of each component, so a first next in the last hundredth of the keys reads nine pages at most.
+#[test]
+fn a_hold_of_the_last_keys_reads_few_pages(rt: HostRuntime) {
+    let (disk, _, _) = last_held(&rt, rt.alloc()).end();
+    check_pages(&rt, disk);
+    let before = calls_before(&rt, rt.alloc());
+    let behind = calls_behind(&rt, rt.alloc());
+    let calls = behind.saturating_sub(before);
+    assert!(rt; 0 < calls && calls <= 9, "{calls} calls");
 }

@@ -178,6 +178,7 @@ fn an_empty_component(rt: HostRuntime) {
         &key(&rt, &key_bytes(0)),
         None,
     );
+    part_is(&rt, &guide, &run, b"k", run);
     what_is_ahead();
 }
 
@@ -240,6 +241,52 @@ fn one_page(rt: HostRuntime) {
         &key(&rt, &key_bytes(0)),
         None,
     );
+    part_is(&rt, &guide, &run, b"k", run);
+    part_is(&rt, &guide, &run, b"m", run);
+}
+
+// The part of a component that may have a key.
+fn part_is(rt: &impl Abort, guide: &Guide, run: &Component, name: &[u8], part: Component) {
+    assert_same(rt, guide.fences.part_from(&key(rt, name), run), part);
+}
+
+// The part that may have the key of this number.
+fn part_at(rt: &impl Abort, guide: &Guide, number: u16, part: Component) {
+    part_is(rt, guide, &THREE, &key_bytes(number), part);
+}
+
+// The three pages from the second one on, and the last one.
+const TWO: Component = Component {
+    first: 2,
+    pages: 2,
+    entries: 8,
+    weight: 3_598,
+};
+
+const LAST: Component = Component {
+    first: 9,
+    pages: 1,
+    entries: 1,
+    weight: 14,
+};
+
+// Below the first key and at it, on the first page and between two, at a page's first key, and from the last one on. A component
+// without pages has no part, whatever the fences are.
+#[test]
+fn the_part_that_may_have_a_key(rt: HostRuntime) {
+    let geo = smallest(&rt);
+    let mut disk = disk_of_three(&rt, rt.alloc(), &geo);
+    let guide = guide_of(&rt, rt.alloc(), &mut disk, &geo, &THREE);
+    part_is(&rt, &guide, &THREE, b"a", THREE);
+    part_at(&rt, &guide, 0, THREE);
+    part_at(&rt, &guide, 13, THREE);
+    part_at(&rt, &guide, 14, TWO);
+    part_at(&rt, &guide, 27, TWO);
+    part_is(&rt, &guide, &THREE, b"l", LAST);
+    part_is(&rt, &guide, &THREE, b"m", LAST);
+    part_is(&rt, &guide, &no_component(), b"m", no_component());
+    assert_same(&rt, walk(&rt, &mut disk, &geo, &TWO), (8, Ok(())));
+    assert_same(&rt, walk(&rt, &mut disk, &geo, &LAST), (1, Ok(())));
 }
 
 // Bytes of a page that are changed, numbers of the component, which page is damaged then, and how many entries come before.

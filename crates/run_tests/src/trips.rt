@@ -113,6 +113,32 @@ fn look_up(rt: &impl Abort, disk: &mut MemDisk, geo: &Geometry, run: &Component,
     }
 }
 
+// The part of a run that may have the key of a number has so many entries. A cursor goes through it to its end, where just these numbers
+// go on.
+fn reads_on(
+    rt: &impl Abort,
+    disk: &mut MemDisk,
+    geo: &Geometry,
+    run: &Component,
+    guide: &Guide,
+    n: u32,
+)
+    requires run { run.now.pages ≢ 0 }
+    requires length { length (told disk.old).bytes ≡ file_length geo.now }
+    ensures { length (told disk.new).bytes ≡ file_length geo.now }
+{
+    let (key, _) = entry(rt, n);
+    let part = guide.fences.part_from(&key, run);
+    assert!(rt; part.pages > 0);
+    let mut cursor = Cursor::start(&part);
+    'entries: for _ in 0..part.entries {
+        assert_same(rt, cursor.advance(disk, geo), Ok(()));
+        assert_that(rt, cursor.head().is_some());
+    }
+    assert_same(rt, cursor.advance(disk, geo), Ok(()));
+    assert_same(rt, cursor.head(), None);
+}
+
 #[test]
 fn a_run_of_2000_entries_is_read_back(rt: HostRuntime) {
     let geo = smallest(&rt);
@@ -124,4 +150,7 @@ fn a_run_of_2000_entries_is_read_back(rt: HostRuntime) {
     assert_that(&rt, run.pages != 0);
     walk(&rt, &mut disk, &geo, &run);
     look_up(&rt, &mut disk, &geo, &run, &guide);
+    reads_on(&rt, &mut disk, &geo, &run, &guide, 1);
+    reads_on(&rt, &mut disk, &geo, &run, &guide, 2_001);
+    reads_on(&rt, &mut disk, &geo, &run, &guide, 3_999);
 }

@@ -5,3 +5,4 @@ pub mod ScanLemmas
 pub mod RowLemmas
 pub mod RangeLemmas
 pub mod StayLemmas
+pub mod RestLemmas

@@ -47,7 +47,7 @@ within_sorted low high es sorted = sorted_where (in_range low high) es sorted
 
 -- ---- the rows
 
-rows_within : (low high : Key) (es : Entries) → AreSorted es → rows_of low high es ≡ rows_of low high (within low high es)
+pub rows_within : (low high : Key) (es : Entries) → AreSorted es → rows_of low high es ≡ rows_of low high (within low high es)
 rows_within low high [] sorted = refl
 rows_within low high (e ∷ es) sorted =
     let rest : AreSorted es = is_true (is_sorted key_cmp es) (right (below_all key_cmp e.0 es) (is_sorted key_cmp es) (test (is_sorted key_cmp (e ∷ es)) sorted)) in

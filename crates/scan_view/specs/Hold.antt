@@ -2,12 +2,14 @@
 use Rattle.std.specs.Prelude.{◌≡◌, ◌++◌, ℕ, ◌≤◌, true, false, List, Option, None, length, map, filter}
 use Rattle.std.specs.List.{AllByRecursion}
 use Rattle.std.specs.List.Sorted.{IsStrictlySortedBy}
+use Rattle.std.specs.declared.cmp.Ordering.TheVariants.{Less}
 use Rattle.blsm_model.specs.declared.component.Component.{Component}
 use Rattle.blsm_model.specs.declared.key.Key.{Key}
 use Rattle.blsm_model.specs.declared.row.Row.{Row}
 use Rattle.blsm_model.specs.Components.{empty_component}
 use Rattle.blsm_model.specs.Keys.{key_cmp, in_range}
 use Rattle.blsm_model.specs.Sizes.{Sizes}
+use Rattle.record_delta.specs.declared.record.Rec.{Rec}
 use Rattle.record_delta.specs.Entries.{Entries, AreSorted, folded_over, is_above, above}
 use Rattle.page_file.specs.Component.{numbers_of, HasList}
 use Rattle.tree_machine.specs.Lists.{settled_pairs}
@@ -35,6 +37,13 @@ held_from low high b a c1 c1x c2 =
 -- a component without pages is the empty one
 abbrev pub IsEmptyOrPaged : Component → Type 0
 IsEmptyOrPaged run = run.pages ≡ 0 → run ≡ empty_component
+
+-- This is what is left of a list behind entries that are all below the key.
+pub record IsRestFrom (low : Key) (entries rest : Entries) : Type 0 where
+  pub before : Entries
+  pub parts : entries ≡ before ++ rest
+  pub below : AllByRecursion (λ (e : Key × Rec). key_cmp e.0 low ≡ Less) before
+  pub sorted : AreSorted entries
 
 -- what each hold keeps
 pub record IsHold (hold : HoldState) : Type 0 where

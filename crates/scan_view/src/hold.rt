@@ -9,7 +9,7 @@ ghost use Rattle.record_delta.specs.Entries.{Entries};
 ghost use Rattle.page_file.specs.Component.{HasList, numbers_of};
 ghost use Rattle.page_file.specs.File.{Reads};
 ghost use Rattle.tree_machine.specs.Lists.{rows_in};
-ghost use Rattle.scan_view.specs.Hold.{held_from, IsEmptyOrPaged, HasRows, AreGiven, pages_held};
+ghost use Rattle.scan_view.specs.Hold.{held_from, IsEmptyOrPaged, HasRows, IsRestFrom, AreGiven, pages_held};
 ghost use Rattle.scan_view.specs.Pins.{Pins};
 ghost use Rattle.scan_view.specs.Holds.{pages_behind};
 ghost use Rattle.scan_view.specs.Told.{AreTold, ArePartsOf, IsNeeded};
@@ -52,7 +52,8 @@ impl Model for Hold {
 }
 
 impl Hold {
-    /// A hold of the rows from low on, without high, of table B over table A over the three components. It copies the tables' records
+    /// A hold of the rows from low on, without high, of table B over table A over the three components, or over the parts of these that can have
+    /// keys from low on: no page before them is ever read. It copies the tables' records
     /// of the range, and pins for the seat just the pages that have the components' roles. Where memory is refused there is no hold,
     /// and the seat's pins stay as they were, so that its earlier hold still gives its rows.
     pub fn build(
@@ -75,9 +76,11 @@ impl Hold {
         requires c1x { IsEmptyOrPaged c1x.now }
         requires c2 { IsEmptyOrPaged c2.now }
         ensures hold { IfOk result (λ hold. hold ≡ held_from low.now high.now b.now.entries a.now.entries c1.now c1x.now c2.now) }
-        // In a file in which the components read as lists, it has all rows of the tree's lists to give, from their pages.
-        ensures rows { (sizes : Sizes) (xs ys zs : Entries) (file : List ℕ) → (one : HasList sizes c1.now xs file) → (two : HasList sizes c1x.now ys file) → (three : HasList sizes c2.now zs file)
-            → IfOk result (λ hold. (has : HasRows sizes hold (rows_in (record { b = b.now.entries; a = a.now.entries; c1 = xs; c1x = ys; c2 = zs }) low.now high.now) file)
+        // In a file in which the components read as lists, it has all rows of the tree's lists to give, from their pages. The components may be
+        // parts of the tree's, before which all entries are below the range.
+        ensures rows { (sizes : Sizes) (xs ys zs of_c1 of_c1x of_c2 : Entries) (file : List ℕ) → (one : HasList sizes c1.now xs file) → (two : HasList sizes c1x.now ys file) → (three : HasList sizes c2.now zs file)
+            → IsRestFrom low.now of_c1 xs → IsRestFrom low.now of_c1x ys → IsRestFrom low.now of_c2 zs
+            → IfOk result (λ hold. (has : HasRows sizes hold (rows_in (record { b = b.now.entries; a = a.now.entries; c1 = of_c1; c1x = of_c1x; c2 = of_c2 }) low.now high.now) file)
             × (pages_held has ≡ numbers_of one.pages ++ numbers_of two.pages ++ numbers_of three.pages)) }
         ensures pins { OnOk result (Pins seat r1 r1x r2 space.old space.new) }
         ensures kept { OnErr result (space.new ≡ space.old) }

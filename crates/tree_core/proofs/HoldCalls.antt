@@ -56,7 +56,9 @@ use Rattle.tree_core.proofs.KeepLemmas.{no_commits}
 
 hold_cause : {D : Type 0} (mid : Held) (after : List (Option HoldState)) (answer : Holding) (seat : ℕ) (low high : Key) (old : CoreState D) (disk : D) (b : BookState) → HoldsBecause answer seat low high (undisked old.held old.holds) (undisked mid after)
     → HoldsBecause answer seat low high old (record { disk = disk; held = with_book b mid; holds = after })
-hold_cause mid after answer seat low high old disk b h1 = grind (arith, common_steps, nat_tests)
+hold_cause mid after holding.Held seat low high old disk b because = because
+hold_cause mid after holding.NoMemory seat low high old disk b because = because
+hold_cause mid after (holding.Stopped why) seat low high old disk b because = because
 
 next_cause : {D : Type 0} (mid : Held) (after : List (Option HoldState)) (answer : Scanned) (seat n : ℕ) (old : CoreState D) (disk : D) (b : BookState) (d d2 : DiskState) → ScansBecause answer seat n (undisked old.held old.holds) (undisked mid after) d d2
     → ScansBecause answer seat n old (record { disk = disk; held = with_book b mid; holds = after }) d d2

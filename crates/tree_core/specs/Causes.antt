@@ -15,7 +15,7 @@ use Rattle.record_delta.specs.declared.record.Rec.{Rec}
 use Rattle.record_delta.specs.Records.{settled}
 use Rattle.page_space.specs.PageSet.{none_of}
 use Rattle.page_space.specs.Space.{pins_of}
-use Rattle.scan_view.specs.Hold.{HoldState, held_from}
+use Rattle.scan_view.specs.Hold.{HoldState}
 use Rattle.scan_view.specs.Holds.{hold_of, pages_behind, AreGivenBy, AreToldBehind, IsDamageBehind}
 use Rattle.gear_sched.specs.declared.Plan.{Plan}
 use Rattle.gear_sched.specs.declared.Plan.TheVariants.{Snow, Deep, Nothing}
@@ -25,7 +25,7 @@ use Rattle.tree_machine.specs.Machine as machine
 use Rattle.seat_book.specs.State.{is_closed_in, noted_in}
 use Rattle.tree_runs.specs.Runs.{RunsState, filter_of, left_for_pass, left_for_deep}
 use Rattle.tree_runs.specs.Damage.{DeepMeetsDamage, PassMeetsDamage}
-use Rattle.tree_runs.specs.Holding.{PinsComponents}
+use Rattle.tree_runs.specs.Holding.{IsHeldFrom, PinsComponents}
 use Rattle.tree_runs.specs.Lookups.{AreToldBy, CountsYes, IsDamageBelow, from_newest}
 use Rattle.core_moves.specs.declared.held.Held.{Held}
 use Rattle.core_moves.specs.Held.{charge_in}
@@ -194,12 +194,12 @@ IsLookOn _ old before after = after.faults ≡ before.faults
 
 -- ---- holds
 
--- What holding a range is due to. A hold that was made is the one of this moment, and pins just the components' pages; one for which memory was refused
--- leaves the earlier one, and its pins.
+-- What holding a range is due to. A hold that was made is the one of this moment, and begins at low's page of each component; it pins just the components'
+-- pages. One for which memory was refused leaves the earlier one, and its pins.
 abbrev pub HoldsBecause : {D : Type 0} → Holding → ℕ → Key → Key → CoreState D → CoreState D → Type 0
 HoldsBecause holding.Held seat low high old new =
     (old.held.book.stopped ≡ None)
-    × (hold_of seat new.holds ≡ Some (held_from low high old.held.log.b.entries old.held.log.a.entries old.held.runs.catalogue.c1 old.held.runs.catalogue.c1x old.held.runs.catalogue.c2))
+    × ((hold : HoldState) × (hold_of seat new.holds ≡ Some hold) × IsHeldFrom old.held.runs low high old.held.log.b.entries old.held.log.a.entries hold)
     × PinsComponents seat old.held.runs new.held.runs
 HoldsBecause holding.NoMemory seat low high old new = (old.held.book.stopped ≡ None) × (new.holds ≡ old.holds) × (new.held.runs ≡ old.held.runs)
 HoldsBecause (holding.Stopped why) seat low high old new = (old.held.book.stopped ≡ Some why) × (new.holds ≡ old.holds) × (new.held.runs ≡ old.held.runs)

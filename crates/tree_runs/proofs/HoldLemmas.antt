@@ -14,12 +14,13 @@ use Rattle.blsm_model.specs.declared.row.Row.{Row}
 use Rattle.record_delta.specs.Entries.{Entries}
 use Rattle.page_space.specs.PageSet.{Members, IsIn, none_of, size}
 use Rattle.page_space.specs.Space.{SpaceState, HasRole, IsPinnedBy, IsSpace, KeepsOtherPins, pin_size, pins_of, role_size, seat_count}
-use Rattle.scan_view.specs.Hold.{HoldState, HasRows, held_from, pages_held}
+use Rattle.scan_view.specs.Hold.{HoldState, HasRows, pages_held}
 use Rattle.scan_view.specs.Holds.{pages_behind}
 use Rattle.scan_view.specs.Pins.{IsUnpinned, HasHeld, Pins}
 use Rattle.tree_file.specs.Tree.{Tree, live_pages}
 use Rattle.tree_runs.specs.Runs.{RunsState, AreRuns, AreRunning, guide_at, page_share}
-use Rattle.tree_runs.specs.Holding.{AreOf}
+use Rattle.tree_runs.specs.Holding.{AreOf, IsHeldFrom}
+use Rattle.tree_runs.proofs.PartLemmas.{no_more_pages}
 use Rattle.tree_runs.proofs.StayLemmas.{live_tagged}
 use Rattle.tree_runs.proofs.KeptMerges.{KeepsRun, KeepsPages, pass_runs_still, deep_runs_still, pass_over_still, deep_over_still}
 use Rattle.tree_runs.proofs.BesideLemmas.{tag_of_pass, tag_of_deep, pass_has_it, deep_has_it}
@@ -116,8 +117,9 @@ share_of runs are live = omega (arith, live, are.c1.filled.full, are.c1x.filled.
 -- so a hold of them has
 pub few_held : {E : Type 0} (runs : RunsState) (low high : Key) (b a : Entries) (result : Result HoldState E) → AreRuns runs
     → runs.catalogue.c1.weight + runs.catalogue.c1x.weight + runs.catalogue.c2.weight ≤ capacity runs.sizes
-    → IfOk result (λ hold. hold ≡ held_from low high b a runs.catalogue.c1 runs.catalogue.c1x runs.catalogue.c2) → IfOk result (λ hold. pages_behind (Some hold) ≤ page_share runs.sizes)
-few_held runs low high b a result h1 h2 h3 = grind (arith, common_steps, nat_tests)
+    → IfOk result (IsHeldFrom runs low high b a) → IfOk result (λ hold. pages_behind (Some hold) ≤ page_share runs.sizes)
+few_held runs low high b a (Ok hold) are live held = omega (arith, no_more_pages runs low high b a hold held, share_of runs are live)
+few_held runs low high b a (Err error) are live held = tt
 
 pub held_repinned : (runs : RunsState) (after : SpaceState) (seat : ℕ) → AreRuns runs → runs.catalogue.c1.weight + runs.catalogue.c1x.weight + runs.catalogue.c2.weight ≤ capacity runs.sizes
     → Pins seat runs.tags.c1 runs.tags.c1x runs.tags.c2 runs.space after → Repinned runs after

@@ -9,6 +9,7 @@ mod ToldLemmas
 mod GuideLemmas
 pub mod BesideLemmas
 mod HoldLemmas
+mod PartLemmas
 pub mod QuantaLemmas
 mod InstallLemmas
 mod CommitLemmas

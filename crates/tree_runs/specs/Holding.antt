@@ -18,6 +18,8 @@ use Rattle.page_file.specs.declared.file.Broken.{Broken}
 use Rattle.page_file.specs.declared.file.Broken.TheVariants.{Fault, Damaged}
 use Rattle.page_file.specs.Component.{RunPage, entries_of, numbers_of}
 use Rattle.run_cursor.specs.Lookup.{IsGuided}
+use Rattle.bloom_bits.specs.Parts.{IsPartFrom}
+use Rattle.scan_view.specs.Hold.{HoldState, held_from}
 use Rattle.scan_view.specs.Pins.{Pins, beside_pins}
 use Rattle.catalog_swap.specs.Slots.{slot_of, slot_length}
 use Rattle.catalog_swap.specs.Swap.{prepared}
@@ -28,7 +30,7 @@ use Rattle.snow_merge.specs.Pass.{SnowState, IsPass, progress_of_pass}
 use Rattle.deep_merge.specs.Merge.{DeepState, IsMerge, progress_of_deep, started as deep_started}
 use Rattle.tree_file.specs.Tree.{Tree, HoldsTree}
 use Rattle.tree_file.specs.Places.{StandsOn, HoldsEither, StandsOnEither}
-use Rattle.tree_runs.specs.Runs.{GuideState, RunsState, Tags, AreRunning, deep_bits, emptied, guide_at, made_by_pass, made_by_deep}
+use Rattle.tree_runs.specs.Runs.{GuideState, RunsState, Tags, AreRunning, deep_bits, emptied, fences_of_tag, guide_at, made_by_pass, made_by_deep}
 
 -- each of these pages has the tag
 abbrev pub AreTagged : SpaceState → ℕ → List RunPage → Type 0
@@ -246,3 +248,15 @@ pub record LeavesSwapped (old new : RunsState) (one next : Tree) (a : Entries) (
   pub each : LeavesOnly before after (HoldsEither old.sizes one next)
   pub either : StandsOnEither old.sizes one next after
   pub stands : IsTrue done → StandOver new next a after
+
+-- ---- holds
+
+-- The hold of these lists and components of a range from low on: of each component it has the part from the page on that the fences name for low.
+pub record IsHeldFrom (runs : RunsState) (low high : Key) (b a : Entries) (hold : HoldState) : Type 0 where
+  pub c1 : Component
+  pub c1x : Component
+  pub c2 : Component
+  pub of_c1 : IsPartFrom low (fences_of_tag runs runs.tags.c1).list runs.catalogue.c1 c1
+  pub of_c1x : IsPartFrom low (fences_of_tag runs runs.tags.c1x).list runs.catalogue.c1x c1x
+  pub of_c2 : IsPartFrom low (fences_of_tag runs runs.tags.c2).list runs.catalogue.c2 c2
+  pub hold_is : hold ≡ held_from low high b a c1 c1x c2

@@ -1,29 +1,31 @@
 //! Holds: snapshots of a range, whose pages stay.
-ghost use Rattle.std.specs.Prelude.{◌≡◌, ◌+◌, ◌<◌, ◌≤◌, ℕ, Bool, List, Some, IfOk, OnOk, OnErr};
+ghost use Rattle.std.specs.Prelude.{◌≡◌, ◌+◌, ◌<◌, ◌≤◌, ℕ, Bool, List, Some, length, IfOk, OnOk, OnErr};
 ghost use Rattle.blsm_model.specs.Format.{callers};
 ghost use Rattle.blsm_model.specs.Geometry.{capacity};
 ghost use Rattle.record_delta.specs.Entries.{Entries};
 ghost use Rattle.page_file.specs.Component.{entries_of};
 ghost use Rattle.page_space.specs.PageSet.{none_of};
-ghost use Rattle.page_space.specs.Space.{pins_of};
-ghost use Rattle.scan_view.specs.Hold.{held_from};
+ghost use Rattle.page_space.specs.Space.{pins_of, role_count};
+ghost use Rattle.bloom_bits.specs.Parts.{IsPartFrom};
 ghost use Rattle.scan_view.specs.Holds.{pages_behind};
 ghost use Rattle.scan_view.specs.Pins.{HasHeld};
 ghost use Rattle.tree_file.specs.Tree.{Tree};
 ghost use Rattle.tree_machine.specs.Lists.{rows_in};
-ghost use Rattle.tree_runs.specs.Runs.{AreRuns, AreRunning, page_share};
-ghost use Rattle.tree_runs.specs.Holding.{AreOf, PinsComponents, Repins};
+ghost use Rattle.tree_runs.specs.Runs.{AreRuns, AreRunning, fences_of_tag, page_share};
+ghost use Rattle.tree_runs.specs.Holding.{AreOf, IsHeldFrom, PinsComponents, Repins};
 
 use crate::runs::Runs;
-use blsm_model::Key;
+use blsm_model::{Component, Key};
 use mem_table::Table;
+use page_space::Role;
 use refusal::NoMemory;
 use scan_view::Hold;
 use std::alloc::Global;
 
 impl Runs {
     /// A hold for a caller's seat: the rows of the range from `low` on, without `high`, of table B over table A over the components, as they are
-    /// now. Their pages are pinned for the seat, and none that it pinned before. It calls no device.
+    /// now. Of each component it has the part from the page on that may have `low`, and never reads one before it. The components' pages are pinned for the
+    /// seat, and none that it pinned before. It calls no device.
     ///
     /// Where memory is refused there is no hold, and the seat's pins stay as they were.
     /// A clause each for the rows of an honest disk and of any, for what the seat pins, and for what the merges keep.
@@ -39,7 +41,7 @@ impl Runs {
         requires seat { seat < callers }
         requires runs { AreRuns self.old }
         requires live { self.old.catalogue.c1.weight + self.old.catalogue.c1x.weight + self.old.catalogue.c2.weight ≤ capacity self.old.sizes }
-        ensures hold { IfOk result (λ hold. hold ≡ held_from low.now high.now b.now.entries a.now.entries self.old.catalogue.c1 self.old.catalogue.c1x self.old.catalogue.c2) }
+        ensures hold { IfOk result (IsHeldFrom self.old low.now high.now b.now.entries a.now.entries) }
         // In a file that holds a tree it has the rows of its lists to give, from pages that the seat pins.
         ensures rows { (tree : Tree) (table : Entries) (file : List ℕ) → AreOf self.old tree table file
             → IfOk result (λ hold. HasHeld self.old.sizes self.new.space.pins seat (Some hold)
@@ -52,7 +54,9 @@ impl Runs {
         ensures running { (honest : Bool) (file : List ℕ) → AreRunning honest file self.old → AreRunning honest file self.new }
         ensures lists { (tree : Tree) (table : Entries) (file : List ℕ) → AreOf self.old tree table file → AreOf self.new tree table file }
     {
-        let now = self.catalogue;
+        let c1 = self.part_from(&self.catalogue.c1, self.c1, low);
+        let c1x = self.part_from(&self.catalogue.c1x, self.c1x, low);
+        let c2 = self.part_from(&self.catalogue.c2, self.c2, low);
         Hold::build(
             alloc,
             seat,
@@ -60,14 +64,23 @@ impl Runs {
             high,
             a,
             b,
-            &now.c1,
-            &now.c1x,
-            &now.c2,
+            &c1,
+            &c1x,
+            &c2,
             &mut self.space,
             self.c1,
             self.c1x,
             self.c2,
         )
+    }
+
+    // The part of a component, whose pages have this tag, that can have keys from this one on.
+    fn part_from(&self, run: &Component, role: Role, low: &Key) -> Component
+        requires { length self.now.guides ≡ role_count }
+        ensures { IsPartFrom low.now (fences_of_tag self.now role).list run.now result }
+    {
+        let guide = &self.guides[role.number() as usize];
+        guide.fences.part_from(low, run)
     }
 
     /// Drops the pins of a caller's seat. Its pages that are no component's and no run's, and that no other seat pins, are free then.

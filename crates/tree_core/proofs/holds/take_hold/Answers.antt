@@ -8,6 +8,7 @@ use Rattle.scan_view.specs.Hold.{HoldState}
 use Rattle.scan_view.specs.Holds.{hold_of, pages_behind}
 use Rattle.scan_view.specs.Pins.{HasHeld}
 use Rattle.tree_machine.specs.Lists.{rows_in}
+use Rattle.tree_runs.specs.Holding.{IsHeldFrom}
 use Rattle.tree_runs.specs.Runs.{RunsState}
 use Rattle.tree_core.specs.Holds.{AreFew}
 use Rattle.tree_core.proofs.KeepLemmas.{few_by}
@@ -37,3 +38,13 @@ returns-in-Ok-clause-few c = λ few.
     (few_by runs.sizes c.args.seat c.args.holds.now c.set.new.self
     (λ other differs. ap (λ (hs : List (Option HoldState)). hold_of other hs) c.set.ensures ∙ get_or-set_other c.args.holds.now c.args.seat other (Some c.in-Ok.hold) None differs)
     (omega (arith, ap pages_behind is, c.in-Ok.ensures.few)) few)
+
+pub returns-in-Ok-clause-cause : goal.returns-in-Ok-clause-cause
+returns-in-Ok-clause-cause c =
+    let runs = c.args.held.now.runs in
+    let low = c.args.low.now in
+    let high = c.args.high.now in
+    let at_a = subst (λ (t : Contents). IsHeldFrom runs low high c.b.result.now.entries t.entries c.in-Ok.hold) c.a.ensures c.in-Ok.ensures.hold in
+    let at_b = subst (λ (t : Contents). IsHeldFrom runs low high t.entries c.args.held.now.log.a.entries c.in-Ok.hold) c.b.ensures at_a in
+    let is = ap (λ (hs : List (Option HoldState)). hold_of c.args.seat hs) c.set.ensures ∙ get_or-set_same c.args.holds.now c.args.seat (Some c.in-Ok.hold) None (omega (arith, c.requires.seat, c.has-had.ensures.places)) in
+    (sym c.in_default.ensures, (c.in-Ok.hold, is, at_b), c.in-Ok.ensures.exact)
