@@ -149,8 +149,8 @@ fn a_run_of_2000_entries_is_read_back(rt: HostRuntime) {
     assert_same(&rt, run.entries, 2_000);
     assert_that(&rt, run.pages != 0);
     walk(&rt, &mut disk, &geo, &run);
-    look_up(&rt, &mut disk, &geo, &run, &guide);
     reads_on(&rt, &mut disk, &geo, &run, &guide, 1);
     reads_on(&rt, &mut disk, &geo, &run, &guide, 2_001);
     reads_on(&rt, &mut disk, &geo, &run, &guide, 3_999);
+    look_up(&rt, &mut disk, &geo, &run, &guide);
 }
