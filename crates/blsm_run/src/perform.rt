@@ -11,8 +11,7 @@ use crate::source::read_source;
 use crate::stores::{check_on_shelf, make_on_shelf, run_on_shelf, serve_on_shelf};
 use blsm_model::Gate;
 use disk_trait::Shelf;
-use program_words::{Request, asked_in_range, read_words};
-use script_text::made_histories;
+use program_words::{Request, read_words};
 use std::alloc::Global;
 use std::sync::Wait;
 use std::thread::Threads;
@@ -87,7 +86,6 @@ fn carry_out<R: Threads + Wait + Sync, S: Source, K: Sink, H: Shelf, G: Gate + S
     ensures made { IfOk result HasMadeAnswer }
     ensures told { HasTold (outcome_of result) (K.state sink.old) (K.state sink.new) }
 {
-    made_histories();
     match request {
         Request::Make { name, geometry } => Ok(Answer::Made(make_on_shelf(
             shelf, name, &geometry,
@@ -121,7 +119,6 @@ pub(crate) fn perform<R: Threads + Wait + Sync, S: Source, K: Sink, H: Shelf, G:
     ensures made { IfOk result HasMadeAnswer }
     ensures told { HasTold (outcome_of result) (K.state sink.old) (K.state sink.new) }
 {
-    asked_in_range();
     match read_words(alloc, words) {
         Ok(request) => carry_out(rt, alloc, request, source, sink, shelf, gate),
         Err(why) => Err(Refusal::from(why)),

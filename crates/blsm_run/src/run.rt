@@ -12,8 +12,6 @@ use std::alloc::Global;
 use std::sync::Wait;
 use std::thread::Threads;
 use text_io::{Sink, Source};
-use tree_file::one_tree;
-use tree_reading::a_map_is_read;
 
 /// Reads the words and does what they ask for: it makes a store on the disk of a name; runs a script from the source over the store on one, by
 /// sixteen callers and so many merge workers on threads, and prints its history; serves a session over it, each line done and told as it comes;
@@ -29,8 +27,6 @@ pub fn blsm_run<R: Threads + Wait + Sync, S: Source, K: Sink, H: Shelf, G: Gate 
 ) -> Status
     ensures { Answers H.D.state (outside (map string_bytes words.now) (S.state src.old) (S.state src.new) (H.state shelf.old) (H.state shelf.new)) (K.state sink.old) (K.state sink.new) result }
 {
-    one_tree();
-    a_map_is_read();
     let answer = perform(rt, alloc, words, src, sink, shelf, gate);
     tell(sink, &answer)
 }

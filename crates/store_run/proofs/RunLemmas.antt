@@ -15,6 +15,7 @@ use Rattle.blsm_model.specs.declared.history.Line.{Line}
 use Rattle.blsm_model.specs.declared.history.Totals.{Totals}
 use Rattle.blsm_model.specs.declared.room.Room.{Room}
 use Rattle.blsm_model.proofs.ScriptLemmas.{of_script}
+use Rattle.core_chain.proofs.LinkLemmas.{chain_keeps, link_keeps}
 use Rattle.core_chain.specs.Quanta.{ChainHelps, ChainTakesFew, helps_in}
 use Rattle.core_chain.specs.Start.{IsUnasked, steps_of}
 use Rattle.core_chain.specs.Tells.{ChainTells, calls_of_all}
@@ -85,8 +86,11 @@ pub record HasRun {D : Type 0} (state : D → DiskState) (lines : List Line) (ol
   pub effect : Reaches (file_length old.held.runs.sizes) calls (state old.disk) (state new.disk)
 
 -- one thread did the lines one after another
-module _ {D : Type 0} (state : D → DiskState) (lines : List Line) (annals : Book) (faults : ℕ) (old new : CoreState D) (opened : IsOpened annals faults old.held) (first : IsCore old.held (state old.disk)) (core : IsCore new.held (state new.disk))
+module _ {D : Type 0} (state : D → DiskState) (lines : List Line) (annals : Book) (faults : ℕ) (old new : CoreState D) (opened : IsOpened annals faults old.held) (first : IsCore old.held (state old.disk))
     (begins : StandsSince state old old) (runs : Runs state lines old new) where
+  core : IsCore new.held (state new.disk)
+  core = chain_keeps state (λ (c : CoreState D). IsCore c.held (state c.disk)) (link_keeps state) runs.made.0 old new runs.made.1 first
+
   lines_added : new.held.book.book.entries ≡ runs.added
   lines_added = runs.entries ∙ ap (λ (es : List Entry). es ++ runs.added) (no_entries_yet annals faults old.held opened)
 

@@ -19,17 +19,13 @@ ghost use Rattle.store_run.specs.Headline.{Headline, IsServedInOrder};
 
 use crate::ending::ending;
 use blsm_model::{Annals, Gate, Line, Room, Totals};
-use core_chain::{
-    calls_are_steps, calls_help, calls_meet_damage, calls_note, calls_take_few, calls_tell,
-    calls_tell_holds,
-};
 use disk_trait::Disk;
 use recover_open::{Unreadable, open_store};
 use std::alloc::Global;
 use std::sync::Wait;
 use std::thread::Threads;
 use tree_core::Core;
-use tree_session::{an_opened_core_rests, run_lines};
+use tree_session::run_lines;
 use tree_shared::run_all;
 
 /// How the run of a script ended.
@@ -121,7 +117,6 @@ pub fn run_over<R: Threads + Wait + Sync, D: Disk + Send + Drop, G: Gate + Sync>
     ensures untouched { IsTrue (D.state disk).is_honest → ReadsAsNone (D.state disk).bytes
         → LeavesOnly (D.state disk) (D.state result.0) (D.state disk).images }
 {
-    an_opened_core_rests();
     let core = match open_store(alloc, disk, room) {
         Ok(core) => core,
         Err(refused) => return (refused.disk, Err(refused.why)),
@@ -130,13 +125,6 @@ pub fn run_over<R: Threads + Wait + Sync, D: Disk + Send + Drop, G: Gate + Sync>
     let charge = core.charge();
     match run_all(rt, alloc, core, lines, workers, turns, gate) {
         Ok(core) => {
-            calls_tell(&core);
-            calls_take_few(&core);
-            calls_are_steps(&core);
-            calls_help(&core);
-            calls_tell_holds(&core);
-            calls_meet_damage(&core);
-            calls_note(&core);
             let (disk, finished) = finish(core, charge);
             (disk, Ok(finished))
         }
@@ -170,7 +158,6 @@ pub fn run_in_order<D: Disk + Drop>(
         → IfOk result.1 (λ finished. (sizes : Sizes) × IsRunInOrder sizes lines.now (run_of finished) × IsServedInOrder D.state sizes lines.now (run_of finished) room (D.state disk) (D.state result.0)) }
     ensures refused { IsTrue (D.state disk).is_honest → IfErr result.1 (λ why. IsWhy why (D.state disk).bytes) }
 {
-    an_opened_core_rests();
     let mut core = match open_store(alloc, disk, room) {
         Ok(core) => core,
         Err(refused) => return (refused.disk, Err(refused.why)),
@@ -178,8 +165,6 @@ pub fn run_in_order<D: Disk + Drop>(
     core.kept();
     let charge = core.charge();
     run_lines(alloc, &mut core, lines);
-    core.kept();
-    calls_are_steps(&core);
     let (disk, finished) = finish(core, charge);
     (disk, Ok(finished))
 }

@@ -11,6 +11,7 @@ use Rattle.blsm_model.specs.Format.{callers}
 use Rattle.blsm_model.specs.Scripts.{asked, asked_in}
 use Rattle.blsm_model.specs.declared.history.Entry.{Entry}
 use Rattle.blsm_model.specs.declared.history.Line.{Line}
+use Rattle.core_chain.proofs.LinkLemmas.{chain_keeps, link_keeps}
 use Rattle.core_moves.specs.declared.held.Held.{Held}
 use Rattle.disk_trait.specs.Disk.{DiskState}
 use Rattle.gear_sched.specs.Gears.{GearState, first_debt, second_debt}
@@ -125,7 +126,7 @@ saw_all {D} state lines old mid new begins runs seat was = record {
 }
 
 -- the calls of the lines, and then the leaves
-pub runs_all : {D : Type 0} (state : D → DiskState) (lines : List Line) (old mid new : CoreState D) → IsFresh [] old → StandsSince state old old → IsCore new.held (state new.disk) → Runs state lines old mid → LeftBy state callers mid new
+pub runs_all : {D : Type 0} (state : D → DiskState) (lines : List Line) (old mid new : CoreState D) → IsFresh [] old → StandsSince state old old → IsCore old.held (state old.disk) → Runs state lines old mid → LeftBy state callers mid new
     → RunsAll state lines 0 0 old new
 runs_all {D} state lines old mid new fresh begins keeps runs leaves = record {
   of_script = of_script lines new.held.book.book.entries asked_end;
@@ -134,7 +135,8 @@ runs_all {D} state lines old mid new fresh begins keeps runs leaves = record {
     are = calls_then state runs.made.0 leaves.made.0 old mid new runs.made.1 leaves.made.1;
     since = leaves.lasts old (runs.proceeds.lasts old begins);
   };
-  keeps = keeps;
+  keeps = chain_keeps state (λ (core : CoreState D). IsCore core.held (state core.disk)) (link_keeps state) (runs.made.0 ++ leaves.made.0) old new
+      (calls_then state runs.made.0 leaves.made.0 old mid new runs.made.1 leaves.made.1) keeps;
   left = leaves.left;
   saw = λ seat below. saw_all state lines old mid new begins runs seat (leaves.each seat below);
   idle = λ seat below. ap (λ (ws : List WorkSoFar). (slice_index_or ws seat no_work).turns) leaves.work ∙ ap (λ (w : WorkSoFar). w.turns) (runs.rests.idle seat);
@@ -168,10 +170,10 @@ pub record ServedOver {D : Type 0} (state : D → DiskState) (room : Room) (clos
   pub told : IsTold closing run.charge run.entries run.quanta k h
 
 module _ {D : Type 0} (state : D → DiskState) (timed : (d : D) → IsTimed (state d)) (room : Room) (closing : Closing) (first : D) (old mid new : CoreState D) (s t : SourceState) (k h : SinkState)
-    (o : Opened state room first old) (did : DidLines state closing old mid s t k h) (leaves : LeftBy state callers mid new) (keeps : IsCore new.held (state new.disk)) where
+    (o : Opened state room first old) (did : DidLines state closing old mid s t k h) (leaves : LeftBy state callers mid new) where
   is_run : RunsAll state (lines_in new.held.book.book.entries) 0 0 old new
   is_run = subst (λ (b : Book). RunsAll state (lines_in b.entries) 0 0 old new) (sym leaves.book)
-      (runs_all state (lines_in mid.held.book.book.entries) old mid new (is_fresh [] (no_entries room) (state old.disk).faults old o.opened o.rests (no_lines room)) o.begins keeps did.runs leaves)
+      (runs_all state (lines_in mid.held.book.book.entries) old mid new (is_fresh [] (no_entries room) (state old.disk).faults old o.opened o.rests (no_lines room)) o.begins o.keeps did.runs leaves)
 
   takes_all : TakesLines new.held.book.book.entries closing room s t
   takes_all = subst (λ (b : Book). TakesLines b.entries closing room s t) (sym leaves.book)

@@ -99,7 +99,6 @@ pub fn serve_over<D: Disk + Drop, S: Source, K: Sink>(
     let charge = core.charge();
     let closing = do_lines(alloc, &mut core, source, sink);
     leave_all(&mut core);
-    core.kept();
     let (disk, finished) = finish(core, charge);
     (disk, Ok(Served { finished, closing }))
 }

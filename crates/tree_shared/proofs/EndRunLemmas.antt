@@ -16,6 +16,7 @@ use Rattle.tree_core.specs.Core.{CoreState, IsCore}
 use Rattle.tree_session.specs.Lines.{AreRunnable}
 use Rattle.tree_shared.specs.Seats.{IsGone, facts_of}
 use Rattle.tree_shared.specs.Runs.{Ends, HasEnded, IsFresh, RunsAll, SawFront}
+use Rattle.core_chain.proofs.LinkLemmas.{chain_keeps, link_keeps}
 use Rattle.core_chain.proofs.NoteLemmas.{AreCallers, entries_are_callers, none_of_workers}
 use Rattle.tree_shared.proofs.JobLemmas.{lines_none, worker_turns}
 use Rattle.tree_shared.proofs.RestLemmas.{ended_in_value, saw_front, spare_in_value, told_of}
@@ -23,7 +24,7 @@ use Rattle.tree_shared.proofs.SeatLemmas.{caller_turns, is_a_caller}
 
 module _ {D : Type 0} (state : D → DiskState) (lines : List Line) (workers turns : ℕ) (start end : CoreState D) (lock : Lock (CoreState D)) (c d : Caller (CoreState D))
     (fresh : IsFresh lines start) (runnable : AreRunnable lines) (few : callers + workers ≤ seats) (opened : IsOpened start lock c) (ends : Ends state lines turns lock (callers - 1 + workers) c d)
-    (came : CameSince state lock.start end) (known : IsKnown facts_of (CameSince state) lock.start end d.me.0) (keeps : IsCore end.held (state end.disk)) where
+    (came : CameSince state lock.start end) (known : IsKnown facts_of (CameSince state) lock.start end d.me.0) (keeps : IsCore start.held (state start.disk)) where
   told : (i : ℕ) → i < callers + workers → HasEnded lines turns (is_some end.held.book.stopped) i end
   told i below = ended_in_value state lines turns lock i d end known (told_of state lines turns lock (callers - 1 + workers) i start c d opened ends (omega (arith, below)))
 
@@ -47,7 +48,8 @@ module _ {D : Type 0} (state : D → DiskState) (lines : List Line) (workers tur
   runs_all = record {
     of_script = of_script;
     came = subst (λ (core : CoreState D). CameSince state core end) opened.start came;
-    keeps = keeps;
+    keeps = chain_keeps state (λ (core : CoreState D). IsCore core.held (state core.disk)) (link_keeps state) came.calls lock.start end came.are
+        (subst (λ (core : CoreState D). IsCore core.held (state core.disk)) (sym opened.start) keeps);
     left = λ seat below. (gone seat below).0;
     saw = λ seat below. subst (λ (core : CoreState D). SawFront state seat core end) opened.start (saw seat below);
     idle = λ seat below. sym (caller_turns seat end.held.book (is_a_caller seat below)) ∙ (gone seat below).1;

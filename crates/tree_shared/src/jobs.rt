@@ -184,7 +184,5 @@ pub fn run_all<R: Threads + Wait + Sync, D: Disk + Send + Drop, G: Gate + Sync>(
         turns,
         gate,
     );
-    let end = lock.close(first);
-    end.kept();
-    Ok(end)
+    Ok(lock.close(first))
 }

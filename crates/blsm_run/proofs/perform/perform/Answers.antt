@@ -1,10 +1,11 @@
 use Rattle.std.proofs.Common.{map, string_bytes, refl}
+use Rattle.program_words.proofs.RangeLemmas.{in_range}
 use Rattle.blsm_run.specs.Outside.{outside}
 use Rattle.blsm_run.proofs.CauseLemmas.{not_asked}
 use Rattle.blsm_run.proofs.perform.perform.Goals as goal
 
 pub carry_out-requires-clause-range : goal.carry_out-requires-clause-range
-carry_out-requires-clause-range g c = λ κs lives. c.asked_in_range.ensures (map string_bytes c.args.words.now) _ c.in-Ok.ensures.1
+carry_out-requires-clause-range g c = λ κs lives. in_range (map string_bytes c.args.words.now) _ c.in-Ok.ensures.1
 
 pub returns-in-Ok-clause-cause : goal.returns-in-Ok-clause-cause
 returns-in-Ok-clause-cause g c = c.carry_out.ensures.cause (map string_bytes c.args.words.now) c.in-Ok.ensures.0 c.in-Ok.ensures.1

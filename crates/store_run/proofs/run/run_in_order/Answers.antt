@@ -1,9 +1,11 @@
 use Rattle.std.specs.Prelude.{ℕ}
 use Rattle.std.proofs.Common.{ap, subst, sym, ◌∙◌}
 use Rattle.blsm_model.specs.declared.room.Room.{Room}
+use Rattle.core_chain.proofs.StepLemmas.{chain_is_steps}
 use Rattle.recover_open.specs.Opening.{no_entries}
 use Rattle.seat_book.specs.State.{BookState}
 use Rattle.tree_session.specs.Lines.{HasRoomFor}
+use Rattle.tree_session.proofs.RestLemmas.{opened_rests}
 use Rattle.store_run.specs.Run.{run_at, run_of}
 use Rattle.store_run.proofs.FaultLemmas.{calm_opening, counted_of, disk_inside, refused_faults, stays_inside}
 use Rattle.store_run.proofs.HeadlineLemmas.{served_in_order}
@@ -20,7 +22,7 @@ pub run_lines-requires-clause-room : goal.run_lines-requires-clause-room
 run_lines-requires-clause-room g c = subst (λ (room : Room). HasRoomFor room c.args.lines.now) (sym (ap (λ (b : BookState). b.book.room) c.in-Ok.ensures.opened.book)) c.requires.room
 
 pub run_lines-requires-clause-rests : goal.run_lines-requires-clause-rests
-run_lines-requires-clause-rests g c = c.an_opened_core_rests.ensures (no_entries c.args.room) (g.D.Disk.state c.in-Ok.core.disk).faults c.in-Ok.core.held c.in-Ok.ensures.opened
+run_lines-requires-clause-rests g c = opened_rests (no_entries c.args.room) (g.D.Disk.state c.in-Ok.core.disk).faults c.in-Ok.core.held c.in-Ok.ensures.opened
 
 pub returns-clause-counted : goal.returns-clause-counted
 returns-clause-counted g c =
@@ -28,7 +30,7 @@ returns-clause-counted g c =
     let old = c.in-Ok.core in
     let new = c.run_lines.new.core in
     let opened = c.in-Ok.ensures.opened in
-    let has = by_lines state c.args.lines.now (no_entries c.args.room) (state old.disk).faults old new opened c.kept.ensures.core c.kept-2.ensures.core c.kept.ensures.begins c.run_lines.ensures in
+    let has = by_lines state c.args.lines.now (no_entries c.args.room) (state old.disk).faults old new opened c.kept.ensures.core c.kept.ensures.begins c.run_lines.ensures in
     counted_of state c.args.lines.now (no_entries c.args.room) (state old.disk).faults (state c.args.disk) old new opened (calm_opening (state c.args.disk) (state old.disk) c.in-Ok.ensures.faults) has
     (run_of c.finish-disk.result.1) (c.finish-disk.ensures.finished ∙ ap (λ (n : ℕ). run_at n new.held) c.charge-charge.ensures) c.finish-disk.result.0 c.finish-disk.ensures.disk
 
@@ -38,7 +40,7 @@ returns-clause-reaches g c =
     let old = c.in-Ok.core in
     let new = c.run_lines.new.core in
     let opened = c.in-Ok.ensures.opened in
-    let has = by_lines state c.args.lines.now (no_entries c.args.room) (state old.disk).faults old new opened c.kept.ensures.core c.kept-2.ensures.core c.kept.ensures.begins c.run_lines.ensures in
+    let has = by_lines state c.args.lines.now (no_entries c.args.room) (state old.disk).faults old new opened c.kept.ensures.core c.kept.ensures.begins c.run_lines.ensures in
     disk_inside state c.args.lines.now (no_entries c.args.room) (state old.disk).faults (state c.args.disk) old new opened c.kept.ensures.core c.in-Ok.ensures.effect has c.finish-disk.result.0 c.finish-disk.ensures.disk
 
 pub returns-clause-served : goal.returns-clause-served
@@ -51,7 +53,6 @@ returns-clause-served g c = λ honest.
     let faults = (state old.disk).faults in
     let runs = c.run_lines.ensures in
     let begins = c.kept.ensures.begins in
-    let kept = c.kept-2.ensures.core in
     served_in_order state c.args.room c.args.lines.now (state c.args.disk) old new
     (record {
       opens = c.in-Ok.ensures.stands honest;
@@ -59,9 +60,9 @@ returns-clause-served g c = λ honest.
       calls = c.in-Ok.ensures.calls;
       calm = calm_opening (state c.args.disk) (state old.disk) c.in-Ok.ensures.faults;
       ran = ap (λ (b : BookState). b.stopped) opened.book;
-      run = by_lines state c.args.lines.now annals faults old new opened c.kept.ensures.core kept begins runs;
+      run = by_lines state c.args.lines.now annals faults old new opened c.kept.ensures.core begins runs;
     })
-    (lines_asked state c.args.lines.now annals faults old new opened c.kept.ensures.core kept begins runs) (lines_alone state c.args.lines.now annals faults old new opened c.kept.ensures.core kept begins runs)
+    (lines_asked state c.args.lines.now annals faults old new opened c.kept.ensures.core begins runs) (lines_alone state c.args.lines.now annals faults old new opened c.kept.ensures.core begins runs)
     runs.made.0 runs.made.2 runs.rests
-    (λ opening m stands. c.calls_are_steps.ensures opening runs.made.0 old m c.kept.ensures.core runs.made.1 (c.in-Ok.ensures.effect.effect.goes_on.is_honest ∙ honest) stands)
+    (λ opening m stands. chain_is_steps state opening runs.made.0 old new m (g.met.D.Disk.timed new.disk) c.kept.ensures.core runs.made.1 (c.in-Ok.ensures.effect.effect.goes_on.is_honest ∙ honest) stands)
     c.finish-disk.result.0 c.finish-disk.ensures.disk (run_of c.finish-disk.result.1) (c.finish-disk.ensures.finished ∙ ap (λ (n : ℕ). run_at n new.held) c.charge-charge.ensures)

@@ -1,14 +1,13 @@
 use Rattle.std.specs.Prelude.{ℕ}
 use Rattle.std.proofs.Common.{ap, subst, sym, ◌∙◌}
-use Rattle.core_chain.proofs.HoldLemmas.{holds_none}
 use Rattle.recover_open.specs.Opening.{KeepsMapOf, no_entries}
-use Rattle.seat_book.specs.State.{BookState}
+use Rattle.tree_session.proofs.RestLemmas.{opened_rests}
 use Rattle.store_run.specs.Run.{run_at, run_of}
-use Rattle.store_run.proofs.CauseLemmas.{causes_at}
-use Rattle.store_run.proofs.FaultLemmas.{ReachesInside, calm_opening, counted_of, disk_inside, refused_calm, refused_faults, spares_of_file, stays_inside}
-use Rattle.store_run.proofs.HeadlineLemmas.{whole_headline}
-use Rattle.store_run.proofs.RunLemmas.{by_threads, ended_of, few_turned, is_fresh, is_unasked, no_entries_yet, printed_of}
+use Rattle.store_run.proofs.FaultLemmas.{ReachesInside, calm_opening, refused_calm, refused_faults, spares_of_file, stays_inside}
+use Rattle.store_run.proofs.RanLemmas.{RanOver, ran_over}
+use Rattle.store_run.proofs.RunLemmas.{is_fresh}
 use Rattle.store_run.proofs.run.run_over.Goals as goal
+use Rattle.store_run.proofs.run.run_over.Goals.{After-finish-disk}
 
 -- ---- the store wasn't opened
 
@@ -29,126 +28,53 @@ returns-in-Err-clause-spares g c = λ honest. spares_of_file c.in-Err.refused.wh
 pub run_all-requires-clause-fresh : goal.run_all-requires-clause-fresh
 run_all-requires-clause-fresh g c = λ κs lives.
     let core = c.in-Ok.core in
-    let rests = c.an_opened_core_rests.ensures (no_entries c.args.room) (g.D.Disk.state core.disk).faults core.held c.in-Ok.ensures.opened in
+    let rests = opened_rests (no_entries c.args.room) (g.D.Disk.state core.disk).faults core.held c.in-Ok.ensures.opened in
     is_fresh c.args.lines.now (no_entries c.args.room) (g.D.Disk.state core.disk).faults core c.in-Ok.ensures.opened rests c.requires.room
 
-pub returns-in-Ok-run_all-clause-ran : goal.returns-in-Ok-run_all-clause-ran
-returns-in-Ok-run_all-clause-ran g c =
+-- all that is said of it
+over : (g : _) (c : After-finish-disk g) → RanOver g.D.Disk.state c.args.room c.args.lines.now c.args.workers c.args.turns (run_of c.finish-disk.result.1) c.args.disk c.finish-disk.result.0
+over g c =
     let state = g.D.Disk.state in
     let old = c.in-Ok.core in
     let new = c.in-Ok-run_all.core in
-    let runs = c.in-Ok-run_all.ensures in
     let opened = c.in-Ok.ensures.opened in
-    let rests = c.an_opened_core_rests.ensures (no_entries c.args.room) (state old.disk).faults old.held opened in
-    let unasked = is_unasked state (no_entries c.args.room) (state old.disk).faults old opened rests c.kept.ensures.core c.kept.ensures.begins in
-    let has = by_threads state c.args.lines.now c.args.workers c.args.turns old new c.kept.ensures.core runs (c.calls_tell.ensures runs.came.calls old unasked runs.came.are) (c.calls_take_few.ensures runs.came.calls old unasked runs.came.are) in
-    printed_of state c.args.lines.now c.args.workers c.args.turns old new has runs (run_of c.finish-disk.result.1) (c.finish-disk.ensures.finished ∙ ap (λ (n : ℕ). run_at n new.held) c.charge-charge.ensures)
-    (state c.args.disk) c.in-Ok.ensures.long
+    ran_over state (g.met.D.Disk g.world.𝓛 g.world.𝓜 g.world.𝓡 ((λ s x. x), (λ x. x), (λ x. x), λ x. x)).timed c.args.room c.args.lines.now c.args.workers c.args.turns c.args.disk old new
+    (record {
+      opened = opened;
+      rests = opened_rests (no_entries c.args.room) (state old.disk).faults old.held opened;
+      keeps = c.kept.ensures.core;
+      begins = c.kept.ensures.begins;
+      holds = c.in-Ok.ensures.none;
+      weighs = c.in-Ok.ensures.charge;
+      long = c.in-Ok.ensures.long;
+      few = c.in-Ok.ensures.calls;
+      inside = c.in-Ok.ensures.effect;
+      calm = calm_opening (state c.args.disk) (state old.disk) c.in-Ok.ensures.faults;
+      stands = c.in-Ok.ensures.stands;
+      kept = c.in-Ok.ensures.keeps;
+    })
+    c.in-Ok-run_all.ensures (run_of c.finish-disk.result.1) (c.finish-disk.ensures.finished ∙ ap (λ (n : ℕ). run_at n new.held) c.charge-charge.ensures) c.finish-disk.result.0 c.finish-disk.ensures.disk
+
+pub returns-in-Ok-run_all-clause-ran : goal.returns-in-Ok-run_all-clause-ran
+returns-in-Ok-run_all-clause-ran g c = (over g (goal.at.returns-in-Ok-run_all-clause-ran g c).After-finish-disk).ran
 
 pub returns-in-Ok-run_all-clause-ended : goal.returns-in-Ok-run_all-clause-ended
-returns-in-Ok-run_all-clause-ended g c =
-    ended_of g.D.Disk.state c.args.lines.now c.args.workers c.args.turns c.in-Ok.core c.in-Ok-run_all.core c.in-Ok-run_all.ensures (run_of c.finish-disk.result.1)
-    (c.finish-disk.ensures.finished ∙ ap (λ (n : ℕ). run_at n c.in-Ok-run_all.core.held) c.charge-charge.ensures)
+returns-in-Ok-run_all-clause-ended g c = (over g (goal.at.returns-in-Ok-run_all-clause-ended g c).After-finish-disk).ended
 
 pub returns-in-Ok-run_all-clause-counted : goal.returns-in-Ok-run_all-clause-counted
-returns-in-Ok-run_all-clause-counted g c =
-    let state = g.D.Disk.state in
-    let old = c.in-Ok.core in
-    let new = c.in-Ok-run_all.core in
-    let runs = c.in-Ok-run_all.ensures in
-    let opened = c.in-Ok.ensures.opened in
-    let rests = c.an_opened_core_rests.ensures (no_entries c.args.room) (state old.disk).faults old.held opened in
-    let unasked = is_unasked state (no_entries c.args.room) (state old.disk).faults old opened rests c.kept.ensures.core c.kept.ensures.begins in
-    let has = by_threads state c.args.lines.now c.args.workers c.args.turns old new c.kept.ensures.core runs (c.calls_tell.ensures runs.came.calls old unasked runs.came.are) (c.calls_take_few.ensures runs.came.calls old unasked runs.came.are) in
-    counted_of state c.args.lines.now (no_entries c.args.room) (state old.disk).faults (state c.args.disk) old new opened (calm_opening (state c.args.disk) (state old.disk) c.in-Ok.ensures.faults) has
-    (run_of c.finish-disk.result.1) (c.finish-disk.ensures.finished ∙ ap (λ (n : ℕ). run_at n new.held) c.charge-charge.ensures) c.finish-disk.result.0 c.finish-disk.ensures.disk
+returns-in-Ok-run_all-clause-counted g c = (over g (goal.at.returns-in-Ok-run_all-clause-counted g c).After-finish-disk).counted
+
+pub returns-in-Ok-run_all-clause-causes : goal.returns-in-Ok-run_all-clause-causes
+returns-in-Ok-run_all-clause-causes g c = (over g (goal.at.returns-in-Ok-run_all-clause-causes g c).After-finish-disk).causes
+
+pub returns-in-Ok-run_all-clause-reaches : goal.returns-in-Ok-run_all-clause-reaches
+returns-in-Ok-run_all-clause-reaches g c = (over g (goal.at.returns-in-Ok-run_all-clause-reaches g c).After-finish-disk).reaches
+
+pub returns-in-Ok-run_all-clause-headline : goal.returns-in-Ok-run_all-clause-headline
+returns-in-Ok-run_all-clause-headline g c = (over g (goal.at.returns-in-Ok-run_all-clause-headline g c).After-finish-disk).headline
 
 pub returns-in-Ok-run_all-clause-ending : goal.returns-in-Ok-run_all-clause-ending
 returns-in-Ok-run_all-clause-ending g c = subst (λ d. Rattle.store_run.specs.Run.IsEnding c.finish-disk.result.1.ending (run_of c.finish-disk.result.1) (g.D.Disk.state d).faults) (sym c.finish-disk.ensures.disk) c.finish-disk.ensures.ending
-
-pub returns-in-Ok-run_all-clause-reaches : goal.returns-in-Ok-run_all-clause-reaches
-returns-in-Ok-run_all-clause-reaches g c =
-    let state = g.D.Disk.state in
-    let old = c.in-Ok.core in
-    let new = c.in-Ok-run_all.core in
-    let runs = c.in-Ok-run_all.ensures in
-    let opened = c.in-Ok.ensures.opened in
-    let rests = c.an_opened_core_rests.ensures (no_entries c.args.room) (state old.disk).faults old.held opened in
-    let unasked = is_unasked state (no_entries c.args.room) (state old.disk).faults old opened rests c.kept.ensures.core c.kept.ensures.begins in
-    let has = by_threads state c.args.lines.now c.args.workers c.args.turns old new c.kept.ensures.core runs (c.calls_tell.ensures runs.came.calls old unasked runs.came.are) (c.calls_take_few.ensures runs.came.calls old unasked runs.came.are) in
-    disk_inside state c.args.lines.now (no_entries c.args.room) (state old.disk).faults (state c.args.disk) old new opened c.kept.ensures.core c.in-Ok.ensures.effect has c.finish-disk.result.0 c.finish-disk.ensures.disk
-
-pub returns-in-Ok-run_all-clause-causes : goal.returns-in-Ok-run_all-clause-causes
-returns-in-Ok-run_all-clause-causes g c =
-    let state = g.D.Disk.state in
-    let old = c.in-Ok.core in
-    let new = c.in-Ok-run_all.core in
-    let came = c.in-Ok-run_all.ensures.came in
-    let opened = c.in-Ok.ensures.opened in
-    let annals = no_entries c.args.room in
-    let rests = c.an_opened_core_rests.ensures annals (state old.disk).faults old.held opened in
-    let none = no_entries_yet annals (state old.disk).faults old.held opened in
-    let unasked = is_unasked state annals (state old.disk).faults old opened rests c.kept.ensures.core c.kept.ensures.begins in
-    causes_at state c.args.room c.args.disk came.calls old new
-    (record {
-      unasked = unasked;
-      begins = opened;
-      weighs = c.in-Ok.ensures.charge;
-      goes_on = c.in-Ok.ensures.effect.effect.goes_on;
-      few = c.in-Ok.ensures.calls;
-      calm = calm_opening (state c.args.disk) (state old.disk) c.in-Ok.ensures.faults;
-      long = c.in-Ok.ensures.long;
-    })
-    (record {
-      are = came.are;
-      tells = c.calls_tell.ensures came.calls old unasked came.are;
-      replies = λ front behind e within. c.calls_note.ensures came.calls old front behind e none came.are within;
-      holds = (c.calls_tell_holds.ensures came.calls old none (holds_none old c.in-Ok.ensures.none) came.are).replies;
-      saw = λ seat below. c.in-Ok-run_all.ensures.saw seat below;
-      stops = λ page stopped. c.calls_meet_damage.ensures came.calls old page (ap (λ (b : BookState). b.stopped) opened.book) came.are stopped;
-    })
-    c.finish-disk.result.0 c.finish-disk.ensures.disk (run_of c.finish-disk.result.1) (c.finish-disk.ensures.finished ∙ ap (λ (n : ℕ). run_at n new.held) c.charge-charge.ensures)
-
-pub returns-in-Ok-run_all-clause-headline : goal.returns-in-Ok-run_all-clause-headline
-returns-in-Ok-run_all-clause-headline g c = λ honest.
-    let state = g.D.Disk.state in
-    let old = c.in-Ok.core in
-    let new = c.in-Ok-run_all.core in
-    let runs = c.in-Ok-run_all.ensures in
-    let opened = c.in-Ok.ensures.opened in
-    let annals = no_entries c.args.room in
-    let faults = (state old.disk).faults in
-    let calls = runs.came.calls in
-    let are = runs.came.are in
-    let opens = c.in-Ok.ensures.stands honest in
-    let rests = c.an_opened_core_rests.ensures annals faults old.held opened in
-    let unasked = is_unasked state annals faults old opened rests c.kept.ensures.core c.kept.ensures.begins in
-    let goes_on = c.in-Ok.ensures.effect.effect.goes_on in
-    let honest_then = goes_on.is_honest ∙ honest in
-    let none = no_entries_yet annals faults old.held opened in
-    let calm = calm_opening (state c.args.disk) (state old.disk) c.in-Ok.ensures.faults in
-    whole_headline state (g.met.D.Disk g.world.𝓛 g.world.𝓜 g.world.𝓡 ((λ s x. x), (λ x. x), (λ x. x), λ x. x)).timed c.args.room c.args.lines.now c.args.workers c.args.turns c.args.disk old new
-    (record {
-      opens = opens;
-      goes_on = goes_on;
-      calls = c.in-Ok.ensures.calls;
-      calm = calm;
-      ran = ap (λ (b : BookState). b.stopped) opened.book;
-      run = by_threads state c.args.lines.now c.args.workers c.args.turns old new c.kept.ensures.core runs (c.calls_tell.ensures calls old unasked are) (c.calls_take_few.ensures calls old unasked are);
-    })
-    none (c.in-Ok.ensures.keeps old.held.runs.sizes opens.pairs honest opens.reads) runs
-    (record { unasked = unasked; begins = opened; weighs = c.in-Ok.ensures.charge; goes_on = goes_on; few = c.in-Ok.ensures.calls; calm = calm; long = c.in-Ok.ensures.long })
-    (record {
-      are = are;
-      tells = c.calls_tell.ensures calls old unasked are;
-      replies = λ front behind e within. c.calls_note.ensures calls old front behind e none are within;
-      holds = (c.calls_tell_holds.ensures calls old none (holds_none old c.in-Ok.ensures.none) are).replies;
-      saw = λ seat below. runs.saw seat below;
-      stops = λ page stopped. c.calls_meet_damage.ensures calls old page (ap (λ (b : BookState). b.stopped) opened.book) are stopped;
-    })
-    (λ opening m stands. c.calls_are_steps.ensures opening calls old m c.kept.ensures.core are honest_then stands)
-    (few_turned state calls annals faults old new opened (c.calls_help.ensures calls old unasked are)) (c.calls_help.ensures calls old unasked are).rests
-    c.finish-disk.result.0 c.finish-disk.ensures.disk (run_of c.finish-disk.result.1) (c.finish-disk.ensures.finished ∙ ap (λ (n : ℕ). run_at n new.held) c.charge-charge.ensures)
 
 pub returns-in-Ok-run_all-clause-untouched : goal.returns-in-Ok-run_all-clause-untouched
 returns-in-Ok-run_all-clause-untouched g c = λ honest none. let opens = c.in-Ok.ensures.stands honest in absurd (none c.in-Ok.core.held.runs.sizes opens.pairs opens.reads)

@@ -57,7 +57,7 @@ served g c =
       stands = c.in-Ok.ensures.stands;
       kept = c.in-Ok.ensures.keeps;
     })
-    c.do_lines-closing.ensures c.leave_all.ensures c.kept-2.ensures.core (run_of c.finish-disk.result.1) (c.finish-disk.ensures.finished ∙ ap (λ (n : ℕ). run_at n c.leave_all.new.core.held) c.charge-charge.ensures) c.finish-disk.result.0
+    c.do_lines-closing.ensures c.leave_all.ensures (run_of c.finish-disk.result.1) (c.finish-disk.ensures.finished ∙ ap (λ (n : ℕ). run_at n c.leave_all.new.core.held) c.charge-charge.ensures) c.finish-disk.result.0
     c.finish-disk.ensures.disk
 
 pub returns-clause-ran : goal.returns-clause-ran
