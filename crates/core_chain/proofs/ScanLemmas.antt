@@ -1,14 +1,13 @@
 -- The nexts of one seat's hold, one after another.
-use Rattle.std.specs.Prelude.{◌≡◌, ◌≢◌, ⊤, ℕ, ◌+◌, ◌-◌, ◌*◌, ◌≤◌, Bool, true, false, ◌&&◌, nat_eq, if◌then◌else◌, Option, List, [], ◌∷◌}
+use Rattle.std.specs.Prelude.{◌≡◌, ◌≢◌, ℕ, ◌+◌, ◌-◌, ◌*◌, ◌≤◌, true, false, if◌then◌else◌, List, [], ◌∷◌, ◌++◌}
 use Rattle.std.proofs.lemmas.Grind.{common_steps}
 use Rattle.std.proofs.lemmas.Bool.Decides.{nat_tests}
 use Rattle.std.proofs.lemmas.Bool.{cases_eq}
 use Rattle.std.proofs.lemmas.Bool.{false≢true}
-use Rattle.std.proofs.Common.{◌∙◌, ◌⊎◌, inl, inr, refl, ap, sym, subst, arith}
+use Rattle.std.proofs.Common.{◌⊎◌, inl, inr, refl, ap, sym, subst, arith}
 use Rattle.blsm_model.specs.declared.op.Op.TheVariants as op
 use Rattle.blsm_model.specs.declared.row.Row.{Row}
 use Rattle.disk_trait.specs.Disk.{DiskState}
-use Rattle.scan_view.specs.Hold.{HoldState}
 use Rattle.scan_view.specs.Holds.{hold_of, pages_behind}
 use Rattle.seat_book.specs.State.{BookState, noted_in}
 use Rattle.tree_machine.specs.declared.step.Kind.{Kind}
@@ -21,7 +20,7 @@ use Rattle.tree_core.specs.Scanned.{Scanned}
 use Rattle.tree_core.specs.Scanned as scanned
 use Rattle.blsm_model.specs.Book.{entry_at}
 use Rattle.std.specs.Prelude.{length}
-use Rattle.core_chain.specs.Scans.{ReadOnce, ReadsWell, calls_of_nexts, changes_hold, has_rows, is_next, is_next_of, newest_reply, nexts_of}
+use Rattle.core_chain.specs.Scans.{ReadOnce, ReadsWell, changes_hold, core_behind, has_rows, is_next, is_next_of, newest_reply}
 
 -- what one call of the chain does to a seat's clock and pages ahead
 OneLess : {D : Type 0} → (D → DiskState) → ℕ → Step → CoreState D → CoreState D → Type 0
@@ -37,7 +36,7 @@ not_next : (seat : ℕ) (step : Step) → step.seat ≢ seat → is_next_of seat
 not_next seat step other = grind (arith, common_steps, nat_tests)
 
 -- rows that were noted are those that were given
-were_rows : (answer : Scanned) (seat n : ℕ) (b : BookState)
+pub were_rows : (answer : Scanned) (seat n : ℕ) (b : BookState)
     → has_rows (entry_at (noted_in seat (op.Next n) (reply_to_next answer) b).book (length (noted_in seat (op.Next n) (reply_to_next answer) b).book.entries - 1)).reply ≡ true → (rows : List Row) × (answer ≡ scanned.Rows rows)
 were_rows answer seat n b h1 = grind (arith, common_steps, nat_tests)
 
@@ -99,3 +98,23 @@ read_once {D} state seat [] start end are well = omega (arith, ap {B = ℕ} (λ 
 read_once state seat (one ∷ calls) start end are well =
     let first = link_less state seat one.0 start one.1 are.0 well.0 in
     omega (arith, first, read_once state seat calls one.1 end are.1 well.1)
+
+-- calls behind others begin at the core behind these
+behind_are : {D : Type 0} (state : D → DiskState) (front more : List (Step × CoreState D)) (start end : CoreState D)
+    → AreCalls state (front ++ more) start end → AreCalls state more (core_behind start front) end
+behind_are state [] more start end are = are
+behind_are state (one ∷ front) more start end are = behind_are state front more one.1 end are.1
+
+-- and calls in front of others end there
+front_are : {D : Type 0} (state : D → DiskState) (front more : List (Step × CoreState D)) (start end : CoreState D)
+    → AreCalls state (front ++ more) start end → AreCalls state front start (core_behind start front)
+front_are state [] more start end are = refl
+front_are state (one ∷ front) more start end are = (are.0, front_are state front more one.1 end are.1)
+
+pub part_read_once : {D : Type 0} (state : D → DiskState) (seat : ℕ) (calls front part behind : List (Step × CoreState D)) (start end : CoreState D)
+    → AreCalls state calls start end → calls ≡ front ++ (part ++ behind)
+    → ReadsWell seat part → ReadOnce state seat part (core_behind start front) (core_behind (core_behind start front) part)
+part_read_once {D} state seat calls front part behind start end are is well =
+    let from = behind_are state front (part ++ behind) start end (subst (λ (l : List (Step × CoreState D)). AreCalls state l start end) is are) in
+    let mid = core_behind start front in
+    read_once state seat part mid (core_behind mid part) (front_are state part behind mid end from) well

@@ -1,12 +1,12 @@
 -- What each kind of call tells, and what a chain of them does.
-use Rattle.std.proofs.Common.{◌≡◌, ◌∙◌, inl, inr, ℕ, ◌+◌, ◌≤◌, true, false, List, [], ◌∷◌, ◌++◌, None, refl, ap, sym, subst, arith}
+use Rattle.std.proofs.Common.{◌≡◌, ◌∙◌, cond, inl, inr, ℕ, ◌+◌, ◌≤◌, true, false, List, [], ◌∷◌, ◌++◌, None, refl, ap, sym, subst, arith}
 use Rattle.std.proofs.lemmas.Grind.{common_steps}
 use Rattle.std.proofs.lemmas.Bool.Decides.{nat_tests}
-use Rattle.std.specs.Prelude.{Option, sum_by}
+use Rattle.std.specs.Prelude.{Bool, Option, ◌-◌, length, sum_by}
 use Rattle.std.proofs.lemmas.Bool.{false≢true}
 use Rattle.std.proofs.lemmas.List.{get_or-set_other}
 use Rattle.refusal.specs.Count.{HasRisen}
-use Rattle.blsm_model.specs.Book.{Book}
+use Rattle.blsm_model.specs.Book.{Book, entry_at}
 use Rattle.blsm_model.specs.Geometry.{file_length}
 use Rattle.blsm_model.specs.Legal.{is_write, is_look}
 use Rattle.blsm_model.specs.Scripts.{asked_in}
@@ -19,6 +19,7 @@ use Rattle.blsm_model.specs.declared.op.Op.{Op}
 use Rattle.blsm_model.specs.declared.op.Op.TheVariants as op
 use Rattle.tree_machine.proofs.TellLemmas.{no_look}
 use Rattle.disk_trait.specs.Disk.{DiskState}
+use Rattle.scan_view.specs.Holds.{hold_of, pages_behind}
 use Rattle.seat_book.specs.State.{BookState, noted_in, work_in}
 use Rattle.tree_machine.specs.Machine as machine
 use Rattle.tree_machine.specs.Machine.{Turned, WorkSoFar}
@@ -43,10 +44,12 @@ use Rattle.tree_session.proofs.BookLemmas.{ended_empty, work_says}
 use Rattle.tree_session.proofs.FaultLemmas.{admit_names, reaches_by, reaches_none, reaches_then, reaches_wider}
 use Rattle.tree_session.proofs.HoldLemmas.{drop_names, drop_quiet, hold_names, hold_quiet}
 use Rattle.core_chain.specs.Start.{IsUnasked, steps_of}
-use Rattle.core_chain.specs.Tells.{ChainTells, asked_by, calls_of, calls_of_all, lookups_failed}
+use Rattle.core_chain.specs.Scans.{has_rows, newest_reply}
+use Rattle.core_chain.specs.Tells.{AreCalled, ChainTells, asked_by, calls_between, calls_of, calls_of_all, lookups_failed}
 use Rattle.core_chain.proofs.FaultLemmas.{AllNamed, How, LinkTells, Told, all_calm, entry_tells, no_entry_tells, no_lookup, one_changed, pending, stays_damaged, stays_ran, stays_same, stops_failed, tells_all, told_more, works_idle}
 use Rattle.core_chain.proofs.LinkLemmas.{Kept, chain_keeps, link_keeps, link_kept, link_sizes, writes_as, looks_as}
 use Rattle.core_chain.proofs.NoteLemmas.{AreCallers, chain_asks, entries_are_callers, payment_notes_none}
+use Rattle.core_chain.proofs.ScanLemmas.{were_rows}
 use Rattle.blsm_model.proofs.LookLemmas.{look_may}
 
 -- the same works are open
@@ -237,13 +240,59 @@ module _ {D : Type 0} (state : D → DiskState) where
   link_reaches seat kind.WorkerTurn old new call = reaches_by call.1.effect
   link_reaches seat kind.Leave old new call = rests old.held.runs.sizes old new call.untouched
 
+  -- a next that gave rows called it as often as its hold passed pages, and three times more
+  next_calls : (seat n : ℕ) (old new : CoreState D) → IsCall state seat (kind.Next n) old new
+      → (state new.disk).clock ≤ (state old.disk).clock + calls_between old seat (kind.Next n) new
+  next_calls seat n old new call = by (has_rows (newest_reply new)) refl
+    where
+      by : (b : Bool) → has_rows (newest_reply new) ≡ b → (state new.disk).clock ≤ (state old.disk).clock + calls_between old seat (kind.Next n) new
+      by true is =
+          let newest : BookState → Reply = λ b. (entry_at b.book (length b.book.entries - 1)).reply in
+          let gave = were_rows call.0 seat n old.held.book (subst (λ (b : BookState). has_rows (newest b) ≡ true) call.1.book is) in
+          let few = call.1.passes.calls gave.0 gave.1 in
+          let all = call.1.reads.effect.calls in
+          let ahead = call.1.passes.ahead in
+          let rows = ap (λ (b : Bool). cond b (pages_behind (hold_of seat new.holds) - 3) 0) is in
+          omega (arith, few, all, ahead, rows)
+      by false is =
+          let all = call.1.reads.effect.calls in
+          let rows = ap (λ (b : Bool). cond b (pages_behind (hold_of seat new.holds) - 3) 0) is in
+          omega (arith, all, rows)
+
+  fewer : {end most few : ℕ} {old new : DiskState} → new.clock ≤ old.clock + few → Reaches end most old new → Reaches end few old new
+  fewer within run = record {
+    goes_on = run.goes_on;
+    calls = within;
+    syncs = run.syncs;
+    sure = run.sure;
+    no_shorter = run.no_shorter;
+    no_longer = run.no_longer;
+  }
+
+  link_between : (seat : ℕ) (k : Kind) (old new : CoreState D) → IsCall state seat k old new
+      → Reaches (file_length old.held.runs.sizes) (calls_between old seat k new) (state old.disk) (state new.disk)
+  link_between seat (kind.Next n) old new call = fewer (next_calls seat n old new call) (link_reaches seat (kind.Next n) old new call)
+  link_between seat (kind.Admit op) old new call = link_reaches seat (kind.Admit op) old new call
+  link_between seat kind.Pay old new call = link_reaches seat kind.Pay old new call
+  link_between seat (kind.Look op) old new call = link_reaches seat (kind.Look op) old new call
+  link_between seat (kind.Hold low high) old new call = link_reaches seat (kind.Hold low high) old new call
+  link_between seat kind.Release old new call = link_reaches seat kind.Release old new call
+  link_between seat kind.WorkTurn old new call = link_reaches seat kind.WorkTurn old new call
+  link_between seat (kind.WorkEnd n) old new call = link_reaches seat (kind.WorkEnd n) old new call
+  link_between seat kind.WorkerTurn old new call = link_reaches seat kind.WorkerTurn old new call
+  link_between seat kind.Leave old new call = link_reaches seat kind.Leave old new call
+
   -- ---- the chain
+
+  chain_called : (calls : List (Step × CoreState D)) (old new : CoreState D) → AreCalls state calls old new → AreCalled state old calls
+  chain_called [] old new are = tt
+  chain_called (one ∷ calls) old new are = ((link_between one.0.seat one.0.kind old one.1 are.0).calls, chain_called calls one.1 new are.1)
 
   pub chain_reaches : (calls : List (Step × CoreState D)) (old new : CoreState D) → AreCalls state calls old new → IsCore old.held (state old.disk)
       → Reaches (file_length old.held.runs.sizes) (calls_of_all old calls) (state old.disk) (state new.disk)
   chain_reaches [] old new are keeps = rests old.held.runs.sizes old new (ap (λ (core : CoreState D). core.disk) are)
   chain_reaches (one ∷ calls) old new are keeps =
-      reaches_then (link_reaches one.0.seat one.0.kind old one.1 are.0)
+      reaches_then (link_between one.0.seat one.0.kind old one.1 are.0)
       (subst (λ (sizes : Sizes). Reaches (file_length sizes) (calls_of_all one.1 calls) (state one.1.disk) (state new.disk)) (link_sizes state one.0.seat one.0.kind old one.1 are.0 keeps)
       (chain_reaches calls one.1 new are.1 (link_keeps state one.0.seat one.0.kind old one.1 are.0 keeps)))
 
@@ -285,5 +334,6 @@ module _ {D : Type 0} (state : D → DiskState) where
         no_others = few;
         calm = λ calm. all_calm end.held.book.book.entries (omega (arith, few, ap one_if calm));
         names = told.names;
+        called = chain_called calls start end are;
         effect = chain_reaches calls start end are unasked.keeps;
       }

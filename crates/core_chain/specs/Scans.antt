@@ -1,5 +1,5 @@
 -- How often the nexts of one seat's hold call the disk together, over a chain of calls.
-use Rattle.std.specs.Prelude.{◌≡◌, ⊤, ℕ, ◌+◌, ◌-◌, ◌*◌, ◌≤◌, Bool, true, false, ◌&&◌, nat_eq, if◌then◌else◌, List, [], ◌∷◌, length}
+use Rattle.std.specs.Prelude.{◌≡◌, ⊤, ℕ, ◌+◌, ◌-◌, ◌*◌, ◌≤◌, Bool, true, false, ◌&&◌, nat_eq, if◌then◌else◌, List, [], ◌∷◌, ◌++◌, length}
 use Rattle.blsm_model.specs.Book.{entry_at}
 use Rattle.blsm_model.specs.declared.history.Reply.{Reply}
 use Rattle.blsm_model.specs.declared.history.Reply.TheVariants as reply
@@ -51,3 +51,14 @@ calls_of_nexts state seat (one ∷ calls) old = (if is_next_of seat one.0 then (
 -- at most three times for each, and once for each page that its hold had ahead and has no more
 abbrev pub ReadOnce : {D : Type 0} → (D → DiskState) → ℕ → List (Step × CoreState D) → CoreState D → CoreState D → Type 0
 ReadOnce state seat calls start end = calls_of_nexts state seat calls start + pages_behind (hold_of seat end.holds) ≤ 3 * nexts_of seat calls + pages_behind (hold_of seat start.holds)
+
+-- the core behind these calls
+abbrev pub core_behind : {D : Type 0} → CoreState D → List (Step × CoreState D) → CoreState D
+core_behind core [] = core
+core_behind core (one ∷ calls) = core_behind one.1 calls
+
+-- So wherever they stand among the calls of a chain.
+abbrev pub AreReadOnce : {D : Type 0} → (D → DiskState) → List (Step × CoreState D) → CoreState D → Type 0
+AreReadOnce {D} state calls start =
+    (seat : ℕ) (front part behind : List (Step × CoreState D)) → calls ≡ front ++ (part ++ behind) → ReadsWell seat part
+    → ReadOnce state seat part (core_behind start front) (core_behind (core_behind start front) part)

@@ -17,6 +17,7 @@ use Rattle.core_chain.specs.Damage.{StopsAtPage}
 use Rattle.core_chain.specs.Holds.{TellHolds}
 use Rattle.core_chain.specs.Replies.{IsNoted}
 use Rattle.core_chain.specs.Tells.{ChainTells, lookups_failed}
+use Rattle.core_chain.proofs.ScanLemmas.{part_read_once}
 use Rattle.tree_shared.specs.Runs.{SawFront}
 use Rattle.store_run.specs.Run.{HasCauses, Run, WasOpened, run_at}
 
@@ -40,6 +41,8 @@ causes_of state room first calls old new began caused = record {
   began = began;
   printed = refl;
   summed = omega (arith, began.few, caused.tells.effect.calls);
+  called = caused.tells.called;
+  once = λ seat front part behind is well. part_read_once state seat calls front part behind old new caused.are is well;
   counted = subst (λ (n : ℕ). HasRisenBy (lookups_failed new.held.book.book.entries + one_if (is_by_fault new.held.book.stopped)) n (state new.disk).faults) began.calm caused.tells.counted;
   no_others = caused.tells.no_others;
   replies = caused.replies;

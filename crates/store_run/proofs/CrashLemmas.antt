@@ -25,6 +25,7 @@ use Rattle.tree_core.specs.Holds.{StandsWhole}
 use Rattle.tree_core.specs.Standing.{StandsFor}
 use Rattle.tree_core.proofs.QuietLemmas.{shows_now}
 use Rattle.recover_open.specs.Opening.{KeepsMapOf}
+use Rattle.core_chain.specs.Tells.{AreCalled}
 use Rattle.store_run.specs.Run.{Run}
 use Rattle.store_run.specs.Headline.{HaveMoments, LeavesHistory}
 
@@ -58,7 +59,7 @@ shows_opening sizes opening history n file c shows reads here =
 -- Some calls led on from a store that was opened on a disk: what a crash leaves of them at each moment since the first.
 module _ {D : Type 0} (state : D → DiskState) (timed : (d : D) → IsTimed (state d)) (opening : List (Key × Value)) (calls : List (Step × CoreState D)) (first : DiskState) (old new : CoreState D)
     (m : Machine) (none : old.held.book.book.entries ≡ []) (whole : StandsWhole state opening old m) (keeps : KeepsMapOf old.held.runs.sizes opening first (state old.disk))
-    (syncs : SyncsLater (state old.disk) (state new.disk)) (sizes_stand : new.held.runs.sizes ≡ old.held.runs.sizes) (steps : ChainIsSteps state opening calls old new m) where
+    (syncs : SyncsLater (state old.disk) (state new.disk)) (sizes_stand : new.held.runs.sizes ≡ old.held.runs.sizes) (steps : ChainIsSteps state opening calls old new m) (called : AreCalled state old calls) where
   abbrev sizes : Sizes
   sizes = old.held.runs.sizes
 
@@ -88,20 +89,21 @@ module _ {D : Type 0} (state : D → DiskState) (timed : (d : D) → IsTimed (st
       shows_opening sizes opening entries 0 (state old.disk).bytes c
       (showing_is_kept sizes opening old.held.book.book.entries entries (length old.held.book.book.entries) 0 (state old.disk).bytes grows (omega arith) shows.reads) keeps.reads reads
 
-  moments : (run : Run) → run.entries ≡ entries → HaveMoments state calls sizes opening run m (outcomes_in steps.made) (state old.disk) (state new.disk)
+  moments : (run : Run) → run.entries ≡ entries → HaveMoments state calls sizes opening run m (outcomes_in steps.made) old (state new.disk)
   moments run is = record {
     steps = steps.made;
     same = refl;
     clocks_are = steps.clocks_are;
     may = steps.may;
     timed = steps.timed;
+    called = called;
     shows = λ n t c late left.
         subst (λ (z : Sizes). ShowsHistory z opening run.entries (length (noted_after m n steps.made)) c) whole.sizes
         (subst (λ (es : List Entry). ShowsHistory m.gears.sizes opening es (length (noted_after m n steps.made)) c) (sym is) (steps.moments n t c late left));
     acknowledged = steps.acknowledged;
   }
 
-  pub leaves_history : (run : Run) → run.entries ≡ entries → LeavesHistory state calls sizes opening run m (outcomes_in steps.made) first (state old.disk) (state new.disk)
+  pub leaves_history : (run : Run) → run.entries ≡ entries → LeavesHistory state calls sizes opening run m (outcomes_in steps.made) first old (state new.disk)
   leaves_history run is = record {
     begins = keeps;
     each = subst (λ (es : List Entry). LeavesOnly first (state new.disk) (IsOldOr first.images (ShowsHistory sizes opening es 0))) (sym is)

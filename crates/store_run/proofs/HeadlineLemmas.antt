@@ -338,7 +338,7 @@ headline_from {D} state timed room lines workers turns first old new c1 c2 catal
       solo = solo_of served.reached lines workers runs.of_script (record { idle = ended.idle; even = ended.even })
           (λ (alone : workers ≡ 0). ap helps_in (its_steps steps.made ∙ steps.steps_are) ∙ rests (λ seat above below. (runs.rested seat (omega (arith, alone, above)) below).0));
       helped = subst (λ (ss : List Step). sum (drop callers new.held.book.seats.quanta) ≤ helps_in ss) (sym (its_steps steps.made ∙ steps.steps_are)) few;
-      crashes = leaves_history state timed opens.pairs runs.came.calls (state first) old new machine none whole map_kept session.run.effect.syncs session.run.since.sizes steps (run_at (charge_in old.held) new.held) refl;
+      crashes = leaves_history state timed opens.pairs runs.came.calls (state first) old new machine none whole map_kept session.run.effect.syncs session.run.since.sizes steps caused.tells.called (run_at (charge_in old.held) new.held) refl;
     }
 
 -- what is printed, with the headline

@@ -1,6 +1,6 @@
 -- A script that was run over a disk, whoever ran it: what an opening says of the core that it gives, and the record of the run from there on, are all
 -- that is asked of it.
-use Rattle.std.specs.Prelude.{◌≡◌, ◌+◌, ℕ, List, [], ◌∷◌, ◌++◌, None, Some, IsTrue, length, replicate}
+use Rattle.std.specs.Prelude.{◌≡◌, ◌+◌, ℕ, List, [], None, IsTrue, length, replicate}
 use Rattle.std.proofs.Common.{◌∙◌, ap, arith}
 use Rattle.blsm_model.specs.Format.{callers}
 use Rattle.blsm_model.specs.Sizes.{Sizes}

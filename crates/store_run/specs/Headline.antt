@@ -7,7 +7,7 @@
 --   each write does few merge quanta itself                      `IsRunOf.few`; and the quanta are real: `EndsWithin.components`, `IsServed.commits`, `IsServed.stands`
 --   every crash image opens to a prefix of the history           `LeavesHistory.each`, `LeavesHistory.once_synced`
 --   which holds every write that was acknowledged by then        `HaveMoments.acknowledged` with `HaveMoments.shows`, and in the end the whole, `LeavesHistory.whole`
---   by the disk's own calls                                      `Headline.causes`, `HaveMoments.clocks_are` and `HaveMoments.timed`
+--   by the disk's own calls                                      `Headline.causes`, and `clocks_are`, `timed` and `called` of `HaveMoments`
 --   each caller and each worker comes to its end                 `Headline.ended`
 --   one caller and no worker: the text is one function           `Headline.solo`
 use Rattle.std.specs.Prelude.{◌≡◌, ◌<◌, ◌≤◌, ◌+◌, ◌*◌, ℕ, suc, false, List, length, map, None}
@@ -44,6 +44,7 @@ use Rattle.recover_open.specs.Opening.{KeepsMapOf, OpensAs, most_opening_calls, 
 use Rattle.tree_settling.specs.Settling.{CallsFew}
 use Rattle.core_chain.specs.Quanta.{helps_in}
 use Rattle.core_chain.specs.Start.{steps_of}
+use Rattle.core_chain.specs.Tells.{AreCalled}
 use Rattle.core_chain.specs.Steps.{Acknowledges, AllMay, AreTimed, HasOwnSync, after_steps, clock_after, clocks_in, noted_after, outcomes_in}
 use Rattle.store_run.specs.Run.{HasCauses, HaveEnded, HaveRested, Run, finds_damage}
 
@@ -120,27 +121,30 @@ pub record IsServed {D : Type 0} (state : D → DiskState) (sizes : Sizes) (run 
 -- The moments of the steps, of which one is one hold of the lock: once the first n had ended, each image shows all entries that they had noted. They are the
 -- steps of these calls of the core.
 pub record HaveMoments {D : Type 0} (state : D → DiskState) (calls : List (Step × CoreState D)) (sizes : Sizes) (opening : List (Key × Value)) (run : Run) (begin : Machine) (made : List (Step × Outcome))
-    (opened last : DiskState) : Type 0 where
+    (opened : CoreState D) (last : DiskState) : Type 0 where
   -- the steps, each with the clock of the disk that its call left
   pub steps : List (Step × Outcome × ℕ)
   pub same : outcomes_in steps ≡ made
   pub clocks_are : clocks_in steps ≡ map (λ one. (state one.1.disk).clock) calls
   -- clocks rise, by no more than a step may call the disk there, and so stand where it calls none
-  pub timed : AreTimed begin opened.clock steps last.clock
+  pub timed : AreTimed begin (state opened.disk).clock steps last.clock
+  -- and, by the cores before and after it, by no more than its call may: a next that gives rows reads the pages that its hold passed, and three
+  pub called : AreCalled state opened calls
   -- each might be made where it stands
   pub may : AllMay begin made
-  pub shows : (n t : ℕ) (c : List ℕ) → clock_after opened.clock n steps ≤ t → last.images_since t c
+  pub shows : (n t : ℕ) (c : List ℕ) → clock_after (state opened.disk).clock n steps ≤ t → last.images_since t c
       → ShowsHistory sizes opening run.entries (length (noted_after begin n steps)) c
   -- A write was acknowledged behind the first n steps: by the end of its own step, and later than theirs, a sync of its own ended well, which the disk's last state
   -- tells still. So n writes that were acknowledged have n such moments, which rise.
   pub acknowledged : (n : ℕ) → Acknowledges begin n steps
-      → HasOwnSync (swaps_due (after_steps begin n steps)) (clock_after opened.clock n steps) (clock_after opened.clock (suc n) steps) last
+      → HasOwnSync (swaps_due (after_steps begin n steps)) (clock_after (state opened.disk).clock n steps) (clock_after (state opened.disk).clock (suc n) steps) last
 
--- What a crash leaves while the history is made. The disk was `first` before the call, `opened` when the store was open, and is `last` after it.
+-- What a crash leaves while the history is made. The disk was `first` before the call, that of `opened` when the store was open, and is `last` after
+-- it.
 pub record LeavesHistory {D : Type 0} (state : D → DiskState) (calls : List (Step × CoreState D)) (sizes : Sizes) (opening : List (Key × Value)) (run : Run) (begin : Machine) (made : List (Step × Outcome))
-    (first opened last : DiskState) : Type 0 where
+    (first : DiskState) (opened : CoreState D) (last : DiskState) : Type 0 where
   -- up to the opening nothing of the history was written
-  pub begins : KeepsMapOf sizes opening first opened
+  pub begins : KeepsMapOf sizes opening first (state opened.disk)
   -- each image of each moment is one from before, or shows a front of the history; since the first sync of the opening each shows one
   pub each : LeavesOnly first last (IsOldOr first.images (ShowsHistory sizes opening run.entries 0))
   pub once_synced : LeavesOnlyOnceSynced first last (ShowsHistory sizes opening run.entries 0)
@@ -185,4 +189,5 @@ pub record Headline {D : Type 0} (state : D → DiskState) (sizes : Sizes) (line
   -- each quantum of a worker was a turn of one
   pub helped : run.totals.workers ≤ helps_in (map (λ one. one.0) served.reached.made)
   pub solo : Solo lines workers run (begin_of served.reached)
-  pub crashes : LeavesHistory state causes.calls sizes served.opening run (begin_of served.reached) served.reached.made (state first) (state served.opened) (state last)
+  pub crashes
+      : LeavesHistory state causes.calls sizes served.opening run (begin_of served.reached) served.reached.made (state first) causes.opened (state last)

@@ -29,9 +29,10 @@ use Rattle.tree_session.specs.Session.{TookFew}
 use Rattle.core_chain.specs.Damage.{StopsAtPage}
 use Rattle.core_chain.specs.Holds.{TellHolds}
 use Rattle.core_chain.specs.Replies.{IsNoted}
+use Rattle.core_chain.specs.Scans.{AreReadOnce}
 use Rattle.core_chain.specs.Start.{IsUnasked}
 use Rattle.tree_shared.specs.Runs.{SawFront}
-use Rattle.core_chain.specs.Tells.{calls_of_all, lookups_failed}
+use Rattle.core_chain.specs.Tells.{AreCalled, calls_of_all, lookups_failed}
 use Rattle.core_pace.specs.Opening.{IsOpened}
 use Rattle.recover_open.specs.Opening.{HasLengthOf, most_opening_calls, no_entries}
 use Rattle.tree_settling.specs.Settling.{CallsFew}
@@ -144,6 +145,10 @@ pub record HasCauses {D : Type 0} (state : D → DiskState) (room : Room) (run :
   pub printed : run ≡ run_at (charge_in opened.held) end.held
   -- the calls of the disk, summed: those of the opening, and those that each call of the core may make
   pub summed : (state last).clock ≤ (state first).clock + (most_opening_calls opened.held.runs.sizes + calls_of_all opened calls)
+  -- each call of the core calls it no more often than it may between the cores before and after it
+  pub called : AreCalled state opened calls
+  -- and the nexts of one hold read each page once that it had ahead, and three more each at most
+  pub once : AreReadOnce state calls opened
   -- its count has risen for each lookup that failed, and once more for a stop by a fault, whoever's call that was; replies tell of no others
   pub counted : HasRisenBy (lookups_failed run.entries + one_if (is_by_fault run.totals.stopped)) (state first).faults (state last).faults
   pub no_others : faults_told run.entries ≤ lookups_failed run.entries + one_if (is_by_fault run.totals.stopped)

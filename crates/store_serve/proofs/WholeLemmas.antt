@@ -1,11 +1,10 @@
 -- A session whose source has lines alone, each with its end, for which there is room, ends at no line.
 use Rattle.std.proofs.lemmas.Bool.Decides.{nat_tests}
 use Rattle.std.proofs.lemmas.Grind.{common_steps}
-use Rattle.std.proofs.Common.{◌≡◌, ◌∙◌, ℕ, ◌<◌, ◌≤◌, ◌⊎◌, inl, inr, List, [], ◌∷◌, ◌++◌, Option, Some, None, IfSome, length, refl, sym, ap, subst, arith, length-append}
+use Rattle.std.proofs.Common.{◌≡◌, ◌∙◌, ℕ, ◌<◌, ◌≤◌, inl, inr, List, [], ◌∷◌, ◌++◌, Option, Some, None, IfSome, length, refl, sym, ap, subst, arith, length-append}
 use Rattle.std.specs.List.{All, AllByRecursion}
 use Rattle.std.proofs.lemmas.List.Elements.{All-head}
 use Rattle.blsm_model.specs.Book.{room_after, rows_given}
-use Rattle.blsm_model.specs.Format.{callers}
 use Rattle.blsm_model.specs.Histories.{Object, IsAnswer, answer_to_get, answer_to_next, answer_to_release, object_after}
 use Rattle.blsm_model.specs.Legal.{FollowsOn, IsLegal, Limits, MayReply}
 use Rattle.blsm_model.specs.Scripts.{rows_of}

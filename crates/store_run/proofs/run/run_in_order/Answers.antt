@@ -22,7 +22,8 @@ pub run_lines-requires-clause-room : goal.run_lines-requires-clause-room
 run_lines-requires-clause-room g c = subst (λ (room : Room). HasRoomFor room c.args.lines.now) (sym (ap (λ (b : BookState). b.book.room) c.in-Ok.ensures.opened.book)) c.requires.room
 
 pub run_lines-requires-clause-rests : goal.run_lines-requires-clause-rests
-run_lines-requires-clause-rests g c = opened_rests (no_entries c.args.room) (g.D.Disk.state c.in-Ok.core.disk).faults c.in-Ok.core.held c.in-Ok.ensures.opened
+run_lines-requires-clause-rests g c =
+    opened_rests (no_entries c.args.room) (g.D.Disk.state c.in-Ok.core.disk).faults c.in-Ok.core.held c.in-Ok.ensures.opened
 
 pub returns-clause-counted : goal.returns-clause-counted
 returns-clause-counted g c =
@@ -30,7 +31,9 @@ returns-clause-counted g c =
     let old = c.in-Ok.core in
     let new = c.run_lines.new.core in
     let opened = c.in-Ok.ensures.opened in
-    let has = by_lines state c.args.lines.now (no_entries c.args.room) (state old.disk).faults old new opened c.kept.ensures.core c.kept.ensures.begins c.run_lines.ensures in
+    let annals = no_entries c.args.room in
+    let kept = c.kept.ensures in
+    let has = by_lines state c.args.lines.now annals (state old.disk).faults old new opened kept.core kept.begins c.run_lines.ensures in
     counted_of state c.args.lines.now (no_entries c.args.room) (state old.disk).faults (state c.args.disk) old new opened (calm_opening (state c.args.disk) (state old.disk) c.in-Ok.ensures.faults) has
     (run_of c.finish-disk.result.1) (c.finish-disk.ensures.finished ∙ ap (λ (n : ℕ). run_at n new.held) c.charge-charge.ensures) c.finish-disk.result.0 c.finish-disk.ensures.disk
 
@@ -40,7 +43,9 @@ returns-clause-reaches g c =
     let old = c.in-Ok.core in
     let new = c.run_lines.new.core in
     let opened = c.in-Ok.ensures.opened in
-    let has = by_lines state c.args.lines.now (no_entries c.args.room) (state old.disk).faults old new opened c.kept.ensures.core c.kept.ensures.begins c.run_lines.ensures in
+    let annals = no_entries c.args.room in
+    let kept = c.kept.ensures in
+    let has = by_lines state c.args.lines.now annals (state old.disk).faults old new opened kept.core kept.begins c.run_lines.ensures in
     disk_inside state c.args.lines.now (no_entries c.args.room) (state old.disk).faults (state c.args.disk) old new opened c.kept.ensures.core c.in-Ok.ensures.effect has c.finish-disk.result.0 c.finish-disk.ensures.disk
 
 pub returns-clause-served : goal.returns-clause-served
@@ -62,7 +67,10 @@ returns-clause-served g c = λ honest.
       ran = ap (λ (b : BookState). b.stopped) opened.book;
       run = by_lines state c.args.lines.now annals faults old new opened c.kept.ensures.core begins runs;
     })
-    (lines_asked state c.args.lines.now annals faults old new opened c.kept.ensures.core begins runs) (lines_alone state c.args.lines.now annals faults old new opened c.kept.ensures.core begins runs)
+    (lines_asked state c.args.lines.now annals faults old new opened c.kept.ensures.core begins runs)
+    (lines_alone state c.args.lines.now annals faults old new opened c.kept.ensures.core begins runs)
     runs.made.0 runs.made.2 runs.rests
-    (λ opening m stands. chain_is_steps state opening runs.made.0 old new m (g.met.D.Disk.timed new.disk) c.kept.ensures.core runs.made.1 (c.in-Ok.ensures.effect.effect.goes_on.is_honest ∙ honest) stands)
+    (λ opening m stands.
+    chain_is_steps state opening runs.made.0 old new m (g.met.D.Disk.timed new.disk) c.kept.ensures.core runs.made.1
+    (c.in-Ok.ensures.effect.effect.goes_on.is_honest ∙ honest) stands)
     c.finish-disk.result.0 c.finish-disk.ensures.disk (run_of c.finish-disk.result.1) (c.finish-disk.ensures.finished ∙ ap (λ (n : ℕ). run_at n new.held) c.charge-charge.ensures)

@@ -32,13 +32,15 @@ run_all-requires-clause-fresh g c = λ κs lives.
     is_fresh c.args.lines.now (no_entries c.args.room) (g.D.Disk.state core.disk).faults core c.in-Ok.ensures.opened rests c.requires.room
 
 -- all that is said of it
-over : (g : _) (c : After-finish-disk g) → RanOver g.D.Disk.state c.args.room c.args.lines.now c.args.workers c.args.turns (run_of c.finish-disk.result.1) c.args.disk c.finish-disk.result.0
+over : (g : _) (c : After-finish-disk g)
+    → RanOver g.D.Disk.state c.args.room c.args.lines.now c.args.workers c.args.turns (run_of c.finish-disk.result.1) c.args.disk c.finish-disk.result.0
 over g c =
     let state = g.D.Disk.state in
     let old = c.in-Ok.core in
     let new = c.in-Ok-run_all.core in
     let opened = c.in-Ok.ensures.opened in
-    ran_over state (g.met.D.Disk g.world.𝓛 g.world.𝓜 g.world.𝓡 ((λ s x. x), (λ x. x), (λ x. x), λ x. x)).timed c.args.room c.args.lines.now c.args.workers c.args.turns c.args.disk old new
+    let timed = (g.met.D.Disk g.world.𝓛 g.world.𝓜 g.world.𝓡 ((λ s x. x), (λ x. x), (λ x. x), λ x. x)).timed in
+    ran_over state timed c.args.room c.args.lines.now c.args.workers c.args.turns c.args.disk old new
     (record {
       opened = opened;
       rests = opened_rests (no_entries c.args.room) (state old.disk).faults old.held opened;
@@ -53,7 +55,8 @@ over g c =
       stands = c.in-Ok.ensures.stands;
       kept = c.in-Ok.ensures.keeps;
     })
-    c.in-Ok-run_all.ensures (run_of c.finish-disk.result.1) (c.finish-disk.ensures.finished ∙ ap (λ (n : ℕ). run_at n new.held) c.charge-charge.ensures) c.finish-disk.result.0 c.finish-disk.ensures.disk
+    c.in-Ok-run_all.ensures (run_of c.finish-disk.result.1)
+    (c.finish-disk.ensures.finished ∙ ap (λ (n : ℕ). run_at n new.held) c.charge-charge.ensures) c.finish-disk.result.0 c.finish-disk.ensures.disk
 
 pub returns-in-Ok-run_all-clause-ran : goal.returns-in-Ok-run_all-clause-ran
 returns-in-Ok-run_all-clause-ran g c = (over g (goal.at.returns-in-Ok-run_all-clause-ran g c).After-finish-disk).ran
