@@ -89,11 +89,12 @@ class Present:
         self.sum = 0
 
     def write(self, command: str) -> None:
+        """The command is done: a new and a swap are puts then."""
         verb, key = command.split(" ")[:2]
         old = self.weights.pop(key, 0)
         bare = weight(f"del {key}")
         tailed = bare + min(max(old - bare, 0) + weight(command) - bare, judge.MOST_TAIL)
-        new = {"put": weight(command), "add": old or bare, "tail": tailed, "del": 0}[verb]
+        new = {"add": old or bare, "tail": tailed, "del": 0}.get(verb, weight(command))
         self.sum += new - old
         if new:
             self.weights[key] = new

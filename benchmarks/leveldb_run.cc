@@ -2,11 +2,12 @@
 //
 //     leveldb_run [--buffer BYTES] [--count] FOLDER < script.txt        (or --version)
 //
-// Each caller of the script does its lines in order, on a thread of its own where there are several. LevelDB has no blind add, so an add or a tail reads the
-// value first; so that no other write of the key comes between, a caller has the key's lock (one of many, by its hash) while it does a command. Writes of other
-// keys still meet in LevelDB, which syncs them together. The history's order is that in which the locks were had: commands of one key took effect in it, and
-// those of two keys are nothing to one another. A hold is a snapshot with an iterator on it, which the caller's nexts move on; it is of all keys, so
-// the caller has all locks while it is made. A work does nothing, since LevelDB merges by itself.
+// Each caller of the script does its lines in order, on a thread of its own where there are several. LevelDB has no blind add, so an add or a tail
+// reads the value first, as a new and a swap do; so that no other write of the key comes between, a caller has the key's lock (one of many, by its
+// hash) while it does a command. Writes of other keys still meet in LevelDB, which syncs them together. The history's order is that in which the
+// locks were had: commands of one key took effect in it, and those of two keys are nothing to one another. A hold is a snapshot with an iterator on
+// it, which the caller's nexts move on; it is of all keys, so the caller has all locks while it is made. A work does nothing, since LevelDB merges by
+// itself.
 //
 // A value is stored as its count and its text, without compression: a text of one letter would be next to nothing. --buffer is the size of the write buffer,
 // 65,536 bytes at least (else LevelDB's own, 4 MB). With --count tables are read by calls, which a tracer sees, and not by a map of memory; and each entry
@@ -181,6 +182,10 @@ class Store {
     const bool found = Find(db_.get(), command.key, &value);
     if (command.kind == "add") return Put(command.key, {value.count + command.count, value.text});
     if (command.kind == "tail") return Put(command.key, {value.count, LastOf(value.text + command.text)});
+    if (command.looks_first()) {
+      const Value* there = found ? &value : nullptr;
+      return command.is_met(there) ? Put(command.key, command.value()) : Kept(there);
+    }
     if (command.kind != "get") std::exit(2);
     return found ? "is " + Printed(value) : "none";
   }

@@ -1,4 +1,4 @@
-// Runs a script of puts, adds, tails, dels, gets and works over a sorted map of the standard library, in memory, and prints the history.
+// Runs a script of puts, adds, tails, dels, news, swaps, gets and works over a sorted map of the standard library, in memory, and prints the history.
 //
 //     map_run [TOLD] < script.txt
 //
@@ -21,6 +21,7 @@ class Store {
   std::string Answer(const Command& command) {
     if (command.kind == "get") return Get(command.key);
     if (command.kind == "work") return "did 0";
+    if (command.looks_first()) return Write(command);
     if (command.kind == "put") {
       rows_[command.key] = command.value();
     } else if (command.kind == "add") {
@@ -40,6 +41,15 @@ class Store {
   std::string Get(const std::string& key) const {
     const auto found = rows_.find(key);
     return found == rows_.end() ? "none" : "is " + Printed(found->second);
+  }
+
+  // A put where the key has what the command asks for.
+  std::string Write(const Command& command) {
+    const auto found = rows_.find(command.key);
+    const Value* value = found == rows_.end() ? nullptr : &found->second;
+    if (!command.is_met(value)) return Kept(value);
+    rows_[command.key] = command.value();
+    return "ok";
   }
 
   std::map<std::string, Value> rows_;

@@ -214,12 +214,12 @@ class Tree:
         return quanta
 
 
-WRITES = ("put", "add", "tail", "del")
+WRITES = ("put", "add", "tail", "del", "new", "swap")
 
 
 def record_of(words):
-    if words[0] == "put":
-        return ("base", int(words[2]), "" if words[3] == "-" else words[3])
+    if words[0] in ("put", "new", "swap"):
+        return ("base", int(words[-2]), "" if words[-1] == "-" else words[-1])
     if words[0] == "add":
         return ("delta", int(words[2]), "")
     if words[0] == "tail":

@@ -4,6 +4,8 @@
     store.add("apple", 3)
     store.tail("apple", "ripe")
     store.get("apple")                             # Value(count=3, text='ripe')
+    store.new("apple", 1)                          # False: it is there
+    store.swap("apple", 3, 4, "ripe")              # True: its count was 3
     run = store.run({1: [Put("pear", 5, "green"), Get("pear")], 2: [Add("plum", 7)]}, workers=2)
     run.replies(1)                                 # [Done(), Is(count=5, text='green')]
     list(store.rows("a", "q"))                     # of one moment
@@ -232,6 +234,31 @@ class Tail(Command):
 
 
 @dataclass(frozen=True)
+class New(Command):
+    """Puts where the key is absent."""
+
+    key: str
+    count: int
+    text: str = ""
+
+    def line(self) -> str:
+        return f"new {check_key(self.key)} {check_number(self.count)} {check_text(self.text)}"
+
+
+@dataclass(frozen=True)
+class Swap(Command):
+    """Puts where the key is present with the old count; texts aren't compared."""
+
+    key: str
+    old: int
+    count: int
+    text: str = ""
+
+    def line(self) -> str:
+        return f"swap {check_key(self.key)} {check_number(self.old)} {check_number(self.count)} {check_text(self.text)}"
+
+
+@dataclass(frozen=True)
 class Del(Command):
     key: str
 
@@ -314,6 +341,13 @@ class Absent(Reply):
 
 
 @dataclass(frozen=True)
+class Kept(Reply):
+    """The condition of a new or a swap doesn't hold, and nothing changed: this is the key's value, if it has one."""
+
+    value: Value | None
+
+
+@dataclass(frozen=True)
 class Held(Reply):
     pass
 
@@ -358,7 +392,7 @@ class WriteFailed(Reply):
 
 @dataclass(frozen=True)
 class Failed(Reply):
-    advice = "A call of the file failed: a lookup may be asked again, after a work the store is stopped."
+    advice = "A call of the file failed: a lookup, a new or a swap may be asked again, after a work the store is stopped."
 
 
 @dataclass(frozen=True)
@@ -382,6 +416,7 @@ def reply_of(text: str) -> Reply:
     plain: Mapping[str, Reply] = {
         "ok": Done(),
         "none": Absent(),
+        "kept none": Kept(None),
         "held": Held(),
         "nohold": NoHold(),
         "no memory": HoldRefused(),
@@ -394,6 +429,8 @@ def reply_of(text: str) -> Reply:
     match words:
         case ["is", count, value]:
             return Is(int(count), "" if value == "-" else value)
+        case ["kept", count, value]:
+            return Kept(Value(int(count), "" if value == "-" else value))
         case ["rows", count, *rest] if len(rest) == 3 * int(count):
             return Rows(tuple(Row.of_line(" ".join(rest[i : i + 3])) for i in range(0, len(rest), 3)))
         case ["did", turns]:
@@ -563,6 +600,14 @@ class Store:
 
     def tail(self, key: str, tail: str) -> None:
         self._one(Tail(key, tail))
+
+    def new(self, key: str, count: int, text: str = "") -> bool:
+        """Puts where the key is absent. Answers whether it was."""
+        return isinstance(self._one(New(key, count, text)), Done)
+
+    def swap(self, key: str, old: int, count: int, text: str = "") -> bool:
+        """Puts where the key is present with the old count. Answers whether it was."""
+        return isinstance(self._one(Swap(key, old, count, text)), Done)
 
     def delete(self, key: str) -> None:
         self._one(Del(key))

@@ -134,10 +134,10 @@ def copy(folder: Path) -> None:
 
 
 def write_cases(folder: Path, lines: list[str], changes: list[Change]) -> dict[str, list[str]]:
-    """A file of rows for each change, and for none all rows. Gives the rows of each."""
+    """A file of rows for each change, and for none all rows, with the stores that they begin with. Gives the rows of each."""
     folder.mkdir()
     scripts = [line for line in lines if line.startswith("script ")]
-    rows = [line for line in lines if line and not line.startswith(("#", "script "))]
+    rows = [line for line in lines if line and not line.startswith(("#", "script ", "store "))]
     cases = {"0": rows}
     for number, change in enumerate(changes, 1):
         if change.elsewhere:
@@ -148,7 +148,8 @@ def write_cases(folder: Path, lines: list[str], changes: list[Change]) -> dict[s
             raise ValueError(f"no row begins so: {unknown}")
         cases[str(number)] = taken
     for name, taken in cases.items():
-        (folder / name).write_text("\n".join([*scripts, *taken]) + "\n")
+        placed = [line for line in lines if line.startswith("store ") or line in taken]
+        (folder / name).write_text("\n".join([*scripts, *placed]) + "\n")
         (folder / f"{name}.args").write_text(f"change={name}\n")
     return cases
 

@@ -354,15 +354,21 @@ CALLERS = 16
 PUTS = [f"put a{i:03} {i} text{i}" for i in range(80)]
 FIRST_HOLD = [*PUTS[:40], "hold a b", "next 1"]
 SECOND_HOLD = [*PUTS[40:], "put a000 9 -", "hold a z", "next 2", "next 32", "next 32", "get a000", "drop", "next 1"]
-HOLDS = "".join(f"1 {line}\n" for line in [*FIRST_HOLD, *SECOND_HOLD])
+# writes that look first: in the memory table, and at keys some of which the components have, by their counts and by others
+CONDITIONS = ["new a000 1 -", "swap a000 9 10 -", "swap a000 9 11 -", "new b000 1 -"]
+CONDITIONS += [f"{asked} key{i:04} {rest}" for i in range(0, KEYS, 250) for asked, rest in (("new", "3 n"), ("swap", "5 6 s"))]
+HOLDS = "".join(f"1 {line}\n" for line in [*FIRST_HOLD, *SECOND_HOLD, *CONDITIONS])
 
 
 def many_callers(draw: random.Random, lines: int) -> str:
     """Writes and lookups of all callers at keys that the store has and at others."""
     def line(caller: int) -> str:
-        one, kind = key(draw), draw.randrange(13)
+        one, kind = key(draw), draw.randrange(17)
+        text = "t" * draw.randrange(1, 300)
         if kind < 5:
-            return f"{caller} put {one} {kind} {'t' * draw.randrange(1, 300)}"
+            return f"{caller} put {one} {kind} {text}"
+        if kind > 12:
+            return f"{caller} new {one} 4 {text}" if kind < 15 else f"{caller} swap {one} {draw.choice((4, 5, 6))} 4 {text}"
         words = f"add {one} {kind}", f"tail {one} {chr(97 + caller) * draw.randrange(1, 65)}", f"del {one}", f"get {one}", f"get {one}", f"hold {one} z", "next 4", "work 3"
         return f"{caller} {words[kind - 5]}"
 

@@ -3,8 +3,9 @@
 It reads a script and the history that a run printed, and knows nothing of trees: a dictionary, sorted where rows are asked for. A history is legal where
 
 - its entries are numbered from 1, and each caller's lines stand in it once, in their order (callers may come between one another in any order);
-- each reply is that of the map at its place, or a refusal that may come there: `full` by the charge, `no memory` of a hold, `fault` and `damaged page`
-  of a lookup or of a work, `fault lost` and `fault unsure` of a write, and `stopped` from then on, with one cause for all;
+- each reply is that of the map at its place, or a refusal that may come there: `full` by the charge of a write whose condition holds, `no memory` of
+  a hold, `fault` and `damaged page` of a lookup, of a new or swap, or of a work, `fault lost` and `fault unsure` of a write whose condition holds, and
+  `stopped` from then on, with one cause for all;
 - a write took no more quanta than its work bound, a work of n turns no more than n, all others none; and the last line has their sum.
 
     judge.py SCRIPT HISTORY        (the store was empty before; --half, --ratio, --quantum as they were given to `make`, --workers as to `run`)
@@ -21,7 +22,8 @@ CALLERS = 16
 OVERHEAD = 13
 MODULUS = 2**64
 MOST_TAIL = 64  # of a text and the tail behind it, so many bytes stay
-WRITES = ("put", "add", "tail", "del")
+WRITES = ("put", "add", "tail", "del", "new", "swap")
+LOOKS_FIRST = ("new", "swap")
 
 Value = tuple[int, str]  # the count, and the text ("" is printed as "-")
 Map = dict[str, Value]
@@ -120,7 +122,7 @@ def entry(line: str, place: int) -> Entry:
 
 def weight(words: tuple[str, ...]) -> int:
     """The weight of a write, in bytes."""
-    text = words[-1] if words[0] in ("put", "tail") and words[-1] != "-" else ""
+    text = words[-1] if words[0] in ("put", "tail", "new", "swap") and words[-1] != "-" else ""
     return OVERHEAD + len(words[1]) + len(text)
 
 
@@ -128,11 +130,19 @@ def value_text(value: Value) -> str:
     return f"{value[0]} {value[1] or '-'}"
 
 
+def is_met(store: Map, words: tuple[str, ...]) -> bool:
+    """Whether the condition of a write holds in a plain map: a new asks that its key is absent, a swap that it has this count."""
+    value = store.get(words[1])
+    if words[0] == "new":
+        return value is None
+    return words[0] != "swap" or (value is not None and value[0] == int(words[2]))
+
+
 def write(store: Map, words: tuple[str, ...]) -> None:
     """Does a write to a plain map."""
     verb, key = words[0], words[1]
-    if verb == "put":
-        store[key] = (int(words[2]), "" if words[3] == "-" else words[3])
+    if verb in ("put", "new", "swap"):
+        store[key] = (int(words[-2]), "" if words[-1] == "-" else words[-1])
     elif verb == "add":
         count, text = store.get(key, (0, ""))
         store[key] = ((count + int(words[2])) % MODULUS, text)
@@ -161,7 +171,8 @@ class PlainMap:
 
     def take(self, e: Entry) -> None:
         """Judges the next entry, and does it."""
-        kinds = {"put": self.written, "add": self.written, "tail": self.written, "del": self.written, "get": self.got, "hold": self.holds, "next": self.read_on, "drop": self.dropped, "work": self.worked}
+        others = {"get": self.got, "hold": self.holds, "next": self.read_on, "drop": self.dropped, "work": self.worked}
+        kinds = {**dict.fromkeys(WRITES, self.written), **others}
         if e.verb not in kinds:
             raise Illegal(e.number, f"there is no command {e.verb}")
         if e.reply.startswith("stopped "):
@@ -192,12 +203,19 @@ class PlainMap:
             raise Illegal(e.number, f"the map answers {reply!r}, and not {e.reply!r}")
 
     def may_fail(self, e: Entry) -> bool:
-        if e.reply.startswith("damaged page ") and self.honest:
-            raise Illegal(e.number, "no page is damaged on an honest disk")
+        if e.reply.startswith("damaged page "):
+            number(e.reply.removeprefix("damaged page "), e.number)
+            if self.honest:
+                raise Illegal(e.number, "no page is damaged on an honest disk")
         return fails(e.reply)
 
     def written(self, e: Entry) -> None:
-        if e.reply in ("fault lost", "fault unsure"):
+        if e.verb in LOOKS_FIRST and self.may_fail(e):
+            return
+        if not is_met(self.store, e.words):
+            value = self.store.get(e.words[1])
+            self.wants(e, "kept none" if value is None else f"kept {value_text(value)}")
+        elif e.reply in ("fault lost", "fault unsure"):
             self.stopping = True
         elif e.reply.startswith("full "):
             charge = number(e.reply.removeprefix("full "), e.number)

@@ -30,11 +30,13 @@ from blsm import (
     Command,
     Del,
     Did,
+    Done,
     Drop,
     Entry,
     Get,
     Hold,
     Is,
+    New,
     Next,
     NoHold,
     Put,
@@ -42,6 +44,7 @@ from blsm import (
     Row,
     Rows,
     Store,
+    Swap,
     Tail,
     Unreadable,
     Value,
@@ -295,6 +298,14 @@ class Live:
 
     def tail(self, key: str, tail: str) -> None:
         self._one(Tail(key, tail))
+
+    def new(self, key: str, count: int, text: str = "") -> bool:
+        """Puts where the key is absent. Answers whether it was."""
+        return isinstance(self._one(New(key, count, text)), Done)
+
+    def swap(self, key: str, old: int, count: int, text: str = "") -> bool:
+        """Puts where the key is present with the old count. Answers whether it was."""
+        return isinstance(self._one(Swap(key, old, count, text)), Done)
 
     def delete(self, key: str) -> None:
         self._one(Del(key))

@@ -18,7 +18,7 @@ import tempfile
 import time
 
 from blsm import Store
-from judge import WRITES, Illegal, Map, judge, write
+from judge import WRITES, Illegal, Map, is_met, judge, write
 
 CALLERS = 16
 GREATEST_TEXT = 435
@@ -29,19 +29,28 @@ def text_of(draw: random.Random) -> str:
     return "x" * draw.randrange(1, most)
 
 
+def count_of(draw: random.Random) -> int:
+    """Often one of two, so that a swap's condition holds often, and often not."""
+    return draw.randrange(draw.choice((2, 2, 1000)))
+
+
 def line(draw: random.Random, caller: int, key: str) -> str:
-    kind = draw.randrange(20)
-    if kind < 10:
-        return f"{caller} put {key} {draw.randrange(1000)} {text_of(draw)}"
-    if kind < 12:
-        return f"{caller} add {key} {draw.randrange(1000)}"
-    if kind == 12:
+    kind = draw.randrange(24)
+    if kind < 9:
+        return f"{caller} put {key} {count_of(draw)} {text_of(draw)}"
+    if kind < 11:
+        return f"{caller} add {key} {count_of(draw)}"
+    if kind == 11:
         return f"{caller} tail {key} {text_of(draw)[:64]}"
     if kind < 15:
         return f"{caller} del {key}"
-    if kind < 18:
+    if kind < 17:
+        return f"{caller} new {key} {count_of(draw)} {text_of(draw)}"
+    if kind < 19:
+        return f"{caller} swap {key} {draw.randrange(2)} {count_of(draw)} {text_of(draw)}"
+    if kind < 22:
         return f"{caller} get {key}"
-    if kind == 18:
+    if kind == 22:
         return draw.choice((f"{caller} hold a z", f"{caller} next 5", f"{caller} drop"))
     return f"{caller} work {draw.randrange(1, 40)}"
 
@@ -89,7 +98,7 @@ def fronts(script: str, caller: int, opening: Map) -> list[Map]:
     own = {key: value for key, value in opening.items() if key.startswith(f"own{caller:02}")}
     found = [dict(own)]
     for words in (one.split(" ") for one in script.splitlines()):
-        if words[0] == str(caller) and words[1] in WRITES:
+        if words[0] == str(caller) and words[1] in WRITES and is_met(own, tuple(words[1:])):
             write(own, tuple(words[1:]))
             found.append(dict(own))
     return found

@@ -13,7 +13,8 @@ import unittest
 from pathlib import Path
 
 import blsm
-from blsm import Absent, Add, Del, Did, Done, Drop, Full, Get, Held, Hold, Is, Next, NoHold, NotDone, Put, Row, Rows, Stopped, Store, Tail, Value, Work, WriteFailed
+from blsm import Absent, Add, Del, Did, Done, Drop, Full, Get, Held, Hold, Is, Kept, New, Next, NoHold, NotDone
+from blsm import Put, Row, Rows, Stopped, Store, Swap, Tail, Value, Work, WriteFailed
 from judge import Geometry, judge
 
 BUILT = os.environ.get("BLSM", str(blsm.PROGRAM))
@@ -66,6 +67,27 @@ class Batches(WithStandIn):
             self.asked(), "run --workers 2 --turns 5 -- -file\n1 put a 1 hi\n2 add plum 7\n1 get a\n2 tail plum sweet\n1 get b\n1 work 3\n1 hold a c\n1 next 2\n1 drop\n"
         )
 
+    def test_writes_that_look_first(self) -> None:
+        entries = (
+            *("new a 1 hi => ok", "new a 2 - => kept 1 hi", "swap a 1 2 - => ok", "swap a 1 3 x => kept 2 -"),
+            *("swap b 0 1 - => kept none", "new c 1 - => full 9", "new c 1 - => fault"),
+        )
+        printed = "".join(f"{place} 1 {entry} q0\n" for place, entry in enumerate(entries, 1))
+        self.says(f"open charge 0\n{printed}end c0 16 of 65536 callers 0 workers 0 swaps 0 0\n")
+        asked = [New("a", 1, "hi"), New("a", 2), Swap("a", 1, 2), Swap("a", 1, 3, "x"), Swap("b", 0, 1), New("c", 1), New("c", 1)]
+        run = self.store.run({1: asked})
+        self.assertEqual(run.replies(1), [Done(), Kept(Value(1, "hi")), Done(), Kept(Value(2)), Kept(None), Full(9), blsm.Failed()])
+        self.assertEqual(self.asked().splitlines()[1:], [f"1 {entry.split(' => ')[0]}" for entry in entries])
+
+    def test_a_condition_is_answered(self) -> None:
+        for reply, is_put in (("ok", True), ("kept 1 -", False)):
+            with self.subTest(reply):
+                printed = (f"1 1 {line} => {reply} q0\n" for line in ("new a 2 x", "swap a 7 2 x"))
+                self.says(*(f"open charge 0\n{entry}end c0 0 of 65536 callers 0 workers 0 swaps 0 0\n" for entry in printed))
+                for old in self.here.glob("asked_*"):
+                    old.unlink()
+                self.assertEqual([self.store.new("a", 2, "x"), self.store.swap("a", 7, 2, "x")], [is_put, is_put])
+
     def test_a_history_of_other_commands_is_refused(self) -> None:
         for text in (
             "open charge 0\n1 1 get b => none q0\nend c0 0 of 65536 callers 0 workers 0 swaps 0 0\n",
@@ -83,6 +105,10 @@ class Batches(WithStandIn):
 
     def test_what_no_script_can_spell_never_runs(self) -> None:
         for command in (Put("", 1), Put("a b", 1), Put("k" * 65, 1), Put("a", 1, "-"), Put("a", 1, "x" * 436), Put("a", 2**64), Put("a", -1), Tail("a", ""), Tail("a", "-"), Tail("a", "x" * 65), Tail("a", "b c"), Get("a\n1 del b"), Next(33), Next(0), Work(0)):
+            with self.subTest(command), self.assertRaises(ValueError):
+                self.store.run({1: [command]})
+        news = (New("a b", 1), New("k" * 65, 1), New("a", 2**64), New("a", -1), New("a", 1, "-"), New("a", 1, "x" * 436))
+        for command in (*news, Swap("", 1, 2), Swap("a", -1, 2), Swap("a", 2**64, 2), Swap("a", 1, 2**64), Swap("a", 1, 2, "x" * 436)):
             with self.subTest(command), self.assertRaises(ValueError):
                 self.store.run({1: [command]})
         for caller in (0, 17):

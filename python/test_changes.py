@@ -52,6 +52,13 @@ class Tables(unittest.TestCase):
             with self.assertRaises(ValueError):
                 write_cases(Path(room) / "others", lines[:2], read_changes(TEXT))
 
+    def test_a_case_has_the_store_that_it_begins_with(self) -> None:
+        lines = ["script two | 1 get a", "fail 1 two | 7 | fault | a none", "store --low 0", "damage - | cut | 4 not a store"]
+        with tempfile.TemporaryDirectory() as room:
+            cases = write_cases(Path(room) / "cases", lines, read_changes(TEXT))
+            self.assertEqual(cases, {"0": [lines[1], lines[3]], "1": [lines[3]]})
+            self.assertEqual((Path(room) / "cases/1").read_text(), "script two | 1 get a\nstore --low 0\ndamage - | cut | 4 not a store\n")
+
 
 class Verdicts(unittest.TestCase):
     def test_rows_that_stand(self) -> None:

@@ -50,7 +50,8 @@ class Scripts(unittest.TestCase):
     def test_the_weights_are_those_of_a_plain_map(self) -> None:
         present, plain = compare.Present(), PlainMap({}, Geometry(), 0, True)
         tails = ("tail a uvw", "tail b x", f"put c 1 {'y' * 70}", "tail c z", "tail d z")
-        for place, command in enumerate(("add a 1", "put a 2 xyz", "add a 3", "del a", "del a", "add a 4", "put b 1 -", *tails), 1):
+        looking = ("new e 1 x", "swap e 1 2 yz", "swap e 2 3 -")
+        for place, command in enumerate(("add a 1", "put a 2 xyz", "add a 3", "del a", "del a", "add a 4", "put b 1 -", *tails, *looking), 1):
             present.write(command)
             plain.take(entry(f"{place} 1 {command} => ok q0", place))
             self.assertEqual(present.weights, {key: 13 + len(key) + len(text) for key, (_, text) in plain.store.items()})

@@ -105,6 +105,45 @@ class Legal(unittest.TestCase):
         text = wrapped("1 tail a yz => full 121841 q0", "1 tail a y => ok q0", charge=121841).replace("65536", "34816")
         self.assertEqual(judge(script_of(text), text, geometry=Geometry(half=17408, ratio=2)), {"a": (0, "y")})
 
+    def test_writes_that_look_first(self) -> None:
+        text = wrapped(
+            *("1 new a 1 x => ok q0", "1 new a 2 y => kept 1 x q0", "1 swap a 1 7 z => ok q0", "1 swap a 1 9 z => kept 7 z q0"),
+            *("1 swap b 0 1 - => kept none q0", "1 get a => is 7 z q0", "1 swap a 7 7 - => ok q0", "1 new b 5 - => ok q0", "1 swap b 5 6 - => ok q0"),
+        )
+        self.assertEqual(judge(script_of(text), text), {"a": (7, ""), "b": (6, "")})
+
+    def test_a_change_that_comes_first_makes_a_key(self) -> None:
+        gone = ["1 put a 1 x => ok q0", "1 del a => ok q0", "1 swap a 1 2 y => kept none q0"]
+        text = wrapped(*gone, "1 tail d z => ok q0", "1 swap d 0 1 - => ok q0", "1 get d => is 1 - q0")
+        judge(script_of(text), text)
+
+    def test_one_new_of_sixteen(self) -> None:
+        script = "".join(f"{caller} new lock {caller} -\n" for caller in range(1, 17))
+        text = wrapped("7 new lock 7 - => ok q0", *(f"{caller} new lock {caller} - => kept 7 - q0" for caller in range(16, 0, -1) if caller != 7))
+        self.assertEqual(judge(script, text), {"lock": (7, "")})
+
+    def test_a_lookup_that_comes_first_and_fails_stops_nothing(self) -> None:
+        text = wrapped("1 new a 1 - => fault q0", "1 new a 1 - => ok q0", "1 swap a 1 2 - => fault q0", "1 get a => is 1 - q0")
+        judge(script_of(text), text)
+        text = wrapped("1 swap a 1 2 - => damaged page 7 q0", "1 get a => none q0")
+        judge(script_of(text), text, honest=False)
+
+    def test_a_full_store_looks_first(self) -> None:
+        text = wrapped(
+            *("1 new a 2 - => kept 1 - q0", "1 new b 2 - => full 121856 q0", "1 swap a 1 2 - => full 121856 q0", "1 swap a 2 3 - => kept 1 - q0"),
+            charge=121856,
+        )
+        small = Geometry(half=17408, ratio=2)
+        self.assertEqual(judge(script_of(text), text.replace("65536", "34816"), {"a": (1, "")}, geometry=small), {"a": (1, "")})
+
+    def test_what_an_unsure_new_may_leave(self) -> None:
+        text = wrapped("1 put a 1 - => ok q0", "1 swap a 1 2 x => fault unsure q0", "1 get a => stopped fault 1 q0")
+        self.assertEqual(judge(script_of(text), text), {"a": (1, "")})
+        fronts = list(maps_after_fronts(parse(text).entries))
+        self.assertEqual(fronts, [{}, {"a": (1, "")}, {"a": (1, "")}, {"a": (2, "x")}, {"a": (1, "")}])
+        text = wrapped("1 new a 1 x => fault lost q0", "1 get a => stopped fault 1 q0")
+        self.assertEqual(judge(script_of(text), text), {})
+
     def test_callers_come_between_one_another(self) -> None:
         script = "1 put a 1 -\n2 put a 2 -\n2 get a\n"
         judge(script, wrapped("2 put a 2 - => ok q0", "1 put a 1 - => ok q0", "2 get a => is 1 - q0"))
@@ -208,6 +247,55 @@ class Wrong(unittest.TestCase):
         for wrong in ("yx", "y", "x"):
             self.refuse(3, wrapped(*tails, f"1 get a => is 0 {wrong} q0"))
         self.refuse(3, wrapped(f"1 put a 0 {'x' * 64} => ok q0", "1 tail a y => ok q0", f"1 get a => is 0 {'x' * 64}y q0"))
+
+    def test_a_new_that_overwrites(self) -> None:
+        self.refuse(2, wrapped("1 new a 1 - => ok q0", "2 new a 2 - => ok q0"))
+
+    def test_a_swap_that_compares_nothing(self) -> None:
+        self.refuse(2, wrapped("1 put a 1 - => ok q0", "1 swap a 2 3 - => ok q0"))
+        self.refuse(1, wrapped("1 swap a 0 1 - => ok q0"))
+
+    def test_a_swap_that_compares_the_new_count(self) -> None:
+        self.refuse(2, wrapped("1 put a 1 - => ok q0", "1 swap a 1 2 - => kept 1 - q0"))
+
+    def test_kept_out_by_nothing(self) -> None:
+        for wrong in ("kept none", "kept 0 -"):
+            self.refuse(1, wrapped(f"1 new a 1 - => {wrong} q0"))
+        self.refuse(2, wrapped("1 put a 1 x => ok q0", "1 new a 2 - => kept none q0"))
+        self.refuse(2, wrapped("1 put a 1 x => ok q0", "1 new a 2 - => kept 1 - q0"))
+
+    def test_one_that_was_kept_out_changes_nothing(self) -> None:
+        self.refuse(3, wrapped("1 put a 1 - => ok q0", "1 new a 2 - => kept 1 - q0", "1 get a => is 2 - q0"))
+
+    def test_full_before_it_looks(self) -> None:
+        self.refuse(1, wrapped("1 new a 1 - => full 1048576 q0", charge=1048576), opening={"a": (1, "")})
+        self.refuse(1, wrapped("1 swap a 1 2 - => full 1048576 q0", charge=1048576))
+
+    def test_a_write_that_failed_before_it_looked(self) -> None:
+        for reply in ("fault lost", "fault unsure"):
+            self.refuse(1, wrapped(f"1 new a 1 - => {reply} q0"), opening={"a": (1, "")})
+            self.refuse(1, wrapped(f"1 swap a 1 2 - => {reply} q0"), opening={"a": (2, "")})
+
+    def test_a_lookup_that_failed_does_not_stop_the_store(self) -> None:
+        for reply in ("fault", "damaged page 3"):
+            self.refuse(2, wrapped(f"1 new a 1 - => {reply} q0", "1 new a 1 - => kept none q0"), honest=False)
+
+    def test_one_that_was_kept_out_takes_no_quanta(self) -> None:
+        for reply in ("kept 1 -", "fault", "full 1048576"):
+            text = wrapped(f"1 swap a {2 if reply == 'kept 1 -' else 1} 2 - => {reply} q1", callers=1, charge=1048576)
+            self.refuse(1, text, opening={"a": (1, "")})
+
+    def test_full_though_a_new_fits(self) -> None:
+        self.refuse(1, wrapped("1 new a 1 - => full 1015794 q0", charge=1048576))
+
+    def test_a_swap_that_weighs_its_old_count(self) -> None:
+        self.refuse(1, wrapped("1 swap a 1 2 xy => full 1015792 q0", charge=1048576), opening={"a": (1, "")})
+
+    def test_a_page_without_a_number(self) -> None:
+        self.refuse(1, wrapped("1 get a => damaged page x q0"), honest=False)
+
+    def test_a_put_does_not_fail_as_a_lookup(self) -> None:
+        self.refuse(1, wrapped("1 put a 1 - => fault q0"))
 
     def test_an_invented_entry(self) -> None:
         self.refuse(2, wrapped("1 get a => none q0", "1 get a => none q0"), "1 get a\n")

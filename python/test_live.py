@@ -19,8 +19,8 @@ from unittest import mock
 import blsm
 import live
 import reading
-from blsm import Absent, Add, Command, Del, Did, Done, Drop, Entry, Get, Held, Hold, Is, Next, NoHold, NotDone
-from blsm import Put, Row, Rows, Store, Tail, Value, Work
+from blsm import Absent, Add, Command, Del, Did, Done, Drop, Entry, Get, Held, Hold, Is, New, Next, NoHold, NotDone
+from blsm import Put, Row, Rows, Store, Swap, Tail, Value, Work
 from judge import Geometry, judge
 from live import AHEAD, NoCallerLeft, Totals, Unanswered
 
@@ -104,6 +104,13 @@ class OverAStandIn(WithRoom):
         with self.store.live() as opened:
             self.assertRaises(NotDone, opened.get, "a")
             self.assertIsNone(opened.get("a"))
+
+    def test_a_lookup_of_a_write_that_failed_stops_nothing(self) -> None:
+        self.says(OPEN, "1 1 new a 1 - => fault q0", "2 1 new a 1 - => ok q0", "3 1 swap a 2 3 - => kept 1 - q0", END, status=7)
+        with self.store.live() as opened:
+            self.assertRaises(NotDone, opened.new, "a", 1)
+            self.assertEqual((opened.new("a", 1), opened.swap("a", 2, 3)), (True, False))
+        self.assertEqual(self.asked(0), "1 new a 1 -\n1 new a 1 -\n1 swap a 2 3 -\n")
 
     def test_a_fault_that_no_reply_told_is_raised_at_the_close(self) -> None:
         self.says(OPEN, "1 1 put a 1 - => ok q1", END, status=7)
@@ -325,8 +332,10 @@ class Built(WithRoom):
     @staticmethod
     def any_command(draw: random.Random) -> Command:
         key = f"k{draw.randrange(40):02}"
-        write = draw.choice((Put(key, draw.randrange(99), "x" * draw.randrange(436)), Add(key, 7), Tail(key, "t" * draw.randrange(1, 65)), Del(key)))
-        return draw.choice((write, write, write, Get(key), Work(draw.randrange(1, 9))))
+        count, text = draw.randrange(3), "x" * draw.randrange(436)
+        plain = draw.choice((Put(key, draw.randrange(99), text), Add(key, 7), Tail(key, "t" * draw.randrange(1, 65)), Del(key)))
+        looking = draw.choice((New(key, count, text), Swap(key, count, draw.randrange(3), text)))
+        return draw.choice((plain, plain, plain, looking, looking, Get(key), Work(draw.randrange(1, 9))))
 
     def test_a_program_that_was_killed(self) -> None:
         opened = self.store.live()
@@ -404,7 +413,8 @@ class Built(WithRoom):
         longest = b"16 put " + b"k" * 64 + b" 18446744073709551615 " + b"t" * 435 + b"\n"
         self.assertEqual(self.served(longest), (0, b"1 " + longest[:-1] + b" => ok q0\n"))
         cut_off = (b"1 get a", b"1 put a 6 h", b"k" * 4096)
-        for line in (b"1 get a\r\n", b"1 get \0\n", b"\n", b"17 get a\n", b" 1 get a\n", longest[:-1] + b"t\n", *cut_off):
+        cut_short = (b"1 new a 1\n", b"1 swap a 1 2\n")
+        for line in (b"1 get a\r\n", b"1 get \0\n", b"\n", b"17 get a\n", b" 1 get a\n", longest[:-1] + b"t\n", *cut_short, *cut_off):
             with self.subTest(line):
                 self.assertEqual(self.served(b"1 put a 5 hi\n" + line), (2, told))
         self.assertEqual(self.store.get("a"), Value(5, "hi"))

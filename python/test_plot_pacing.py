@@ -10,6 +10,7 @@ from xml.etree import ElementTree
 
 sys.path.insert(0, str(Path(__file__).resolve().parent.parent / "examples"))
 import plot_pacing  # noqa: E402
+from test_conditions import BEHIND_A_WORK, ONE_KEY, OTHER_WRITES  # noqa: E402
 
 
 def trial(seed: int, count: int) -> Iterator[list[str]]:
@@ -92,6 +93,14 @@ class Pictures(unittest.TestCase):
         self.assertEqual([(entry.is_write, entry.weight) for entry in drawn.entries[3:5]], [(True, 19), (True, 15)])
         self.assertEqual(tree.c2.records, {"a": ("base", 5, "helloworld"), "b": ("base", 0, "x" * 63 + "y")})
         self.assertEqual(tree.charge(), 102)
+
+    def test_news_and_swaps_are_done_again(self) -> None:
+        for history, records in ((ONE_KEY, {"a": ("base", 7, "z")}), (BEHIND_A_WORK, {"x": ("base", 7, "new")}), (OTHER_WRITES, None)):
+            tree = default()
+            drawn = plot_pacing.Drawn(["open charge 0", *history.splitlines()], tree)
+            self.assertTrue(drawn.is_exact)
+            self.assertEqual(tree.a.records, records or {"a": ("base", 3, "z"), "c": ("base", 6, ""), "d": ("base", 1, "")})
+            self.assertEqual(sum(entry.is_write for entry in drawn.entries), sum(" => ok " in line for line in history.splitlines()))
 
     def test_tails_fold_as_texts_do(self) -> None:
         tail, add, tomb = ("delta", 0, "z" * 60), ("delta", 2, ""), ("tomb", 0, "")

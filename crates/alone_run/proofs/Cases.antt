@@ -166,7 +166,7 @@ module _ (s : ℕ) (end : Machine) where
 
   pub own_admits : (m : Machine) (op : Op) (outcome : Outcome) → IsAlone s m → Steps m (kind.Admit op) outcome s
   own_admits m op outcome is ok before rest =
-      let well = admit_as_well m s op outcome is.runs before.runs in
+      let well = admit_as_well m s op outcome is.runs before.runs before.calm in
       let notes = subst (λ x. Notes s op m x) (sym well) (admit_notes m s op is.runs) in
       let entry = entry_of s op notes.reply in
       let write = (both_hold (is_write op) (may_note s 0 m) (both_hold (is_write op && may_note s 0 m) (is_even s m) ok).0).0 in
@@ -193,7 +193,8 @@ module _ (s : ℕ) (end : Machine) where
   pub admits : (m : Machine) (seat : ℕ) (op : Op) (outcome : Outcome) → IsAlone s m → Steps m (kind.Admit op) outcome seat
   admits m seat op outcome is ok before rest =
       let notes = admit_notes m seat op is.runs in
-      let asked = subst (λ (x : Machine). AllByRecursion (λ (e : Entry). e.seat ≡ s) x.book.entries) (admit_as_well m seat op outcome is.runs before.runs) before.asked in
+      let asked = subst (λ (x : Machine). AllByRecursion (λ (e : Entry). e.seat ≡ s) x.book.entries)
+      (admit_as_well m seat op outcome is.runs before.runs before.calm) before.asked in
       let same : seat ≡ s = last_of (λ (e : Entry). e.seat ≡ s) m.book.entries (entry_of seat op notes.reply) (subst (λ es. AllByRecursion (λ (e : Entry). e.seat ≡ s) es) notes.entries asked) in
       subst (Steps m (kind.Admit op) outcome) (sym same) (own_admits m op outcome is) ok before rest
 

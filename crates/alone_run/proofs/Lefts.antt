@@ -1,9 +1,10 @@
 -- Who left is read by no step but a worker's: every other step is the same, whoever left.
-use Rattle.std.proofs.Common.{◌≡◌, ◌∙◌, refl, ap, ℕ, zero, suc, ◌+◌, ◌-◌, Bool, cond, List, [], ◌∷◌, Option, None, true, false}
+use Rattle.std.proofs.Common.{◌≡◌, ◌∙◌, refl, ap, ℕ, zero, suc, ◌+◌, ◌-◌, Bool, cond, List, [], ◌∷◌, Option, Some, None, true, false}
 use Rattle.std.proofs.lemmas.Grind.{common_steps}
 use Rattle.std.proofs.lemmas.Bool.Decides.{nat_tests}
 use Rattle.std.proofs.Common.{arith}
 use Rattle.blsm_model.specs.Histories.{answer_to_release, answer_to_look}
+use Rattle.blsm_model.specs.declared.history.Reply.{Reply}
 use Rattle.blsm_model.specs.declared.history.Why.{Why}
 use Rattle.blsm_model.specs.declared.op.Op.{Op}
 use Rattle.blsm_model.specs.declared.op.Op.TheVariants.{Hold, Next, Release, Work}
@@ -12,7 +13,26 @@ use Rattle.blsm_model.specs.declared.row.Row.{Row}
 use Rattle.gear_sched.specs.Gears.{first_debt, second_debt}
 use Rattle.tree_machine.specs.Lists.{contents_in}
 use Rattle.tree_machine.specs.Machine.{Machine, held_by, owes, work_of}
-use Rattle.tree_machine.specs.Steps.{Choice, Well, admit, chosen, do_hold, do_next, holding, pay, ready_for, replied, taken_once, unless_stopped, work_end, work_turn, look}
+use Rattle.tree_machine.specs.Steps.{
+  Choice,
+  Well,
+  admit,
+  admit_met,
+  chosen,
+  do_hold,
+  do_next,
+  holding,
+  pay,
+  ready_for,
+  refused_first,
+  replied,
+  taken_once,
+  unless_refused,
+  unless_stopped,
+  work_end,
+  work_turn,
+  look,
+}
 use Rattle.alone_run.specs.Alone.{all_paid, is_over, paid, turned}
 use Rattle.alone_run.proofs.Resumed.{alone_resumed, done_resumed}
 use Rattle.blsm_model.specs.Legal.{is_look}
@@ -37,8 +57,19 @@ chosen_left c seat l m = grind (arith, common_steps, nat_tests)
 
 -- ---- steps
 
+met_left : (seat : ℕ) (op : Op) (l : List Bool) (m : Machine) → (admit_met (with_left l m) seat op Well).state ≡ with_left l
+    (admit_met m seat op Well).state
+met_left seat op l m = grind (arith, common_steps, nat_tests, ready_left, taken_left)
+
 admit_left : (seat : ℕ) (op : Op) (l : List Bool) (m : Machine) → (admit (with_left l m) seat op Well).state ≡ with_left l (admit m seat op Well).state
-admit_left seat op l m = grind (arith, common_steps, nat_tests, ready_left, taken_left)
+admit_left seat op l m = by m.stopped (refused_first m op Well)
+  where
+    by : (o : Option Why) (refused : Option Reply)
+        → (unless_stopped o seat op (with_left l m) (unless_refused refused seat op (with_left l m) (admit_met (with_left l m) seat op Well))).state
+        ≡ with_left l (unless_stopped o seat op m (unless_refused refused seat op m (admit_met m seat op Well))).state
+    by (Some why) refused = refl
+    by None (Some reply) = refl
+    by None None = met_left seat op l m
 
 pay_left : (seat : ℕ) (l : List Bool) (m : Machine) → (pay (with_left l m) seat Well).state ≡ with_left l (pay m seat Well).state
 pay_left seat l m = grind (arith, common_steps, nat_tests)

@@ -18,7 +18,27 @@ use Rattle.blsm_model.specs.declared.row.Row.{Row}
 use Rattle.tree_machine.specs.Lists.{Lists, rows_in, contents_in}
 use Rattle.tree_machine.specs.Machine.{Machine, WorkSoFar, held_by, no_work}
 use Rattle.tree_machine.specs.Stands.{work_at}
-use Rattle.tree_machine.specs.Steps.{Outcome, Well, FailedAfter, Broken, NoRoom, Stepped, do_hold, do_next, drop_hold, hold, holding, next_rows, replied, reply_unless, unless_stopped, work_end, work_reply, look}
+use Rattle.tree_machine.specs.Steps.{
+  Outcome,
+  Well,
+  FailedAfter,
+  FailedLooking,
+  Broken,
+  NoRoom,
+  Stepped,
+  do_hold,
+  do_next,
+  drop_hold,
+  hold,
+  holding,
+  next_rows,
+  replied,
+  reply_unless,
+  unless_stopped,
+  work_end,
+  work_reply,
+  look,
+}
 use Rattle.alone_run.specs.Alone.{is_trouble}
 
 -- what such a step reads
@@ -113,6 +133,7 @@ hold_reads m seat low high outcome none calm = running_is m seat (Hold low high)
   where
     by : (e : Outcome) → Calm (unless_stopped m.stopped seat (Hold low high) m (do_hold m seat low high e)).state.book.entries → (do_hold m seat low high e).state ≡ read_as (taking_hold seat low high) seat (Hold low high) m
     by Well is = refl
+    by (FailedLooking faults) is = refl
     by (FailedAfter commits faults) is = refl
     by (Broken page) is = refl
     by NoRoom is = absurd (false≢true (sym (no_trouble m seat (Hold low high) NoMemory (do_hold m seat low high NoRoom) none refl is)))
@@ -124,6 +145,7 @@ next_reads m seat n outcome none calm = running_is m seat (Next n) (do_next m se
         → (do_next m seat n e held).state ≡ read_as (record (reading_on seat n) { reply = λ v. next_reply n held; holds = λ v. next_holds seat n v.holds held }) seat (Next n) m
     by e None is = refl
     by Well (Some rows) is = refl
+    by (FailedLooking faults) (Some rows) is = refl
     by NoRoom (Some rows) is = refl
     by (FailedAfter commits faults) (Some rows) is = absurd (false≢true (sym (no_trouble m seat (Next n) Fault (do_next m seat n (FailedAfter commits faults) (Some rows)) none refl is)))
     by (Broken page) (Some rows) is = absurd (false≢true (sym (no_trouble m seat (Next n) (Damaged page) (do_next m seat n (Broken page) (Some rows)) none refl is)))

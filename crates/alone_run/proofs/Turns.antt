@@ -2,34 +2,101 @@
 use Rattle.std.proofs.Common.{◌≡◌, ◌∙◌, refl, ap, sym, subst, ℕ, zero, suc, ◌+◌, ◌-◌, ◌<◌, ◌≤◌, Bool, cond, true, false, ◌&&◌, List, [], ◌∷◌, ◌++◌, length, option_map, replicate, Option, Some, None, arith, eqb-true, lt-ltb, ltb-true, get_or-set_same, set-set, length-set, length-append}
 use Rattle.std.proofs.lemmas.Grind.{common_steps}
 use Rattle.std.proofs.lemmas.Bool.Decides.{nat_tests}
-use Rattle.std.specs.Prelude.{nat_le, nat_lt, slice_index, slice_set}
+use Rattle.std.specs.Prelude.{nat_le, slice_index, slice_set}
+use Rattle.std.proofs.lemmas.Bool.{true≢false}
 use Rattle.blsm_model.specs.Book.{Book}
 use Rattle.blsm_model.specs.Format.{callers}
-use Rattle.blsm_model.specs.Geometry.{c1_mark, charge_limit}
-use Rattle.blsm_model.specs.Histories.{writes_of}
-use Rattle.blsm_model.specs.Legal.{total_weight, is_del}
+use Rattle.blsm_model.specs.Geometry.{c1_mark}
+use Rattle.blsm_model.specs.Histories.{is_met, looked_at, looks_first, writes_of}
+use Rattle.blsm_model.specs.Legal.{total_weight}
 use Rattle.blsm_model.specs.declared.history.Entry.{Entry}
 use Rattle.blsm_model.specs.declared.history.Reply.{Reply}
-use Rattle.blsm_model.specs.declared.history.Reply.TheVariants.{Done, Full}
+use Rattle.blsm_model.specs.declared.history.Reply.TheVariants.{Damaged, Done, Fault, Full}
 use Rattle.blsm_model.specs.declared.op.Op.{Op}
+use Rattle.blsm_model.specs.declared.row.Value.{Value}
 use Rattle.record_delta.specs.Entries.{entries_weight}
 use Rattle.tree_machine.proofs.FoldLemmas.{both, both_hold}
 use Rattle.tree_machine.proofs.PlayLemmas.{of_replicate}
+use Rattle.tree_machine.specs.Lists.{value_in}
 use Rattle.tree_machine.specs.Machine.{Machine, Idle, WorkSoFar, charge, no_work, work_of}
 use Rattle.tree_machine.specs.Merges.{Merge, quantum_of}
 use Rattle.tree_machine.specs.Moves.{end_pass, note, output_of, pass_quantum_of, deep_quantum_of, rotate, with_peak}
 use Rattle.tree_machine.specs.Outcomes.{work_choice}
 use Rattle.tree_machine.specs.Plays.{is_finished}
-use Rattle.tree_machine.specs.Steps.{Choice, SwapDeep, SwapPass, DeepQuantum, PassQuantum, Begin, Rotate, Rest, Outcome, Well, admit, admit_fitting, chosen, ended_as, is_idle, quanta_of, ready_for, replied, taken_once, with_turn, work_end, work_noted, work_turn, work_turning}
-use Rattle.alone_run.specs.Alone.{is_over, turned}
+use Rattle.tree_machine.specs.Steps.{
+  Choice,
+  SwapDeep,
+  SwapPass,
+  DeepQuantum,
+  PassQuantum,
+  Begin,
+  Rotate,
+  Rest,
+  Outcome,
+  Well,
+  FailedAfter,
+  FailedLooking,
+  Broken,
+  NoRoom,
+  Stepped,
+  admit,
+  admit_met,
+  admit_fitting,
+  is_full,
+  refused_first,
+  told_by_look,
+  unless_refused,
+  chosen,
+  ended_as,
+  is_idle,
+  quanta_of,
+  ready_for,
+  replied,
+  taken_once,
+  with_turn,
+  work_end,
+  work_noted,
+  work_turn,
+  work_turning,
+}
+use Rattle.alone_run.specs.Alone.{is_over, is_trouble, turned}
 use Rattle.alone_run.proofs.Moves.{Moves, Synced, chosen_moves, moves_none, moves_on, ready_moves, taken_moves}
 use Rattle.alone_run.proofs.Payments.{IsEven}
-use Rattle.alone_run.proofs.Readings.{entry_of, running_is}
+use Rattle.alone_run.proofs.Readings.{Calm, entry_of, last_of, running_is}
 
--- ---- a write that leaves the tree running is as one that went well
+-- ---- a write that leaves the tree running, and whose lookup didn't fail, is as one that went well
 
-pub admit_as_well : (m : Machine) (seat : ℕ) (op : Op) (outcome : Outcome) → m.stopped ≡ None → (admit m seat op outcome).state.stopped ≡ None → (admit m seat op outcome).state ≡ (admit m seat op Well).state
-admit_as_well m seat op outcome none runs = grind (arith, common_steps, nat_tests)
+met_as_well : (m : Machine) (seat : ℕ) (op : Op) (e : Outcome) → m.stopped ≡ None → (admit_met m seat op e).state.stopped ≡ None →
+    (admit_met m seat op e).state ≡ (admit_met m seat op Well).state
+met_as_well m seat op e none runs = grind (arith, common_steps, nat_tests)
+
+abbrev looked : Machine → ℕ → Op → Outcome → Stepped
+looked m seat op e = unless_refused (refused_first m op e) seat op m (admit_met m seat op e)
+
+pub admit_as_well : (m : Machine) (seat : ℕ) (op : Op) (outcome : Outcome) → m.stopped ≡ None → (admit m seat op outcome).state.stopped ≡ None
+    → Calm (admit m seat op outcome).state.book.entries → (admit m seat op outcome).state ≡ (admit m seat op Well).state
+admit_as_well m seat op outcome none runs calm =
+    running_is m seat op (looked m seat op outcome) none
+    ∙ by (looks_first op) (is_met op (value_in m.lists)) (looked_at op (value_in m.lists)) outcome
+    (subst (λ (n : Machine). n.stopped ≡ None) (running_is m seat op (looked m seat op outcome) none) runs)
+    (subst (λ (n : Machine). Calm n.book.entries) (running_is m seat op (looked m seat op outcome) none) calm)
+    ∙ sym (running_is m seat op (looked m seat op Well) none)
+  where
+    troubled : (reply : Reply) → is_trouble reply ≡ true → Calm (note seat op reply m).book.entries → ⊥
+    troubled reply is calm = true≢false (sym is ∙ last_of (λ (e : Entry). is_trouble e.reply ≡ false) m.book.entries (entry_of seat op reply) calm)
+
+    by : (first met : Bool) (found : Option Value) (e : Outcome)
+        → (let new = (unless_refused (cond first (told_by_look e met found) None) seat op m (admit_met m seat op e)).state in new.stopped ≡ None →
+        Calm new.book.entries
+        → new ≡ (unless_refused (cond first (told_by_look Well met found) None) seat op m (admit_met m seat op Well)).state)
+    by false met found e runs calm = met_as_well m seat op e none runs
+    by true met found (FailedLooking faults) runs calm = absurd (troubled Fault refl calm)
+    by true met found (Broken page) runs calm = absurd (troubled (Damaged page) refl calm)
+    by true true found (FailedAfter commits faults) runs calm = met_as_well m seat op (FailedAfter commits faults) none runs
+    by true false found (FailedAfter commits faults) runs calm = refl
+    by true met found Well runs calm = refl
+    by true true found NoRoom runs calm = met_as_well m seat op NoRoom none runs
+    by true false found NoRoom runs calm = refl
 
 -- it notes one entry
 pub record Notes (seat : ℕ) (op : Op) (old new : Machine) : Type 0 where
@@ -55,9 +122,8 @@ noted_after seat op reply m n moves = record {
 
 pub admit_notes : (m : Machine) (seat : ℕ) (op : Op) → m.stopped ≡ None → Notes seat op m (admit m seat op Well).state
 admit_notes m seat op none =
-    let weight = total_weight (writes_of op) in
-    let full = nat_lt (charge_limit m.gears.sizes (is_del op)) (charge m + weight) in
-    subst (λ n. Notes seat op m n) (sym (running_is m seat op (cond full (replied seat op (Full (charge m)) m) (admit_fitting m seat op weight Well)) none)) (by full)
+    subst (λ n. Notes seat op m n) (sym (running_is m seat op (unless_refused (refused_first m op Well) seat op m (admit_met m seat op Well)) none))
+    (refused (refused_first m op Well))
   where
     by : (b : Bool) → Notes seat op m (cond b (replied seat op (Full (charge m)) m) (admit_fitting m seat op (total_weight (writes_of op)) Well)).state
     by true = noted_after seat op (Full (charge m)) m m (moves_none m)
@@ -65,6 +131,10 @@ admit_notes m seat op none =
         let moves = moves_on (ready_moves (total_weight (writes_of op)) m) (taken_moves seat (writes_of op) (ready_for (total_weight (writes_of op)) m)) in
         noted_after seat op Done m (with_peak (taken_once seat (writes_of op) (ready_for (total_weight (writes_of op)) m)))
         (record { synced = moves.synced; work = moves.work; book = moves.book; stopped = moves.stopped })
+
+    refused : (o : Option Reply) → Notes seat op m (unless_refused o seat op m (admit_met m seat op Well)).state
+    refused (Some reply) = noted_after seat op reply m m (moves_none m)
+    refused None = by (is_full m op)
 
 -- ---- a turn that leaves the tree running is as one that went well
 

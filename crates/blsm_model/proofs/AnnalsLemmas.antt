@@ -9,9 +9,7 @@ use Rattle.blsm_model.specs.declared.row.Row.{Row}
 use Rattle.blsm_model.specs.declared.room.Room.{Room}
 use Rattle.blsm_model.specs.declared.history.Reply.{Reply}
 use Rattle.blsm_model.specs.declared.history.ShortReply.{ShortReply}
-use Rattle.blsm_model.specs.declared.history.ShortReply.TheVariants as short
 use Rattle.blsm_model.specs.declared.annals.StoredReply.{StoredReply}
-use Rattle.blsm_model.specs.declared.annals.StoredReply.TheVariants as stored
 use Rattle.blsm_model.specs.declared.annals.StoredEntry.{StoredEntry}
 use Rattle.blsm_model.specs.Book.{rows_given}
 use Rattle.blsm_model.specs.Stored.{as_reply, stored_reply, stored_entry, FitsRows, IsStored}

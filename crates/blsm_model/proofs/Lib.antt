@@ -3,6 +3,7 @@ mod ValueExamples
 mod TailExamples
 mod HoldExamples
 mod RefusalExamples
+mod ConditionExamples
 mod PrintedExamples
 mod SizeExamples
 mod ImageExamples

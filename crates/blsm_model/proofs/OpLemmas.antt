@@ -1,16 +1,19 @@
 -- What commands write.
 use Rattle.std.proofs.lemmas.Bool.Decides.{nat_tests}
 use Rattle.std.proofs.lemmas.Grind.{common_steps}
-use Rattle.std.proofs.Common.{◌≡◌, ℕ, ◌≤◌, true, false, List, [], ◌∷◌, length, refl, arith}
+use Rattle.std.proofs.Common.{◌≡◌, ℕ, ◌≤◌, true, false, List, [], ◌∷◌, length, Option, refl, ap, arith}
 use Rattle.std.proofs.lemmas.Bool.{false≢true}
 use Rattle.blsm_model.specs.declared.op.Op.{Op}
-use Rattle.blsm_model.specs.declared.op.Op.TheVariants.{Put, Add, Tail, Del}
+use Rattle.blsm_model.specs.declared.op.Op.TheVariants.{Put, Add, Tail, Del, New, Swap}
 use Rattle.blsm_model.specs.declared.op.Write.{Write}
 use Rattle.blsm_model.specs.declared.op.Write.TheVariants as write
 use Rattle.blsm_model.specs.declared.history.Entry.{Entry}
-use Rattle.blsm_model.specs.declared.history.Reply.TheVariants.{Done}
-use Rattle.blsm_model.specs.Histories.{Object, IsAnswer, counted_writes, moves_rows, writes_of}
-use Rattle.blsm_model.specs.Legal.{is_write, may_look}
+use Rattle.blsm_model.specs.declared.history.Reply.TheVariants.{Done, Kept}
+use Rattle.blsm_model.specs.declared.key.Key.{Key}
+use Rattle.blsm_model.specs.declared.row.Value.{Value}
+use Rattle.blsm_model.specs.Values.{value_at}
+use Rattle.blsm_model.specs.Histories.{Object, IsAnswer, counted_writes, is_met, is_met_by, looked_at, looks_first, moves_rows, writes_of}
+use Rattle.blsm_model.specs.Legal.{MayFail, is_running, is_work, is_write, may_look}
 
 -- a command that writes makes just one write
 pub writes_one : (op : Op) → is_write op ≡ true → (w : Write) × (writes_of op ≡ w ∷ [])
@@ -18,6 +21,8 @@ writes_one (Put key value) is = (write.Put key value, refl)
 writes_one (Add key count) is = (write.Add key count, refl)
 writes_one (Tail key tail) is = (write.Tail key tail, refl)
 writes_one (Del key) is = (write.Del key, refl)
+writes_one (New key value) is = (write.Put key value, refl)
+writes_one (Swap key count value) is = (write.Put key value, refl)
 writes_one _ is = absurd (false≢true is)
 
 -- and so does an entry
@@ -25,14 +30,49 @@ pub few_counted : (es : List Entry) → length (counted_writes es) ≤ length es
 few_counted [] = omega arith
 few_counted (e ∷ es) = grind (arith, common_steps, nat_tests, few_counted es)
 
--- the sequential map answers Done to a write
-pub write_is_done : (object : Object) (seat : ℕ) (op : Op) → is_write op ≡ true → IsAnswer object seat op Done
-write_is_done object seat op h1 = grind (arith, common_steps, nat_tests)
+-- the sequential map answers Done to a write whose condition holds
+pub write_is_done : (object : Object) (seat : ℕ) (op : Op) → is_write op ≡ true → is_met op (value_at object.writes) ≡ true → IsAnswer object seat op
+    Done
+write_is_done object seat op is met = grind (arith, common_steps, nat_tests)
+
+-- and tells what it found to one whose condition doesn't
+pub write_is_kept : (object : Object) (seat : ℕ) (op : Op) → is_write op ≡ true → is_met op (value_at object.writes) ≡ false
+    → IsAnswer object seat op (Kept (looked_at op (value_at object.writes)))
+write_is_kept object seat op is unmet = grind (arith, common_steps, nat_tests)
 
 -- it leaves the rows that are held
 pub write_leaves_rows : (op : Op) → is_write op ≡ true → moves_rows op ≡ false
-write_leaves_rows op h1 = grind (arith, common_steps, nat_tests)
+write_leaves_rows op is = grind (arith, common_steps, nat_tests)
 
--- and it doesn't only look
-pub write_is_no_look : (op : Op) → is_write op ≡ true → may_look op ≡ false
-write_is_no_look op h1 = grind (arith, common_steps, nat_tests)
+-- and is no work
+pub write_is_no_work : (op : Op) → is_write op ≡ true → is_work op ≡ false
+write_is_no_work op is = grind (arith, common_steps, nat_tests)
+
+-- ---- writes that look first
+
+-- one that doesn't look first has no condition
+pub no_condition : (op : Op) (has : Key → Option Value) → looks_first op ≡ false → is_met op has ≡ true
+no_condition op has alone = grind (arith, common_steps, nat_tests)
+
+-- so one whose condition fails looks first
+pub unmet_looks : (op : Op) (has : Key → Option Value) → is_met op has ≡ false → looks_first op ≡ true
+unmet_looks op has unmet = grind (arith, common_steps, nat_tests)
+
+-- what it looks at goes by the value of each key
+pub looked_same : (op : Op) (has other : Key → Option Value) → ((key : Key) → has key ≡ other key) → looked_at op has ≡ looked_at op other
+looked_same op has other same = grind (arith, common_steps, nat_tests)
+
+pub met_same : (op : Op) (has other : Key → Option Value) → ((key : Key) → has key ≡ other key) → is_met op has ≡ is_met op other
+met_same op has other same = ap (is_met_by op) (looked_same op has other same)
+
+-- a write may look where it looks first
+pub write_may_look : (op : Op) → is_write op ≡ true → may_look op ≡ looks_first op
+write_may_look op is = grind (arith, common_steps, nat_tests)
+
+-- who looks first writes
+pub first_is_write : (op : Op) → looks_first op ≡ true → is_write op ≡ true
+first_is_write op first = grind (arith, common_steps, nat_tests)
+
+-- and may fail while the store runs
+pub first_may_fail : (before : List Entry) (op : Op) → looks_first op ≡ true → is_running before ≡ true → MayFail before op
+first_may_fail before op first runs = grind (arith, common_steps, nat_tests)

@@ -1,22 +1,43 @@
 -- The printed text of each command and each reply, and of a whole run.
-use Rattle.std.proofs.Common.{◌≡◌, ◌++◌, List, [], ◌∷◌, None, map, refl, ap, codes, slice_index, arith}
+use Rattle.std.proofs.Common.{◌≡◌, ◌++◌, List, [], ◌∷◌, Some, None, map, refl, ap, codes, slice_index, arith}
 use Rattle.std.specs.Fmt.{digits}
-use Rattle.blsm_model.specs.declared.op.Op.TheVariants.{Put, Add, Tail, Del, Get, Hold, Next, Release, Work}
+use Rattle.blsm_model.specs.declared.op.Op.TheVariants.{Put, Add, Tail, Del, New, Swap, Get, Hold, Next, Release, Work}
 use Rattle.blsm_model.specs.declared.history.Why.TheVariants.{Faulted, BadPage}
-use Rattle.blsm_model.specs.declared.history.Reply.TheVariants.{Done, Is, Absent, Held, Rows, NoHold, Did, Full, NoMemory, FaultLost, FaultUnsure, Fault, Damaged, Stopped}
+use Rattle.blsm_model.specs.declared.history.Reply.TheVariants.{
+  Done,
+  Is,
+  Absent,
+  Kept,
+  Held,
+  Rows,
+  NoHold,
+  Did,
+  Full,
+  NoMemory,
+  FaultLost,
+  FaultUnsure,
+  Fault,
+  Damaged,
+  Stopped,
+}
 use Rattle.blsm_model.specs.declared.history.Entry.{Entry}
 use Rattle.blsm_model.specs.Printed.{command_text, reply_text, entry_text, history_text}
 use Rattle.blsm_model.proofs.ExampleWords.{a, b, by, of, row}
 
-each_command : map command_text (Put a (of 5 (codes "hi")) ∷ Put a (of 5 []) ∷ Add a 7 ∷ Tail a (codes "end") ∷ Del a ∷ Get a ∷ Hold a b ∷ Next 32 ∷ Release ∷ Work 100000 ∷ [])
-    ≡ codes "put a 5 hi" ∷ codes "put a 5 -" ∷ codes "add a 7" ∷ codes "tail a end" ∷ codes "del a" ∷ codes "get a" ∷ codes "hold a b" ∷ codes "next 32" ∷ codes "drop" ∷ codes "work 100000" ∷ []
+each_command : map command_text (
+    Put a (of 5 (codes "hi")) ∷ Put a (of 5 []) ∷ Add a 7 ∷ Tail a (codes "end") ∷ Del a ∷ New a (of 5 (codes "hi")) ∷ Swap a 5 (of 7 [])
+    ∷ Get a ∷ Hold a b ∷ Next 32 ∷ Release ∷ Work 100000 ∷ [])
+    ≡ codes "put a 5 hi" ∷ codes "put a 5 -" ∷ codes "add a 7" ∷ codes "tail a end" ∷ codes "del a" ∷ codes "new a 5 hi" ∷ codes "swap a 5 7 -"
+    ∷ codes "get a" ∷ codes "hold a b" ∷ codes "next 32" ∷ codes "drop" ∷ codes "work 100000" ∷ []
 unfolding digits
 each_command = refl
 
 each_reply : map reply_text (
-    Done ∷ Is (of 5 (codes "hi")) ∷ Is (of 7 []) ∷ Absent ∷ Held ∷ Rows [] ∷ Rows (row a 1 ∷ row b 2 ∷ []) ∷ NoHold ∷ Did 6 ∷ Full 121856 ∷ NoMemory
-    ∷ FaultLost ∷ FaultUnsure ∷ Fault ∷ Damaged 12 ∷ Stopped (Faulted 1) ∷ Stopped (BadPage 3) ∷ [])
-    ≡ codes "ok" ∷ codes "is 5 hi" ∷ codes "is 7 -" ∷ codes "none" ∷ codes "held" ∷ codes "rows 0" ∷ codes "rows 2 a 1 - b 2 -" ∷ codes "nohold" ∷ codes "did 6" ∷ codes "full 121856" ∷ codes "no memory"
+    Done ∷ Is (of 5 (codes "hi")) ∷ Is (of 7 []) ∷ Absent ∷ Kept (Some (of 5 (codes "hi"))) ∷ Kept None ∷ Held ∷ Rows []
+    ∷ Rows (row a 1 ∷ row b 2 ∷ []) ∷ NoHold ∷ Did 6 ∷ Full 121856 ∷ NoMemory ∷ FaultLost ∷ FaultUnsure ∷ Fault ∷ Damaged 12 ∷ Stopped (Faulted 1) ∷
+    Stopped (BadPage 3) ∷ [])
+    ≡ codes "ok" ∷ codes "is 5 hi" ∷ codes "is 7 -" ∷ codes "none" ∷ codes "kept 5 hi" ∷ codes "kept none" ∷ codes "held"
+    ∷ codes "rows 0" ∷ codes "rows 2 a 1 - b 2 -" ∷ codes "nohold" ∷ codes "did 6" ∷ codes "full 121856" ∷ codes "no memory"
     ∷ codes "fault lost" ∷ codes "fault unsure" ∷ codes "fault" ∷ codes "damaged page 12" ∷ codes "stopped fault 1" ∷ codes "stopped page 3" ∷ []
 unfolding digits
 each_reply = refl

@@ -13,7 +13,10 @@ filled = limits_of (record { half = 17408; ratio = 2; low = 16384; quantum = 409
 
 -- a put is refused, a del is taken, and adds to the charge
 full_put : IsLegal filled [] (by 0 (Put a (of 1 [])) (Full 121856) ∷ by 0 (Del a) Done ∷ by 0 (Put a (of 1 [])) (Full 121870) ∷ [])
-full_put = ((refl, record { write = refl; past = lit< tt; made = lit≤ tt }), ((refl, refl), ((refl, record { write = refl; past = lit< tt; made = lit≤ tt }), tt)))
+full_put = (
+  (refl, record { write = refl; past = lit< tt; made = lit≤ tt }, refl),
+  ((refl, refl), ((refl, record { write = refl; past = lit< tt; made = lit≤ tt }, refl), tt)),
+)
 
 -- no del is refused there
 full_del : IsLegal filled [] (by 0 (Del a) (Full 121856) ∷ []) → ⊥

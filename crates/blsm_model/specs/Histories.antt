@@ -1,14 +1,54 @@
 -- Histories: their counted writes, the map after them, and the sequential map, which answers one command at a time.
-use Rattle.std.specs.Prelude.{◌≡◌, ℕ, ◌≤◌, Bool, true, false, not, ◌||◌, List, [], ◌∷◌, ◌++◌, take, drop, Option, Some, None, option_map, if◌then◌else◌, ◌==◌, fold, flat_map}
+use Rattle.std.specs.Prelude.{
+  ◌≡◌,
+  ℕ,
+  ◌≤◌,
+  Bool,
+  true,
+  false,
+  not,
+  ◌||◌,
+  List,
+  [],
+  ◌∷◌,
+  ◌++◌,
+  take,
+  drop,
+  Option,
+  Some,
+  None,
+  is_none,
+  option_map,
+  if◌then◌else◌,
+  ◌==◌,
+  fold,
+  flat_map,
+}
 use Rattle.blsm_model.specs.declared.key.Key.{Key}
 use Rattle.blsm_model.specs.declared.row.Value.{Value}
 use Rattle.blsm_model.specs.declared.row.Row.{Row}
 use Rattle.blsm_model.specs.declared.op.Write.{Write}
 use Rattle.blsm_model.specs.declared.op.Write.TheVariants as write
 use Rattle.blsm_model.specs.declared.op.Op.{Op}
-use Rattle.blsm_model.specs.declared.op.Op.TheVariants.{Put, Add, Tail, Del, Get, Hold, Next, Release, Work}
+use Rattle.blsm_model.specs.declared.op.Op.TheVariants.{Put, Add, Tail, Del, New, Swap, Get, Hold, Next, Release, Work}
 use Rattle.blsm_model.specs.declared.history.Reply.{Reply}
-use Rattle.blsm_model.specs.declared.history.Reply.TheVariants.{Done, Is, Absent, Held, Rows, NoHold, Did, Full, NoMemory, FaultLost, FaultUnsure, Fault, Damaged, Stopped}
+use Rattle.blsm_model.specs.declared.history.Reply.TheVariants.{
+  Done,
+  Is,
+  Absent,
+  Kept,
+  Held,
+  Rows,
+  NoHold,
+  Did,
+  Full,
+  NoMemory,
+  FaultLost,
+  FaultUnsure,
+  Fault,
+  Damaged,
+  Stopped,
+}
 use Rattle.blsm_model.specs.declared.history.Entry.{Entry}
 use Rattle.blsm_model.specs.Values.{value_at}
 use Rattle.blsm_model.specs.Rows.{map_of, rows, puts_of}
@@ -19,7 +59,40 @@ writes_of (Put key value) = write.Put key value ∷ []
 writes_of (Add key count) = write.Add key count ∷ []
 writes_of (Tail key tail) = write.Tail key tail ∷ []
 writes_of (Del key) = write.Del key ∷ []
+writes_of (New key value) = write.Put key value ∷ []
+writes_of (Swap key count value) = write.Put key value ∷ []
 writes_of _ = []
+
+-- a write that first looks at its key
+abbrev pub looks_first : Op → Bool
+looks_first (New key value) = true
+looks_first (Swap key count value) = true
+looks_first _ = false
+
+-- there is a value, and it has this count
+abbrev pub has_count : ℕ → Option Value → Bool
+has_count count None = false
+has_count count (Some value) = value.count == count
+
+-- whether its condition holds, by the value of its key: a new asks that there is none, a swap that there is one with its
+-- count, and the others ask nothing
+abbrev pub is_met_by : Op → Option Value → Bool
+is_met_by (New key value) found = is_none found
+is_met_by (Swap key count value) found = has_count count found
+is_met_by _ found = true
+
+-- what it looks at in a map that has this value of each key
+abbrev pub looked_at : Op → (Key → Option Value) → Option Value
+looked_at (New key value) has = has key
+looked_at (Swap key count value) has = has key
+looked_at _ has = None
+
+abbrev pub is_met : Op → (Key → Option Value) → Bool
+is_met op has = is_met_by op (looked_at op has)
+
+-- the answer to a write: it is done, or what it found shows that its condition doesn't hold
+abbrev pub answer_to_write : Op → (Key → Option Value) → Reply
+answer_to_write op has = if is_met op has then Done else Kept (looked_at op has)
 
 abbrev pub is_done : Reply → Bool
 is_done Done = true
@@ -78,6 +151,8 @@ IsAnswer object seat (Put key value) reply = reply ≡ Done
 IsAnswer object seat (Add key count) reply = reply ≡ Done
 IsAnswer object seat (Tail key tail) reply = reply ≡ Done
 IsAnswer object seat (Del key) reply = reply ≡ Done
+IsAnswer object seat (New key value) reply = reply ≡ answer_to_write (New key value) (value_at object.writes)
+IsAnswer object seat (Swap key count value) reply = reply ≡ answer_to_write (Swap key count value) (value_at object.writes)
 IsAnswer object seat (Get key) reply = reply ≡ answer_to_get (value_at object.writes key)
 IsAnswer object seat (Hold low high) reply = reply ≡ Held
 IsAnswer object seat (Next n) reply = reply ≡ answer_to_next n (object.held seat)

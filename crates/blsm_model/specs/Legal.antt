@@ -1,6 +1,7 @@
 -- Which histories are legal. Each entry's reply is the sequential map's at its place, or one of these refusals:
---     a write: Full, where the charge and its weight pass the limit; FaultLost or FaultUnsure, which stop the store
---     a get or a next: Fault, or Damaged with the page
+--     a write: Full, where the charge and its weight pass the limit and its condition holds; FaultLost or FaultUnsure, which
+--     stop the store
+--     a get, a next, a new or a swap: Fault, or Damaged with the page
 --     a hold: NoMemory
 --     a work: Fault, or Damaged with the page, which stop the store
 --     any command of a stopped store: Stopped, with one why for all
@@ -12,14 +13,14 @@ use Rattle.blsm_model.specs.declared.key.Key.{Key}
 use Rattle.blsm_model.specs.declared.row.Value.{Value}
 use Rattle.blsm_model.specs.declared.op.Write.{Write}
 use Rattle.blsm_model.specs.declared.op.Op.{Op}
-use Rattle.blsm_model.specs.declared.op.Op.TheVariants.{Put, Add, Tail, Del, Get, Hold, Next, Work}
+use Rattle.blsm_model.specs.declared.op.Op.TheVariants.{Put, Add, Tail, Del, New, Swap, Get, Hold, Next, Work}
 use Rattle.blsm_model.specs.declared.history.Why.{Why}
 use Rattle.blsm_model.specs.declared.history.Reply.{Reply}
 use Rattle.blsm_model.specs.declared.history.Reply.TheVariants.{Full, NoMemory, FaultLost, FaultUnsure, Fault, Damaged, Stopped}
 use Rattle.blsm_model.specs.declared.history.Entry.{Entry}
 use Rattle.blsm_model.specs.Tails.{TailFits}
-use Rattle.blsm_model.specs.Values.{is_removal, weight_of}
-use Rattle.blsm_model.specs.Histories.{writes_of, counted_writes, IsAnswer, object_after}
+use Rattle.blsm_model.specs.Values.{is_removal, value_at, weight_of}
+use Rattle.blsm_model.specs.Histories.{writes_of, counted_writes, is_met, IsAnswer, object_after}
 
 -- The charge at the opening, and the charges up to which a del, and any other write, is taken. All are weights in bytes.
 pub record Limits : Type 0 where
@@ -27,12 +28,14 @@ pub record Limits : Type 0 where
   pub dels : ℕ
   pub others : ℕ
 
--- a put, an add, a tail or a del, which makes one write
+-- a put, an add, a tail, a del, a new or a swap, which makes one write
 abbrev pub is_write : Op → Bool
 is_write (Put key value) = true
 is_write (Add key count) = true
 is_write (Tail key tail) = true
 is_write (Del key) = true
+is_write (New key value) = true
+is_write (Swap key count value) = true
 is_write _ = false
 
 -- a get, which asks what the map has and changes nothing
@@ -48,10 +51,12 @@ TailsFit op = AllByRecursion TailFits (writes_of op)
 abbrev pub is_del : Op → Bool
 is_del op = is_write op && list_all is_removal (writes_of op)
 
--- a get and a next only look, so they may fail while the store runs on
+-- a get and a next only look, and a new and a swap look first, so they may fail while the store runs on
 abbrev pub may_look : Op → Bool
 may_look (Get key) = true
 may_look (Next n) = true
+may_look (New key value) = true
+may_look (Swap key count value) = true
 may_look _ = false
 
 -- the charge up to which a write is taken
@@ -105,16 +110,19 @@ abbrev pub NamesNoOther : Why → Reply → Type 0
 NamesNoOther why (Stopped other) = other ≡ why
 NamesNoOther why _ = ⊤
 
--- a lookup may fail while the store runs, and a caller's work where nothing else stopped the store
+-- a lookup, by itself or before a write, may fail while the store runs, and a caller's work where nothing else stopped the store
 abbrev pub MayFail : List Entry → Op → Type 0
 MayFail before (Get key) = IsTrue (is_running before)
 MayFail before (Next n) = IsTrue (is_running before)
+MayFail before (New key value) = IsTrue (is_running before)
+MayFail before (Swap key count value) = IsTrue (is_running before)
 MayFail before (Work n) = IsTrue (none_stopping before)
 MayFail before _ = ⊥
 
 -- Whether a reply to a caller's command may come after these entries. A reply that is no refusal is the sequential map's.
 abbrev pub MayReply : Limits → List (Key × Value) → List Entry → ℕ → Op → Reply → Type 0
-MayReply limits opening before seat op (Full charge) = IsTrue (is_running before) × IsTooBig limits before op charge
+MayReply limits opening before seat op (Full charge) =
+    IsTrue (is_running before) × IsTooBig limits before op charge × IsTrue (is_met op (value_at (object_after opening before).writes))
 MayReply limits opening before seat op NoMemory = IsTrue (is_running before) × IsTrue (is_hold op)
 MayReply limits opening before seat op FaultLost = IsTrue (is_running before) × IsTrue (is_write op)
 MayReply limits opening before seat op FaultUnsure = IsTrue (is_running before) × IsTrue (is_write op)

@@ -12,7 +12,7 @@ pub mod Geometry
 pub mod Printed
 pub mod Book
 pub mod Stored
-pub mod Kept
+pub mod PlainState
 pub mod Plain
 pub mod Facts
 pub mod Lanes

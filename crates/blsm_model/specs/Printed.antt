@@ -1,13 +1,29 @@
 -- The printed text of a run.
-use Rattle.std.specs.Prelude.{ℕ, ◌+◌, List, [], ◌∷◌, ◌++◌, length, codes, decimal, flat_map}
+use Rattle.std.specs.Prelude.{ℕ, ◌+◌, List, [], ◌∷◌, ◌++◌, length, codes, decimal, flat_map, Option, Some, None}
 use Rattle.blsm_model.specs.declared.row.Value.{Value}
 use Rattle.blsm_model.specs.declared.row.Row.{Row}
 use Rattle.blsm_model.specs.declared.op.Op.{Op}
-use Rattle.blsm_model.specs.declared.op.Op.TheVariants.{Put, Add, Tail, Del, Get, Hold, Next, Release, Work}
+use Rattle.blsm_model.specs.declared.op.Op.TheVariants.{Put, Add, Tail, Del, New, Swap, Get, Hold, Next, Release, Work}
 use Rattle.blsm_model.specs.declared.history.Why.{Why}
 use Rattle.blsm_model.specs.declared.history.Why.TheVariants.{Faulted, BadPage}
 use Rattle.blsm_model.specs.declared.history.Reply.{Reply}
-use Rattle.blsm_model.specs.declared.history.Reply.TheVariants.{Done, Is, Absent, Held, Rows, NoHold, Did, Full, NoMemory, FaultLost, FaultUnsure, Fault, Damaged, Stopped}
+use Rattle.blsm_model.specs.declared.history.Reply.TheVariants.{
+  Done,
+  Is,
+  Absent,
+  Kept,
+  Held,
+  Rows,
+  NoHold,
+  Did,
+  Full,
+  NoMemory,
+  FaultLost,
+  FaultUnsure,
+  Fault,
+  Damaged,
+  Stopped,
+}
 use Rattle.blsm_model.specs.declared.history.Entry.{Entry}
 use Rattle.blsm_model.specs.declared.history.Totals.{Totals}
 
@@ -26,6 +42,11 @@ spelled (byte ∷ bytes) = byte ∷ bytes
 abbrev pub and_value : Value → List ℕ
 and_value value = and_number value.count ++ and_word (spelled value.text)
 
+-- a value, or that there is none
+abbrev pub and_found : Option Value → List ℕ
+and_found None = and_word (codes "none")
+and_found (Some value) = and_value value
+
 abbrev pub and_row : Row → List ℕ
 and_row row = and_word row.key ++ and_value row.value
 
@@ -35,6 +56,8 @@ command_text (Put key value) = codes "put" ++ and_word key ++ and_value value
 command_text (Add key count) = codes "add" ++ and_word key ++ and_number count
 command_text (Tail key tail) = codes "tail" ++ and_word key ++ and_word tail
 command_text (Del key) = codes "del" ++ and_word key
+command_text (New key value) = codes "new" ++ and_word key ++ and_value value
+command_text (Swap key count value) = codes "swap" ++ and_word key ++ and_number count ++ and_value value
 command_text (Get key) = codes "get" ++ and_word key
 command_text (Hold low high) = codes "hold" ++ and_word low ++ and_word high
 command_text (Next n) = codes "next" ++ and_number n
@@ -51,6 +74,7 @@ abbrev pub reply_text : Reply → List ℕ
 reply_text Done = codes "ok"
 reply_text (Is value) = codes "is" ++ and_value value
 reply_text Absent = codes "none"
+reply_text (Kept found) = codes "kept" ++ and_found found
 reply_text Held = codes "held"
 reply_text (Rows rows) = codes "rows" ++ and_number (length rows) ++ flat_map and_row rows
 reply_text NoHold = codes "nohold"

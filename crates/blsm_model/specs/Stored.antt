@@ -10,7 +10,23 @@ use Rattle.blsm_model.specs.declared.annals.StoredEntry.{StoredEntry}
 use Rattle.blsm_model.specs.declared.history.ShortReply.{ShortReply}
 use Rattle.blsm_model.specs.declared.history.ShortReply.TheVariants as short
 use Rattle.blsm_model.specs.declared.history.Reply.{Reply}
-use Rattle.blsm_model.specs.declared.history.Reply.TheVariants.{Done, Is, Absent, Held, Rows, NoHold, Did, Full, NoMemory, FaultLost, FaultUnsure, Fault, Damaged, Stopped}
+use Rattle.blsm_model.specs.declared.history.Reply.TheVariants.{
+  Done,
+  Is,
+  Absent,
+  Kept,
+  Held,
+  Rows,
+  NoHold,
+  Did,
+  Full,
+  NoMemory,
+  FaultLost,
+  FaultUnsure,
+  Fault,
+  Damaged,
+  Stopped,
+}
 use Rattle.blsm_model.specs.declared.history.Entry.{Entry}
 
 -- the reply that a short one is
@@ -18,6 +34,7 @@ abbrev pub as_reply : ShortReply → Reply
 as_reply short.Done = Done
 as_reply (short.Is value) = Is value
 as_reply short.Absent = Absent
+as_reply (short.Kept value) = Kept value
 as_reply short.Held = Held
 as_reply short.NoHold = NoHold
 as_reply (short.Did turns) = Did turns

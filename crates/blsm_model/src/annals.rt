@@ -216,6 +216,7 @@ fn keep(rows: &mut Vec<Row>, reply: Reply) -> StoredReply
         Reply::Done => StoredReply::Short(ShortReply::Done),
         Reply::Is(value) => StoredReply::Short(ShortReply::Is(value)),
         Reply::Absent => StoredReply::Short(ShortReply::Absent),
+        Reply::Kept(value) => StoredReply::Short(ShortReply::Kept(value)),
         Reply::Held => StoredReply::Short(ShortReply::Held),
         Reply::NoHold => StoredReply::Short(ShortReply::NoHold),
         Reply::Did(turns) => StoredReply::Short(ShortReply::Did(turns)),

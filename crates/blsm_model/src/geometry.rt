@@ -225,8 +225,8 @@ impl Geometry {
             + quanta_for(self.second_gear(), weight, self.quantum)
     }
 
-    /// Whether a write of this weight is taken at this charge, both in bytes. A put or an add must leave half a spring
-    /// of the capacity free; a del may fill it.
+    /// Whether a write of this weight is taken at this charge, both in bytes. A del may fill the
+    /// capacity; any other write must leave half a spring of it free.
     pub fn admits(&self, is_del: bool, charge: u64, weight: u64) -> bool
         ensures { IsTrue result ↔ (charge + weight ≤ charge_limit self.now is_del) }
     {

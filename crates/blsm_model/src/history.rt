@@ -22,6 +22,8 @@ pub enum Reply {
     Is(Value),
     /// The key has no value.
     Absent,
+    /// The condition of a new or a swap doesn't hold: this is the value of the key, if it has one.
+    Kept(Option<Value>),
     /// The rows of the range are held.
     Held,
     /// The next rows of those that the caller holds.
@@ -56,6 +58,8 @@ pub enum ShortReply {
     Is(Value),
     /// The key has no value.
     Absent,
+    /// The condition of a new or a swap doesn't hold: this is the value of the key, if it has one.
+    Kept(Option<Value>),
     /// The rows of the range are held.
     Held,
     /// The caller holds no rows.
@@ -78,6 +82,16 @@ pub enum ShortReply {
     Stopped(Why),
 }
 
+// The same value, if there is one.
+fn copy_of(value: &Option<Value>) -> Option<Value>
+    ensures { result ≡ value.now }
+{
+    match value {
+        Some(value) => Some(value.copy()),
+        None => None,
+    }
+}
+
 impl Reply {
     /// The same reply once more. It takes no memory.
     pub fn copy(&self) -> Reply
@@ -87,6 +101,7 @@ impl Reply {
             Reply::Done => Reply::Done,
             Reply::Is(value) => Reply::Is(value.copy()),
             Reply::Absent => Reply::Absent,
+            Reply::Kept(value) => Reply::Kept(copy_of(value)),
             Reply::Held => Reply::Held,
             Reply::Rows(rows) => Reply::Rows(rows.copy()),
             Reply::NoHold => Reply::NoHold,
@@ -111,6 +126,7 @@ impl ShortReply {
             ShortReply::Done => Reply::Done,
             ShortReply::Is(value) => Reply::Is(value.copy()),
             ShortReply::Absent => Reply::Absent,
+            ShortReply::Kept(value) => Reply::Kept(copy_of(value)),
             ShortReply::Held => Reply::Held,
             ShortReply::NoHold => Reply::NoHold,
             ShortReply::Did(turns) => Reply::Did(*turns),

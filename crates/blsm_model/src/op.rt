@@ -1,7 +1,7 @@
 //! Writes and commands.
 ghost use Rattle.std.specs.Prelude.{◌≡◌, ◌↔◌, ◌∷◌, ◌<◌, ◌≤◌, ◌^◌, [], IsTrue, length};
 ghost use Rattle.blsm_model.specs.Format.{least_weight, most_key, most_text, most_weight};
-ghost use Rattle.blsm_model.specs.Histories.{writes_of};
+ghost use Rattle.blsm_model.specs.Histories.{is_met_by, looks_first, writes_of};
 ghost use Rattle.blsm_model.specs.Tails.{TailFits};
 ghost use Rattle.blsm_model.specs.Legal.{is_look, is_write, total_weight, TailsFit};
 ghost use Rattle.blsm_model.specs.Values.{added_count, key_of, text_written};
@@ -55,6 +55,10 @@ pub enum Op {
     Tail(Key, Text),
     /// Removes the key.
     Del(Key),
+    /// Puts where the key is absent.
+    New(Key, Value),
+    /// Puts where the key is present with this count.
+    Swap(Key, u64, Value),
     /// Looks a key up.
     Get(Key),
     /// Holds the rows from the first key on, without the second: a snapshot, which replaces the caller's last one.
@@ -83,6 +87,8 @@ impl Op {
             Op::Add(key, count) => Op::Add(key.copy(), *count),
             Op::Tail(key, tail) => Op::Tail(key.copy(), tail.copy()),
             Op::Del(key) => Op::Del(key.copy()),
+            Op::New(key, value) => Op::New(key.copy(), value.copy()),
+            Op::Swap(key, count, value) => Op::Swap(key.copy(), *count, value.copy()),
             Op::Get(key) => Op::Get(key.copy()),
             Op::Hold(low, high) => Op::Hold(low.copy(), high.copy()),
             Op::Next(n) => Op::Next(*n),
@@ -101,11 +107,36 @@ impl Op {
         }
     }
 
-    /// Whether it is a put, an add, a tail or a del.
+    /// Whether it is a put, an add, a tail, a del, a new or a swap.
     pub fn is_write(&self) -> bool
         ensures { result ≡ is_write self.now }
     {
-        matches!(self, Op::Put(..) | Op::Add(..) | Op::Tail(..) | Op::Del(_))
+        matches!(
+            self,
+            Op::Put(..) | Op::Add(..) | Op::Tail(..) | Op::Del(_) | Op::New(..) | Op::Swap(..)
+        )
+    }
+
+    /// Whether it is a write that first looks at its key: a new or a swap.
+    pub fn looks_first(&self) -> bool
+        ensures { result ≡ looks_first self.now }
+    {
+        matches!(self, Op::New(..) | Op::Swap(..))
+    }
+
+    /// Whether its condition holds where this is the value of its key: a new asks that there is none, a swap that there is one with its count,
+    /// and the others ask nothing.
+    pub fn is_met(&self, value: &Option<Value>) -> bool
+        ensures { result ≡ is_met_by self.now value.now }
+    {
+        match self {
+            Op::New(..) => value.is_none(),
+            Op::Swap(_, count, _) => match value {
+                Some(value) => value.count == *count,
+                None => false,
+            },
+            _ => true,
+        }
     }
 
     /// Whether it only looks, as a get does.
@@ -131,11 +162,14 @@ impl Op {
                 Op::OVERHEAD + key.as_bytes().len() as u64 + tail.as_bytes().len() as u64
             }
             Op::Del(key) => Op::OVERHEAD + key.as_bytes().len() as u64,
+            Op::New(key, value) | Op::Swap(key, _, value) => {
+                Op::OVERHEAD + key.as_bytes().len() as u64 + value.text.as_bytes().len() as u64
+            }
             _ => unreachable!(),
         }
     }
 
-    /// The write that the command asks for. Its count is a number of 64 bits, and its lengths are within the format's.
+    /// The write that the command asks for, where it is done. Its count is a number of 64 bits, and its lengths are within the format's.
     pub fn write(&self) -> Write
         requires { IsTrue (is_write self.now) }
         ensures tail { TailsFit self.now → TailFits result }
@@ -149,6 +183,7 @@ impl Op {
             Op::Add(key, count) => Write::Add(key.copy(), *count),
             Op::Tail(key, tail) => Write::Tail(key.copy(), tail.copy()),
             Op::Del(key) => Write::Del(key.copy()),
+            Op::New(key, value) | Op::Swap(key, _, value) => Write::Put(key.copy(), value.copy()),
             _ => unreachable!(),
         }
     }

@@ -2,7 +2,7 @@
 ghost use Rattle.std.specs.Prelude.{◌≡◌, ◌+◌, ◌<◌, ◌≤◌, ◌↔◌, ◌++◌, ◌∷◌, [], List, IsTrue, IfOk, OnErr};
 ghost use Rattle.blsm_model.specs.declared.op.Write.{Write};
 ghost use Rattle.blsm_model.specs.Values.{value_at};
-ghost use Rattle.blsm_model.specs.Histories.{counted_writes};
+ghost use Rattle.blsm_model.specs.Histories.{counted_writes, looked_at};
 ghost use Rattle.blsm_model.specs.Legal.{is_write, total_weight, IsLegal};
 ghost use Rattle.blsm_model.specs.Scripts.{IsOfScript, asked, asked_in};
 ghost use Rattle.blsm_model.specs.Plain.{is_plain, IsPlainStep, AllPlain, AllAnswered, KeepsHistory};
@@ -61,8 +61,8 @@ pub fn value_of(writes: &[Write], key: &Key) -> Option<Value>
 /// The plain store: the list of all writes, the oldest first, and their weights together.
 ///
 /// It is what the definitions say, as slowly and as obviously as can be: a get reads every write. Tests compare the
-/// store's replies with its replies, command by command. It answers puts, adds, tails, dels and gets of one caller after
-/// another, and knows no hold, no work, no disk and no fault.
+/// store's replies with its replies, command by command. It answers writes and gets of one caller after another, and
+/// knows no hold, no work, no disk and no fault.
 #[derive(Drop)]
 pub struct Plain {
     writes: Vec<Write>,
@@ -72,9 +72,9 @@ pub struct Plain {
 
 impl Model for Plain {
     ghost use Rattle.std.specs.Prelude.{◌≤◌};
-    ghost use Rattle.blsm_model.specs.Kept.{Kept};
+    ghost use Rattle.blsm_model.specs.PlainState.{PlainState};
 
-    ghost Value = { Kept };
+    ghost Value = { PlainState };
 
     ghost view = { λ p. record { writes = p.writes.items; charge = p.charge; limit = p.limit } };
 
@@ -93,7 +93,7 @@ impl Plain {
         }
     }
 
-    /// Whether the plain store answers such a command: a put, an add, a tail, a del or a get.
+    /// Whether the plain store answers such a command: a write or a get.
     pub fn can_answer(op: &Op) -> bool
         ensures { result ≡ is_plain op.now }
     {
@@ -107,8 +107,8 @@ impl Plain {
         script.iter().all(|line| Plain::can_answer(&line.op))
     }
 
-    /// Answers one command: a get from the writes so far, a write with `Done`, or with `Full` and the charge in bytes
-    /// where its weight would bring the charge past the limit. After `NoMemory` the store is as before.
+    /// Answers one command: a get from the writes so far, a write with `Done`, with `Kept` where its condition doesn't hold, or with `Full`
+    /// and the charge in bytes where its weight would bring the charge past the limit. After `NoMemory` the store is as before.
     pub fn answer(&mut self, op: &Op) -> Result<Reply, NoMemory>
         requires { IsTrue (is_plain op.now) }
         ensures ok { IfOk result (IsPlainStep self.old op.now self.new) }
@@ -135,12 +135,26 @@ impl Plain {
         self.take(op)
     }
 
-    // Takes a write, or refuses it for its size.
+    // What a write that first looks at its key finds there.
+    fn looked_at(&self, op: &Op) -> Option<Value>
+        ensures { result ≡ looked_at op.now (value_at self.now.writes) }
+    {
+        match op {
+            Op::New(key, _) | Op::Swap(key, _, _) => value_of(&self.writes, key),
+            _ => None,
+        }
+    }
+
+    // Takes a write, or keeps it out by its condition, or refuses it for its size.
     fn take(&mut self, op: &Op) -> Result<Reply, NoMemory>
         requires { IsTrue (is_write op.now) }
         ensures ok { IfOk result (IsPlainStep self.old op.now self.new) }
         ensures err { OnErr result (self.new ≡ self.old) }
     {
+        let found = self.looked_at(op);
+        if !op.is_met(&found) {
+            return Ok(Reply::Kept(found));
+        }
         let weight = op.weight();
         if self.limit - self.charge < weight {
             return Ok(Reply::Full(self.charge));

@@ -21,7 +21,7 @@ use Rattle.tree_machine.specs.declared.step.Step.{Step}
 use Rattle.tree_core.specs.Calls.{AreCalls, IsCall}
 use Rattle.tree_core.specs.Causes.{AdmitsBecause, FoundDamaged, PaysBecause, TurnsBecause, TurnsNone, merge_of}
 use Rattle.tree_core.specs.Core.{CoreState}
-use Rattle.tree_core.specs.declared.answers.Admission.{Admission}
+use Rattle.tree_core.specs.Ruling.{Ruling}
 use Rattle.tree_core.specs.declared.answers.Payment.{Payment}
 use Rattle.core_chain.specs.Damage.{StopsAtPage, merge_at}
 use Rattle.core_chain.proofs.FaultLemmas.{halted_by, pending}
@@ -34,7 +34,8 @@ use Rattle.core_chain.proofs.TellLemmas.{link_tells}
 runs_still : {A : Type 0} (old new : Option Why) (why : Why) → old ≡ None → new ≡ old → new ≡ Some why → A
 runs_still old new why ran same stops = absurd (cc (ran, same, stops))
 
-admit_stops : {A : Type 0} (answer : Admission) (seat : ℕ) (op : Op) (page : ℕ) (old new : Held) (before after : DiskState) → AdmitsBecause answer seat op old new before after → old.book.stopped ≡ None → new.book.stopped ≡ Some (BadPage page) → A
+admit_stops : {A : Type 0} (answer : Ruling) (seat : ℕ) (op : Op) (page : ℕ) (old new : Held) (before after : DiskState) → AdmitsBecause answer seat
+    op old new before after → old.book.stopped ≡ None → new.book.stopped ≡ Some (BadPage page) → A
 admit_stops answer seat op page old new before after h1 h2 h3 = grind (arith, common_steps, nat_tests)
 
 pay_stops : (answer : Payment) (seat page : ℕ) (old new : Held) (before after : DiskState) → PaysBecause answer seat old new before after → old.book.stopped ≡ None → new.book.stopped ≡ Some (BadPage page)

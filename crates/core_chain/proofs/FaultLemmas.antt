@@ -1,18 +1,16 @@
 -- What the calls tell of faults and of the stop, one after another.
-use Rattle.std.proofs.Common.{◌≡◌, ◌≢◌, ◌⊎◌, ◌∙◌, ℕ, ◌+◌, ◌<◌, ◌≤◌, true, false, List, [], ◌∷◌, ◌++◌, Some, None, refl, ap, sym, arith}
+use Rattle.std.proofs.Common.{◌≡◌, ◌≢◌, ◌⊎◌, ◌∙◌, ℕ, ◌+◌, ◌<◌, ◌≤◌, false, List, [], ◌∷◌, ◌++◌, Some, None, refl, ap, sym, arith}
 use Rattle.std.proofs.lemmas.Grind.{common_steps}
 use Rattle.std.proofs.lemmas.Bool.Decides.{nat_tests}
 use Rattle.std.specs.Prelude.{Option, zero, suc, drop, slice_index_or, sum_by}
 use Rattle.std.specs.List.{AllByRecursion}
 use Rattle.std.proofs.lemmas.List.Sums.{sum_by-cons}
 use Rattle.refusal.specs.Count.{HasRisen, HasRisenBy}
-use Rattle.blsm_model.specs.Legal.{is_write}
 use Rattle.blsm_model.specs.declared.history.Entry.{Entry}
 use Rattle.blsm_model.specs.declared.history.Reply.{Reply}
 use Rattle.blsm_model.specs.declared.history.Why.{Why}
 use Rattle.blsm_model.specs.declared.history.Why.TheVariants.{Faulted}
 use Rattle.blsm_model.specs.declared.op.Op.{Op}
-use Rattle.blsm_model.proofs.OpLemmas.{write_is_no_look}
 use Rattle.tree_machine.proofs.TellLemmas.{no_look}
 use Rattle.disk_trait.specs.Disk.{DiskState}
 use Rattle.tree_machine.specs.Machine.{WorkSoFar, no_work}
@@ -42,10 +40,6 @@ calm_one op reply few = λ is. omega (arith, few, ap one_if (no_look op reply is
 pub all_calm : (es : List Entry) → faults_told es ≤ lookups_failed es → AllByRecursion (λ (e : Entry). TellsNone e.op e.reply) es
 all_calm [] few = tt
 all_calm (e ∷ es) few = grind (arith, common_steps, nat_tests, lookup_tells, lookups_tell es, calm_one, all_calm es)
-
--- a write is no lookup
-pub no_lookup : (op : Op) (reply : Reply) → is_write op ≡ true → is_failed_lookup op reply ≡ false
-no_lookup op reply is = no_look op reply (write_is_no_look op is)
 
 -- ---- works
 

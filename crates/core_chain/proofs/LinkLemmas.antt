@@ -23,8 +23,8 @@ use Rattle.tree_core.specs.Calls.{Admits, AreCalls, GoesOnAs, IsCall, Pays, Read
 use Rattle.tree_core.specs.Causes.{TurnsBecause, TurnsNone}
 use Rattle.tree_core.specs.Core.{CoreState, IsCore}
 use Rattle.tree_core.specs.Steps.{is_even_in}
-use Rattle.tree_core.specs.declared.answers.Admission.{Admission}
-use Rattle.tree_core.specs.declared.answers.Admission.TheVariants as admission
+use Rattle.tree_core.specs.Ruling.{Ruling}
+use Rattle.tree_core.specs.Ruling as ruling
 use Rattle.tree_core.specs.declared.answers.Payment.{Payment}
 use Rattle.tree_core.specs.Scanned.{Scanned}
 use Rattle.tree_core.specs.Scanned as scanned
@@ -73,11 +73,15 @@ caller_of state seat k old new h1 h2 = grind (arith, common_steps, nat_tests, no
 never : (o : Option Why) → IsSome o → o ≡ None → ⊥
 never o h1 h2 = grind (arith, common_steps, nat_tests)
 
-admit_rests : {D : Type 0} (state : D → DiskState) (seat : ℕ) (op : Op) (answer : Admission) (old new : CoreState D) → Admits state seat op answer old new → IsSome old.held.book.stopped → new.disk ≡ old.disk
-admit_rests state seat op admission.Admitted old new call some = absurd (never old.held.book.stopped some call.cause.0.ran)
-admit_rests state seat op (admission.Full charge) old new call some = call.untouched tt
-admit_rests state seat op (admission.Fault begun) old new call some = absurd (never old.held.book.stopped some call.cause.0.ran)
-admit_rests state seat op (admission.Stopped why) old new call some = call.untouched tt
+admit_rests : {D : Type 0} (state : D → DiskState) (seat : ℕ) (op : Op) (answer : Ruling) (old new : CoreState D) → Admits state seat op answer old
+    new → IsSome old.held.book.stopped → new.disk ≡ old.disk
+admit_rests state seat op ruling.Admitted old new call some = absurd (never old.held.book.stopped some call.cause.0.ran)
+admit_rests state seat op (ruling.Kept found) old new call some = absurd (never old.held.book.stopped some call.cause.0)
+admit_rests state seat op (ruling.Full charge) old new call some = absurd (never old.held.book.stopped some call.cause.0)
+admit_rests state seat op ruling.ReadFault old new call some = absurd (never old.held.book.stopped some call.cause.0)
+admit_rests state seat op (ruling.Damaged page) old new call some = absurd (never old.held.book.stopped some call.cause.0)
+admit_rests state seat op (ruling.Fault begun) old new call some = absurd (never old.held.book.stopped some call.cause.0.ran)
+admit_rests state seat op (ruling.Stopped why) old new call some = call.untouched tt
 
 pay_rests : {D : Type 0} (state : D → DiskState) (seat : ℕ) (answer : Payment) (old new : CoreState D) → Pays state seat answer old new → IsSome old.held.book.stopped → new.disk ≡ old.disk
 pay_rests state seat answer old new h1 h2 = grind (arith, common_steps, nat_tests)

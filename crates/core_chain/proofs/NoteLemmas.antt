@@ -24,7 +24,7 @@ use Rattle.tree_core.specs.Calls.{AreCalls, IsCall, RepliesBecause}
 use Rattle.tree_core.specs.Causes.{AdmitsBecause}
 use Rattle.tree_core.specs.Core.{CoreState}
 use Rattle.tree_core.specs.Notes.{with_payment}
-use Rattle.tree_core.specs.declared.answers.Admission.{Admission}
+use Rattle.tree_core.specs.Ruling.{Ruling}
 use Rattle.tree_core.specs.declared.answers.Payment.{Payment}
 use Rattle.core_chain.specs.Start.{steps_of}
 use Rattle.core_chain.specs.Tells.{asked_at, asked_by}
@@ -53,7 +53,8 @@ pub record One {D : Type 0} (state : D → DiskState) (seat : ℕ) (k : Kind) (o
 abbrev pub Notes : {D : Type 0} → (D → DiskState) → ℕ → Kind → CoreState D → CoreState D → Type 0
 Notes state seat k old new = ((new.held.book.book.entries ≡ old.held.book.book.entries) × (asked_at seat k ≡ [])) ⊎ One state seat k old new
 
-write_because : {D : Type 0} (state : D → DiskState) (seat : ℕ) (op : Op) (answer : Admission) (old new : CoreState D) → is_write op ≡ true → AdmitsBecause answer seat op old.held new.held (state old.disk) (state new.disk)
+write_because : {D : Type 0} (state : D → DiskState) (seat : ℕ) (op : Op) (answer : Ruling) (old new : CoreState D) → is_write op ≡ true →
+    AdmitsBecause answer seat op old.held new.held (state old.disk) (state new.disk)
     → RepliesBecause state seat op (reply_to_write answer) old new
 write_because state seat op answer old new h1 h2 = grind (arith, common_steps, nat_tests)
 

@@ -1,11 +1,11 @@
 -- On an honest disk: which steps call no disk.
-use Rattle.std.proofs.Common.{◌≡◌, ◌∙◌, ℕ, ◌+◌, ◌<◌, Bool, true, false, not, ◌&&◌, None, Some, refl, ap, sym, subst, arith}
+use Rattle.std.proofs.Common.{◌≡◌, ◌∙◌, ℕ, ◌+◌, ◌<◌, Bool, true, false, not, ◌&&◌, ◌||◌, None, Some, refl, ap, sym, subst, arith}
 use Rattle.std.proofs.lemmas.Grind.{common_steps}
 use Rattle.std.proofs.lemmas.Bool.Decides.{nat_tests}
 use Rattle.std.proofs.lemmas.Bool.{false≢true, ltb-true}
 use Rattle.std.specs.Prelude.{IsSome, IsTrue, List, Option, is_some, nat_lt}
 use Rattle.blsm_model.specs.Geometry.{charge_limit}
-use Rattle.blsm_model.specs.Histories.{writes_of}
+use Rattle.blsm_model.specs.Histories.{is_met_by, looks_first, writes_of}
 use Rattle.blsm_model.specs.Legal.{is_del, total_weight}
 use Rattle.blsm_model.specs.Sizes.{Sizes}
 use Rattle.blsm_model.specs.declared.history.Reply.{Reply}
@@ -29,7 +29,21 @@ use Rattle.tree_machine.specs.Machine as machine
 use Rattle.tree_machine.specs.Machine.{Machine, Turned, charge, held_by, is_closed, owes}
 use Rattle.tree_machine.specs.Outcomes.{calls, calls_disk, worker_choice}
 use Rattle.tree_machine.specs.Steps as steps
-use Rattle.tree_machine.specs.Steps.{Answer, Outcome, Replied, Turn, do_next, forgive, next_rows, pay, pay_planned, pay_running, unless_stopped, worker_turning}
+use Rattle.tree_machine.specs.Steps.{
+  Answer,
+  Outcome,
+  Replied,
+  Turn,
+  do_next,
+  forgive,
+  is_full,
+  next_rows,
+  pay,
+  pay_planned,
+  pay_running,
+  unless_stopped,
+  worker_turning,
+}
 use Rattle.tree_machine.specs.declared.step.Kind.{Kind}
 use Rattle.tree_machine.specs.declared.step.Kind.TheVariants as kind
 use Rattle.tree_runs.specs.Lookups.{HidesOlder}
@@ -46,8 +60,8 @@ use Rattle.tree_core.specs.Holds.{StandsWhole}
 use Rattle.tree_core.specs.Scanned.{Scanned}
 use Rattle.tree_core.specs.Scanned as scanned
 use Rattle.tree_core.specs.Standing.{AnyRows, StandsFor}
-use Rattle.tree_core.specs.declared.answers.Admission.{Admission}
-use Rattle.tree_core.specs.declared.answers.Admission.TheVariants as admission
+use Rattle.tree_core.specs.Ruling.{Ruling}
+use Rattle.tree_core.specs.Ruling as ruling
 use Rattle.tree_core.specs.declared.answers.Payment.{Payment}
 use Rattle.tree_core.specs.declared.answers.Payment.TheVariants as payment
 use Rattle.tree_core.proofs.QuantumSteps.{running_at, steady_at}
@@ -57,6 +71,13 @@ use Rattle.core_chain.proofs.LinkLemmas.{link_rests}
 
 flipped : (b : Bool) → not b ≡ false → b ≡ true
 flipped b h1 = grind (arith, common_steps, nat_tests)
+
+neither : (first full : Bool) → (first || not full) ≡ false → (first ≡ false) × (full ≡ true)
+neither first full h1 = grind (arith, common_steps, nat_tests)
+
+-- a write that doesn't look first has no condition
+met_alone : (op : Op) (found : Option Value) → looks_first op ≡ false → is_met_by op found ≡ true
+met_alone op found alone = grind (arith, common_steps, nat_tests)
 
 -- ---- what the answers of a machine say that calls nothing
 
@@ -126,18 +147,25 @@ module _ {D : Type 0} (state : D → DiskState) (opening : List (Key × Value)) 
   ran = ap (λ (b : BookState). b.stopped) whole.book ∙ runs
 
   -- a write that is refused as full
-  past_limit : (op : Op) → calls m seat (kind.Admit op) ≡ false → charge_limit old.held.runs.sizes (is_del op) < charge_in old.held + total_weight (writes_of op)
-  past_limit op none =
+  past_limit : (op : Op) → is_full m op ≡ true → charge_limit old.held.runs.sizes (is_del op) < charge_in old.held + total_weight (writes_of op)
+  past_limit op full =
       let limit = charge_limit m.gears.sizes (is_del op) in
       let after = charge m + total_weight (writes_of op) in
-      let past = ltb-true limit after (flipped (nat_lt limit after) none) in
+      let past = ltb-true limit after full in
       omega (arith, past, whole.charge_is, ap (λ (s : Sizes). charge_limit s (is_del op)) whole.sizes)
 
-  admit_quiet : (op : Op) (answer : Admission) → Admits state seat op answer old new → calls m seat (kind.Admit op) ≡ false → new.disk ≡ old.disk
-  admit_quiet op admission.Admitted call none = absurd (let past = past_limit op none in omega (arith, past, call.cause.1))
-  admit_quiet op (admission.Full full) call none = call.untouched tt
-  admit_quiet op (admission.Fault begun) call none = absurd (let past = past_limit op none in omega (arith, past, call.cause.1))
-  admit_quiet op (admission.Stopped why) call none = call.untouched tt
+  -- and that doesn't look first
+  alone_quiet : (op : Op) (answer : Ruling) → Admits state seat op answer old new → looks_first op ≡ false → is_full m op ≡ true → new.disk ≡ old.disk
+  alone_quiet op ruling.Admitted call alone full = absurd (let past = past_limit op full in omega (arith, past, call.cause.1))
+  alone_quiet op (ruling.Kept found) call alone full = absurd (false≢true (sym call.cause.2 ∙ met_alone op found alone))
+  alone_quiet op (ruling.Full charge) call alone full = call.untouched alone
+  alone_quiet op ruling.ReadFault call alone full = absurd (false≢true (sym alone ∙ call.cause.1))
+  alone_quiet op (ruling.Damaged page) call alone full = absurd (false≢true (sym alone ∙ call.cause.3))
+  alone_quiet op (ruling.Fault begun) call alone full = absurd (let past = past_limit op full in omega (arith, past, call.cause.1))
+  alone_quiet op (ruling.Stopped why) call alone full = call.untouched tt
+
+  admit_quiet : (op : Op) (answer : Ruling) → Admits state seat op answer old new → calls m seat (kind.Admit op) ≡ false → new.disk ≡ old.disk
+  admit_quiet op answer call none = let parts = neither (looks_first op) (is_full m op) none in alone_quiet op answer call parts.0 parts.1
 
   pay_quiet : (answer : Payment) → Pays state seat answer old new → owes seat (forgive seat m) ≡ false → new.disk ≡ old.disk
   pay_quiet answer call none =

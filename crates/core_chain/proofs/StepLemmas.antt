@@ -25,6 +25,7 @@ use Rattle.tree_machine.proofs.FrameLemmas.{step_fixed}
 use Rattle.core_lists.specs.Shown.{ShowsHistory}
 use Rattle.core_lists.proofs.ShowingLemmas.{prefix_self, prefix_then, showing_is_kept}
 use Rattle.tree_core.specs.Calls.{AreCalls, IsCall}
+use Rattle.tree_core.specs.Causes.{pages_first}
 use Rattle.tree_core.specs.Core.{CoreState, IsCore}
 use Rattle.tree_core.specs.Holds.{StandsWhole}
 use Rattle.tree_core.specs.Steps.{IsPlayed, IsWholeStep}
@@ -109,7 +110,7 @@ module _ {D : Type 0} (state : D → DiskState) (opening : List (Key × Value)) 
     (rises : (state start.disk).clock ≤ (state first.1.disk).clock) (few : (state first.1.disk).clock ≤ (state start.disk).clock + most_calls_at m first.0.seat first.0.kind) (faults : (state start.disk).faults ≤ (state first.1.disk).faults)
     (book : m.book.entries ≡ start.held.book.book.entries)
     (ends : (e : Entry) → first.1.held.book.book.entries ≡ start.held.book.book.entries ++ e ∷ [] → is_write e.op ≡ true → e.reply ≡ Done
-    → HasOwnSync (swaps_due m) (state start.disk).clock (state first.1.disk).clock (state end.disk))
+    → HasOwnSync (pages_first e.op) (swaps_due m) (state start.disk).clock (state first.1.disk).clock (state end.disk))
     (answer : Answer) (can : may m first.0.seat first.0.kind ≡ true) (one : IsWholeStep state opening first.0.seat first.0.kind answer start first.1 m)
     (rest : ChainIsSteps state opening calls first.1 end (stepped_as m first.0.seat first.0.kind one.outcome).state) where
   abbrev next : Machine
@@ -162,15 +163,23 @@ module _ {D : Type 0} (state : D → DiskState) (opening : List (Key × Value)) 
       (subst (λ (s : Sizes). ShowsHistory s opening end.held.book.book.entries (length (played next (take k (outcomes_in rest.made))).book.entries) c) same_sizes (rest.moments k t c late left))
 
   -- the first step may have noted it, or one of the others
-  acknowledged_all : (k : ℕ) → Acknowledges m k made
-      → HasOwnSync (swaps_due (after_steps m k made)) (clock_after (state start.disk).clock k made) (clock_after (state start.disk).clock (suc k) made) (state end.disk)
+  acknowledged_all : (k : ℕ) → (it : Acknowledges m k made)
+      → HasOwnSync (pages_first it.entry.op) (swaps_due (after_steps m k made)) (clock_after (state start.disk).clock k made)
+      (clock_after (state start.disk).clock (suc k) made) (state end.disk)
   acknowledged_all zero noted =
       let entries : next.book.entries ≡ first.1.held.book.book.entries = ap (λ (b : BookState). b.book.entries) one.stands.book in
       ends noted.entry (sym entries ∙ ap (λ (x : Machine). x.book.entries) (sym played_is) ∙ noted.noted ∙ ap (λ (es : List Entry). es ++ noted.entry ∷ []) book) noted.write noted.ok
   acknowledged_all (suc k) noted =
-      let later : Acknowledges (played_one m (first.0, one.outcome)) k rest.made = record { entry = noted.entry; noted = noted.noted; write = noted.write; ok = noted.ok } in
-      subst (λ (x : Machine). HasOwnSync (swaps_due (after_steps x k rest.made)) (clock_after (state first.1.disk).clock k rest.made) (clock_after (state first.1.disk).clock (suc k) rest.made) (state end.disk)) (sym played_is)
-      (rest.acknowledged k (subst (λ (x : Machine). Acknowledges x k rest.made) played_is later))
+      let later : Acknowledges next k rest.made = record {
+        entry = noted.entry;
+        noted = subst (λ (x : Machine). noted_after x (suc k) rest.made ≡ noted_after x k rest.made ++ noted.entry ∷ []) played_is noted.noted;
+        write = noted.write;
+        ok = noted.ok;
+      } in
+      subst (λ (x : Machine). HasOwnSync (pages_first noted.entry.op) (swaps_due (after_steps x k rest.made))
+      (clock_after (state first.1.disk).clock k rest.made) (clock_after (state first.1.disk).clock (suc k) rest.made) (state end.disk))
+      (sym played_is)
+      (rest.acknowledged k later)
 
   pub one_step : ChainIsSteps state opening (first ∷ calls) start end m
   one_step = record {

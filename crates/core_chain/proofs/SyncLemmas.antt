@@ -3,7 +3,7 @@ use Rattle.std.proofs.Common.{◌≡◌, ◌∙◌, inl, inr, ℕ, true, false, 
 use Rattle.std.proofs.lemmas.Grind.{common_steps}
 use Rattle.std.proofs.lemmas.Bool.Decides.{nat_tests}
 use Rattle.std.proofs.lemmas.Bool.{false≢true}
-use Rattle.std.specs.Prelude.{IsTrue}
+use Rattle.std.specs.Prelude.{◌+◌, ◌≤◌, IsTrue}
 use Rattle.blsm_model.specs.Book.{Book}
 use Rattle.blsm_model.specs.Legal.{is_look, is_write}
 use Rattle.blsm_model.specs.declared.history.Entry.{Entry}
@@ -20,12 +20,12 @@ use Rattle.tree_machine.specs.declared.step.Kind.{Kind}
 use Rattle.tree_machine.specs.declared.step.Kind.TheVariants as kind
 use Rattle.tree_core.specs.Answers.{reply_to_write}
 use Rattle.tree_core.specs.Calls.{Admits, IsCall}
-use Rattle.tree_core.specs.Causes.{swaps_due_in}
+use Rattle.tree_core.specs.Causes.{pages_first, swaps_due_in}
 use Rattle.tree_core.specs.Clock.{EndsAppended}
 use Rattle.tree_core.specs.Core.{CoreState, IsCore}
 use Rattle.tree_core.specs.Holds.{StandsWhole}
-use Rattle.tree_core.specs.declared.answers.Admission.{Admission}
-use Rattle.tree_core.specs.declared.answers.Admission.TheVariants as admission
+use Rattle.tree_core.specs.Ruling.{Ruling}
+use Rattle.tree_core.specs.Ruling as ruling
 use Rattle.tree_core.proofs.BegunLemmas.{due_agree}
 use Rattle.core_chain.specs.Steps.{HasOwnSync}
 use Rattle.core_chain.specs.Tells.{asked_at}
@@ -69,17 +69,23 @@ module _ {D : Type 0} (state : D → DiskState) (seat : ℕ) (old new : CoreStat
       asks_no_write seat k one.op other looks one.asked (ap (λ (x : Entry). is_write x.op) entry ∙ write)
 
   -- an admission that was done ran, and ended with its append
-  done_ends : (op : Op) (answer : Admission) → Admits state seat op answer old new → reply_to_write answer ≡ reply.Done → (old.held.book.stopped ≡ None) × EndsAppended (swaps_due_in old.held) (state old.disk) (state new.disk)
-  done_ends op admission.Admitted call ok = (call.cause.0.ran, call.ends)
-  done_ends op (admission.Full charge) call ok = absurd (cc ok)
-  done_ends op (admission.Fault true) call ok = absurd (cc ok)
-  done_ends op (admission.Fault false) call ok = absurd (cc ok)
-  done_ends op (admission.Stopped why) call ok = absurd (cc ok)
+  done_ends : (op : Op) (answer : Ruling) → Admits state seat op answer old new → reply_to_write answer ≡ reply.Done
+      → (old.held.book.stopped ≡ None) × EndsAppended (pages_first op) (swaps_due_in old.held) (state old.disk) (state new.disk)
+  done_ends op ruling.Admitted call ok = (call.cause.0.ran, call.ends)
+  done_ends op (ruling.Kept found) call ok = absurd (cc ok)
+  done_ends op (ruling.Full charge) call ok = absurd (cc ok)
+  done_ends op ruling.ReadFault call ok = absurd (cc ok)
+  done_ends op (ruling.Damaged page) call ok = absurd (cc ok)
+  done_ends op (ruling.Fault true) call ok = absurd (cc ok)
+  done_ends op (ruling.Fault false) call ok = absurd (cc ok)
+  done_ends op (ruling.Stopped why) call ok = absurd (cc ok)
 
-  link_ends : (k : Kind) → IsCall state seat k old new → e.reply ≡ reply.Done → (old.held.book.stopped ≡ None) × EndsAppended (swaps_due_in old.held) (state old.disk) (state new.disk)
+  link_ends : (k : Kind) → IsCall state seat k old new → e.reply ≡ reply.Done → (old.held.book.stopped ≡ None) × EndsAppended (pages_first e.op)
+      (swaps_due_in old.held) (state old.disk) (state new.disk)
   link_ends (kind.Admit op) call ok =
       let entry = same_last old.held.book.book.entries (record { seat = seat; op = op; reply = reply_to_write call.0 }) e (sym (ap (λ (b : Book). b.entries) call.1.notes.annals) ∙ is) in
-      done_ends op call.0 call.1 (ap (λ (x : Entry). x.reply) entry ∙ ok)
+      let ends = done_ends op call.0 call.1 (ap (λ (x : Entry). x.reply) entry ∙ ok) in
+      (ends.0, subst (λ (x : Entry). EndsAppended (pages_first x.op) (swaps_due_in old.held) (state old.disk) (state new.disk)) entry ends.1)
   link_ends (kind.Look op) call ok =
       absurd (others_note_none (kind.Look op) (λ o same. cc same)
       (λ o same. let it : op ≡ o = cc same in ap is_look (sym it) ∙ (looks_as seat op old.held.book call.1.goes.may).0) (link_notes state seat (kind.Look op) old new call))
@@ -95,14 +101,15 @@ module _ {D : Type 0} (state : D → DiskState) (seat : ℕ) (old new : CoreStat
 -- ---- its clock
 
 -- the sync is marked still, whatever came behind
-own_sync : {before after last : DiskState} (due by_core : ℕ) → due ≡ by_core → EndsAppended by_core before after → GoesOn before last → SyncsLater after last → HasOwnSync due before.clock after.clock last
-own_sync {before} {after} {last} due by_core same ends goes syncs = record {
+own_sync : {before after last : DiskState} (looks due by_core : ℕ) → due ≡ by_core → EndsAppended looks by_core before after → GoesOn before last →
+    SyncsLater after last → HasOwnSync looks due before.clock after.clock last
+own_sync {before} {after} {last} looks due by_core same ends goes syncs = record {
   later = λ tells. omega (arith, ends.no_sooner, ends.later (told tells));
   synced = λ tells. syncs.none_lost after.clock (ends.synced (told tells));
   exact = λ none few.
-      let at : ends.begun ≡ before.clock = omega (arith, ends.no_sooner, ends.no_later, same, none) in
+      let at : ends.begun ≤ before.clock + looks = omega (arith, ends.no_later, same, none) in
       let four = ends.exact (omega (arith, at, few)) in
-      omega (arith, four, at);
+      (omega (arith, four, ends.no_sooner), omega (arith, four, at));
 }
   where
     told : IsTrue last.tells_images → IsTrue before.tells_images
@@ -110,7 +117,9 @@ own_sync {before} {after} {last} due by_core same ends goes syncs = record {
 
 pub link_acknowledges : {D : Type 0} (state : D → DiskState) (opening : List (Key × Value)) (seat : ℕ) (k : Kind) (old new : CoreState D) (m : Machine) (last : DiskState) → IsCall state seat k old new → IsCore old.held (state old.disk)
     → StandsWhole state opening old m → GoesOn (state old.disk) last → SyncsLater (state new.disk) last
-    → (e : Entry) → new.held.book.book.entries ≡ old.held.book.book.entries ++ e ∷ [] → is_write e.op ≡ true → e.reply ≡ reply.Done → HasOwnSync (swaps_due m) (state old.disk).clock (state new.disk).clock last
+    → (e : Entry) → new.held.book.book.entries ≡ old.held.book.book.entries ++ e ∷ [] → is_write e.op ≡ true → e.reply ≡ reply.Done → HasOwnSync
+    (pages_first e.op) (swaps_due m) (state old.disk).clock (state new.disk).clock last
 link_acknowledges state opening seat k old new m last call keeps whole goes syncs e is write ok =
     let ends = link_ends state seat old new e is write k call ok in
-    own_sync (swaps_due m) (swaps_due_in old.held) (due_agree opening old.held m (state old.disk) whole keeps ends.0) ends.1 goes syncs
+    own_sync (pages_first e.op) (swaps_due m) (swaps_due_in old.held) (due_agree opening old.held m (state old.disk) whole keeps ends.0) ends.1 goes
+    syncs

@@ -31,26 +31,56 @@ use Rattle.tree_machine.specs.declared.step.Step.{Step}
 use Rattle.core_moves.specs.declared.held.Held.{Held}
 use Rattle.tree_core.specs.Answers.{reply_to_drop, reply_to_hold, reply_to_next, reply_to_write}
 use Rattle.tree_core.specs.Calls.{Admits, AreCalls, EndsWork, Helps, IsCall, Leaves, Pays, ReadsOn, TurnsOnce, Looks}
-use Rattle.tree_core.specs.Causes.{HasFailed, PaysBecause, PaysNone, ScansBecause, ScansNone, TurnsBecause, TurnsNone, swaps_due_in, IsLookOn}
+use Rattle.tree_core.specs.Causes.{
+  AdmitsBecause,
+  CallsNone,
+  HasFailed,
+  PaysBecause,
+  PaysNone,
+  ScansBecause,
+  ScansNone,
+  TurnsBecause,
+  TurnsNone,
+  swaps_due_in,
+  IsLookOn,
+}
 use Rattle.tree_core.specs.Core.{CoreState, IsCore}
-use Rattle.tree_core.specs.declared.answers.Admission.{Admission}
-use Rattle.tree_core.specs.declared.answers.Admission.TheVariants as admission
+use Rattle.tree_core.specs.Ruling.{Ruling}
+use Rattle.tree_core.specs.Ruling as ruling
 use Rattle.tree_core.specs.declared.answers.Payment.{Payment}
 use Rattle.tree_core.specs.declared.answers.Payment.TheVariants as payment
 use Rattle.tree_core.specs.Scanned.{Scanned}
 use Rattle.tree_core.specs.Scanned as scanned
 use Rattle.tree_session.specs.Faults.{NamesCount, NamesStop, Reaches, faults_of, faults_of_turn, faults_told, is_by_fault}
 use Rattle.tree_session.proofs.BookLemmas.{ended_empty, work_says}
-use Rattle.tree_session.proofs.FaultLemmas.{admit_names, reaches_by, reaches_none, reaches_then, reaches_wider}
+use Rattle.tree_session.proofs.FaultLemmas.{reaches_by, reaches_none, reaches_then, reaches_wider}
 use Rattle.tree_session.proofs.HoldLemmas.{drop_names, drop_quiet, hold_names, hold_quiet}
 use Rattle.core_chain.specs.Start.{IsUnasked, steps_of}
 use Rattle.core_chain.specs.Scans.{has_rows, newest_reply}
 use Rattle.core_chain.specs.Tells.{AreCalled, ChainTells, asked_by, calls_between, calls_of, calls_of_all, lookups_failed}
-use Rattle.core_chain.proofs.FaultLemmas.{AllNamed, How, LinkTells, Told, all_calm, entry_tells, no_entry_tells, no_lookup, one_changed, pending, stays_damaged, stays_ran, stays_same, stops_failed, tells_all, told_more, works_idle}
+use Rattle.core_chain.proofs.FaultLemmas.{
+  AllNamed,
+  How,
+  LinkTells,
+  Told,
+  all_calm,
+  entry_tells,
+  no_entry_tells,
+  one_changed,
+  pending,
+  stays_damaged,
+  stays_ran,
+  stays_same,
+  stops_failed,
+  tells_all,
+  told_more,
+  works_idle,
+}
 use Rattle.core_chain.proofs.LinkLemmas.{Kept, chain_keeps, link_keeps, link_kept, link_sizes, writes_as, looks_as}
 use Rattle.core_chain.proofs.NoteLemmas.{AreCallers, chain_asks, entries_are_callers, payment_notes_none}
 use Rattle.core_chain.proofs.ScanLemmas.{were_rows}
 use Rattle.blsm_model.proofs.LookLemmas.{look_may}
+use Rattle.blsm_model.proofs.OpLemmas.{write_may_look}
 
 -- the same works are open
 same_pending : (old new : BookState) → new.seats.work ≡ old.seats.work → 0 + pending new ≤ pending old
@@ -77,17 +107,39 @@ module _ {D : Type 0} (state : D → DiskState) where
       → HasFailed old.held new.held (state old.disk) (state new.disk) → NamesStop e.reply new.held.book.stopped → LinkTells old.held.book new.held.book (state old.disk) (state new.disk)
   failed_entry e old new is work lookup fault failed names = grind (arith, common_steps, nat_tests)
 
-  admit_link : (seat : ℕ) (op : Op) (answer : Admission) (old new : CoreState D) → is_write op ≡ true → Admits state seat op answer old new → LinkTells old.held.book new.held.book (state old.disk) (state new.disk)
-  admit_link seat op admission.Admitted old new write call =
-      entry_tells 0 0 (record { seat = seat; op = op; reply = reply_to_write admission.Admitted }) old.held.book new.held.book (state old.disk) (state new.disk) (ap (λ (b : Book). b.entries) call.notes.annals) (ap one_if (no_lookup op (reply_to_write admission.Admitted) write)) refl tt
-      (inl (stays_ran 0 (pending old.held.book) (pending new.held.book) old.held new.held (state old.disk) (state new.disk) call.cause.0 (same_pending old.held.book new.held.book call.notes.work)))
-  admit_link seat op (admission.Full charge) old new write call =
-      quiet_entry (record { seat = seat; op = op; reply = reply_to_write (admission.Full charge) }) old new (ap (λ (b : Book). b.entries) call.notes.annals) call.notes.work (no_lookup op (reply_to_write (admission.Full charge)) write) refl (ap (λ (h : Held). h.book.stopped) call.cause.3) (faults_same old new (call.untouched tt)) tt
-  admit_link seat op (admission.Fault true) old new write call = failed_entry (record { seat = seat; op = op; reply = reply_to_write (admission.Fault true) }) old new (ap (λ (b : Book). b.entries) call.notes.annals) call.notes.work (no_lookup op (reply_to_write (admission.Fault true)) write) refl call.cause.0 tt
-  admit_link seat op (admission.Fault false) old new write call = failed_entry (record { seat = seat; op = op; reply = reply_to_write (admission.Fault false) }) old new (ap (λ (b : Book). b.entries) call.notes.annals) call.notes.work (no_lookup op (reply_to_write (admission.Fault false)) write) refl call.cause.0 tt
-  admit_link seat op (admission.Stopped why) old new write call =
-      quiet_entry (record { seat = seat; op = op; reply = reply_to_write (admission.Stopped why) }) old new (ap (λ (b : Book). b.entries) call.notes.annals) call.notes.work (no_lookup op (reply_to_write (admission.Stopped why)) write) refl (ap (λ (h : Held). h.book.stopped) call.cause.1) (faults_same old new (call.untouched tt))
-      (admit_names (admission.Stopped why) seat op old.held new.held (state old.disk) (state new.disk) call.cause)
+  admit_link : (seat : ℕ) (op : Op) (answer : Ruling) (old new : CoreState D) → is_write op ≡ true → Admits state seat op answer old new → LinkTells
+      old.held.book new.held.book (state old.disk) (state new.disk)
+  admit_link seat op answer old new write call = by answer call.cause (ap (λ (b : Book). b.entries) call.notes.annals) call.untouched
+    where
+      by : (given : Ruling) → AdmitsBecause given seat op old.held new.held (state old.disk) (state new.disk)
+          → new.held.book.book.entries ≡ old.held.book.book.entries ++ record { seat = seat; op = op; reply = reply_to_write given } ∷ [] →
+          (CallsNone op given → new.disk ≡ old.disk)
+          → LinkTells old.held.book new.held.book (state old.disk) (state new.disk)
+      by ruling.Admitted cause noted none =
+          entry_tells 0 0 (record { seat = seat; op = op; reply = reply_to_write ruling.Admitted }) old.held.book new.held.book (state old.disk)
+          (state new.disk) noted refl refl tt
+          (inl (stays_ran 0 (pending old.held.book) (pending new.held.book) old.held new.held (state old.disk) (state new.disk) cause.0
+          (same_pending old.held.book new.held.book call.notes.work)))
+      by (ruling.Kept found) cause noted none =
+          quiet_entry (record { seat = seat; op = op; reply = reply_to_write (ruling.Kept found) }) old new noted call.notes.work refl refl
+          (ap (λ (h : Held). h.book.stopped) cause.4) cause.1 tt
+      by (ruling.Full charge) cause noted none =
+          quiet_entry (record { seat = seat; op = op; reply = reply_to_write (ruling.Full charge) }) old new noted call.notes.work refl refl
+          (ap (λ (h : Held). h.book.stopped) cause.3) cause.4 tt
+      by ruling.ReadFault cause noted none =
+          lookup_entry (record { seat = seat; op = op; reply = reply_to_write ruling.ReadFault }) old new noted call.notes.work
+          (write_may_look op write ∙ cause.1) refl cause.0 (ap (λ (h : Held). h.book.stopped) cause.3) cause.2 tt
+      by (ruling.Damaged page) cause noted none =
+          quiet_entry (record { seat = seat; op = op; reply = reply_to_write (ruling.Damaged page) }) old new noted call.notes.work refl refl
+          (ap (λ (h : Held). h.book.stopped) cause.4) cause.1 tt
+      by (ruling.Fault true) cause noted none = failed_entry (record { seat = seat; op = op; reply = reply_to_write (ruling.Fault true) }) old new
+          noted call.notes.work refl refl cause.0 tt
+      by (ruling.Fault false) cause noted none = failed_entry (record { seat = seat; op = op; reply = reply_to_write (ruling.Fault false) }) old new
+          noted call.notes.work refl refl cause.0 tt
+      by (ruling.Stopped why) cause noted none =
+          let stopped : new.held.book.stopped ≡ old.held.book.stopped = ap (λ (h : Held). h.book.stopped) cause.1 in
+          quiet_entry (record { seat = seat; op = op; reply = reply_to_write (ruling.Stopped why) }) old new noted call.notes.work refl refl stopped
+          (faults_same old new (none tt)) (stopped ∙ cause.0)
 
   pay_link : (seat : ℕ) (answer : Payment) (old new : CoreState D) → Pays state seat answer old new → LinkTells old.held.book new.held.book (state old.disk) (state new.disk)
   pay_link seat answer old new call =

@@ -21,6 +21,7 @@ use Rattle.tree_machine.specs.declared.step.Kind.{Kind}
 use Rattle.tree_machine.specs.declared.step.Kind.TheVariants.{Look}
 use Rattle.tree_machine.specs.declared.step.Step.{Step}
 use Rattle.core_lists.specs.Shown.{ShowsHistory}
+use Rattle.tree_core.specs.Causes.{pages_first}
 use Rattle.tree_core.specs.Core.{CoreState}
 use Rattle.tree_core.specs.Holds.{StandsWhole}
 use Rattle.core_chain.specs.Start.{steps_of}
@@ -47,7 +48,7 @@ hides_older (Some (Base value)) = true
 hides_older (Some (Delta count)) = false
 hides_older (Some Tomb) = true
 
--- a lookup that the memory table answers
+-- a get that the memory table answers
 abbrev pub is_in_memory : Lists → Kind → Bool
 is_in_memory lists (Look (Get key)) = hides_older (over_any (record_of_key key lists.b) (record_of_key key lists.a))
 is_in_memory lists _ = false
@@ -87,11 +88,12 @@ pub record Acknowledges (m : Machine) (k : ℕ) (made : List (Step × Outcome ×
   pub write : is_write entry.op ≡ true
   pub ok : entry.reply ≡ Done
 
--- A step that the clock says began here and ended there: at its end a sync of its own had ended well, which is marked still. Where no swap was due it made four calls.
-pub record HasOwnSync (due before after : ℕ) (last : DiskState) : Type 0 where
+-- A step that the clock says began here and ended there: at its end a sync of its own had ended well, which is marked still. Where no swap was due
+-- it made four calls, behind as many at most as a lookup that came first may make: none for a write that doesn't look first.
+pub record HasOwnSync (looks due before after : ℕ) (last : DiskState) : Type 0 where
   pub later : IsTrue last.tells_images → before < after
   pub synced : IsTrue last.tells_images → last.synced_at after
-  pub exact : due ≡ 0 → before + 4 < 2 ^ 64 → after ≡ before + 4
+  pub exact : due ≡ 0 → before + looks + 4 < 2 ^ 64 → (before + 4 ≤ after) × (after ≤ before + looks + 4)
 
 -- ---- the whole
 
@@ -115,5 +117,6 @@ pub record ChainIsSteps {D : Type 0} (state : D → DiskState) (opening : List (
   pub moments : (k t : ℕ) (c : List ℕ) → clock_after (state start.disk).clock k made ≤ t → (state end.disk).images_since t c
       → ShowsHistory m.gears.sizes opening end.held.book.book.entries (length (noted_after m k made)) c
   -- each write that was acknowledged has a sync of its own
-  pub acknowledged : (k : ℕ) → Acknowledges m k made
-      → HasOwnSync (swaps_due (after_steps m k made)) (clock_after (state start.disk).clock k made) (clock_after (state start.disk).clock (suc k) made) (state end.disk)
+  pub acknowledged : (k : ℕ) → (it : Acknowledges m k made)
+      → HasOwnSync (pages_first it.entry.op) (swaps_due (after_steps m k made)) (clock_after (state start.disk).clock k made)
+      (clock_after (state start.disk).clock (suc k) made) (state end.disk)

@@ -17,7 +17,7 @@ use Rattle.tree_machine.specs.declared.step.Kind.{Kind}
 use Rattle.tree_machine.specs.declared.step.Kind.TheVariants as kind
 use Rattle.tree_machine.specs.declared.step.Step.{Step}
 use Rattle.tree_runs.specs.Runs.{page_share}
-use Rattle.tree_core.specs.Causes.{swaps_due_in}
+use Rattle.tree_core.specs.Causes.{pages_first, swaps_due_in}
 use Rattle.tree_core.specs.Core.{CoreState}
 use Rattle.tree_session.specs.Faults.{NamesStop, Reaches, TellsFaults, TellsNone, faults_told, is_by_fault}
 use Rattle.core_chain.specs.Scans.{has_rows, newest_reply}
@@ -26,10 +26,10 @@ use Rattle.core_chain.specs.Start.{steps_of}
 -- ---- calls of the disk
 
 -- How many calls of the disk a step makes at most, before which so many swaps are due: an admission makes four for its append and nine for each of
--- them; a payment and a turn read a quantum's pages and write its run; a command that only looks reads one page of each component at most, and a
--- next, by the sizes alone, each page that the components may have. The others are made in memory alone.
+-- them, behind three at most where it looks first; a payment and a turn read a quantum's pages and write its run; a command that only looks reads
+-- one page of each component at most, and a next, by the sizes alone, each page that the components may have. The others are made in memory alone.
 abbrev pub calls_of : Sizes → ℕ → Kind → ℕ
-calls_of sizes due (kind.Admit op) = 4 + 9 * due
+calls_of sizes due (kind.Admit op) = pages_first op + (4 + 9 * due)
 calls_of sizes due kind.Pay = sizes.quantum / 4 + 3
 calls_of sizes due (kind.Look op) = 3
 calls_of sizes due (kind.Next n) = page_share sizes
@@ -91,7 +91,7 @@ pub record ChainTells {D : Type 0} (state : D → DiskState) (calls : List (Step
   -- it has risen for each lookup that failed and once more for a stop by a fault, whoever's step that was; and replies tell of no others
   pub counted : HasRisenBy (lookups_failed end.held.book.book.entries + one_if (is_by_fault end.held.book.stopped)) (state start.disk).faults (state end.disk).faults
   pub no_others : faults_told end.held.book.book.entries ≤ lookups_failed end.held.book.book.entries + one_if (is_by_fault end.held.book.stopped)
-  -- of a store that no fault has stopped a get and a next alone tell one
+  -- of a store that no fault has stopped a get, a next, a new and a swap alone tell one
   pub calm : is_by_fault end.held.book.stopped ≡ false → AllByRecursion (λ e. TellsNone e.op e.reply) end.held.book.book.entries
   -- a reply that the store is stopped names what stopped it
   pub names : AllByRecursion (λ e. NamesStop e.reply end.held.book.stopped) end.held.book.book.entries

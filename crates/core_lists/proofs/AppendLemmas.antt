@@ -1,5 +1,32 @@
 -- What the images show of a write that is appended.
-use Rattle.std.proofs.Common.{◌≡◌, ◌∙◌, ℕ, ◌+◌, ◌≤◌, Bool, true, false, cond, ◌&&◌, List, [], ◌∷◌, ◌++◌, flat_map, length, Option, ⊎_elim, refl, ap, sym, subst, append-nil, length-append, arith}
+use Rattle.std.proofs.Common.{
+  ◌≡◌,
+  ◌∙◌,
+  ℕ,
+  ◌+◌,
+  ◌≤◌,
+  Bool,
+  true,
+  false,
+  cond,
+  ◌&&◌,
+  List,
+  [],
+  ◌∷◌,
+  ◌++◌,
+  flat_map,
+  length,
+  None,
+  Option,
+  ⊎_elim,
+  refl,
+  ap,
+  sym,
+  subst,
+  append-nil,
+  length-append,
+  arith,
+}
 use Rattle.std.proofs.lemmas.Grind.{common_steps}
 use Rattle.std.proofs.lemmas.Bool.Decides.{nat_tests}
 use Rattle.std.specs.Prelude.{nat_lt}
@@ -33,7 +60,8 @@ use Rattle.pacing.proofs.Fronts.{step_fronts}
 use Rattle.tree_machine.specs.Lists.{Lists, memory_weight}
 use Rattle.tree_machine.specs.Machine.{Machine, charge, is_caller}
 use Rattle.tree_machine.specs.Moves.{goes_to_a, with_write, take_write, with_peak, note}
-use Rattle.tree_machine.specs.Steps.{Well, replied, admit_fitting, unless_stopped as machine_unless, taken_once, ready_for, admit}
+use Rattle.tree_machine.specs.Steps.{Well, Stepped, replied, admit_fitting, taken_once, ready_for, admit}
+use Rattle.tree_machine.proofs.LookLemmas.{looked_admits, met_well}
 use Rattle.tree_machine.specs.Plays.{has_room, is_between, may_note, is_even, stepped}
 use Rattle.tree_machine.specs.declared.step.Kind.TheVariants as kind
 use Rattle.tree_machine.specs.declared.step.Step.{Step}
@@ -108,7 +136,7 @@ module _ (opening : List (Key × Value)) (m : Machine) (fronts : Fronts) (seat :
   -- the step is the write's
   state_is : (stepped m step Well).state ≡ wrote
   state_is =
-      ap (λ (o : Option Why). (machine_unless o seat op m (cond (nat_lt (charge_limit m.gears.sizes (is_del op)) (charge m + w)) (replied seat op (Full (charge m)) m) (admit_fitting m seat op w Well))).state) is.runs
+      ap (λ (st : Stepped). st.state) (looked_admits m seat op Well None is.runs (met_well m op is.met))
       ∙ ap (λ (b : Bool). (cond b (replied seat op (Full (charge m)) m) (admit_fitting m seat op w Well)).state) within
       ∙ ap (λ (ws : List Write). note seat op Done (with_peak (taken_once seat ws ready))) is.writes
 

@@ -2,7 +2,7 @@
 use Rattle.std.specs.Prelude.{◌≤◌, IsTrue}
 use Rattle.std.proofs.lemmas.Grind.{common_steps}
 use Rattle.std.proofs.lemmas.Bool.Decides.{nat_tests}
-use Rattle.std.proofs.Common.{◌≡◌, ◌∙◌, ℕ, ◌+◌, Bool, true, false, List, None, ap, sym, subst, arith}
+use Rattle.std.proofs.Common.{◌≡◌, ◌∙◌, ℕ, ◌+◌, Bool, cond, true, false, List, None, ap, sym, subst, arith}
 use Rattle.blsm_model.specs.Sizes.{Sizes}
 use Rattle.blsm_model.specs.Geometry.{charge_limit}
 use Rattle.blsm_model.specs.declared.key.Key.{Key}
@@ -19,7 +19,9 @@ use Rattle.pacing.proofs.Fronts.{step_fronts}
 use Rattle.tree_machine.specs.Lists.{Lists}
 use Rattle.tree_machine.specs.Machine.{Machine, Failed, BadPage, charge}
 use Rattle.tree_machine.specs.Steps as machine
-use Rattle.tree_machine.specs.Steps.{Outcome, Well, Answer, Paid, Settled, Choice, admit_fitting, chosen, ended_as, admit}
+use Rattle.tree_machine.specs.Steps.{Outcome, Well, Answer, Paid, Settled, Choice, admit_fitting, chosen, ended_as, admit, refused_first, replied}
+use Rattle.tree_machine.proofs.LookLemmas.{looked_admits}
+use Rattle.blsm_model.specs.declared.history.Reply.TheVariants.{Full}
 use Rattle.tree_machine.specs.Plays.{may, stepped_as}
 use Rattle.tree_machine.specs.Stands.{WritesFit}
 use Rattle.tree_machine.specs.declared.step.Kind.{Kind}
@@ -37,7 +39,7 @@ use Rattle.core_lists.specs.Shown.{HasFronts}
 use Rattle.core_lists.specs.Steps.{TurnsTree, choice_of}
 use Rattle.core_lists.specs.Going.{GoesOn}
 use Rattle.core_lists.proofs.StepLands.{choices_agree}
-use Rattle.core_lists.proofs.AppendLemmas.{append_goes_on}
+use Rattle.core_lists.proofs.AppendLemmas.{append_goes_on, not_past}
 use Rattle.blsm_model.specs.declared.op.Op.{Op}
 use Rattle.blsm_model.specs.declared.op.Write.{Write}
 use Rattle.core_lists.proofs.Terms.{chosen_by, IsSteady, kind_of_turn, IsOpenTo, StandsIn, MayAppend, with_appended}
@@ -62,10 +64,14 @@ standing_is_steady opening held m fronts tree file is runs =
 
 -- ---- an admission
 
--- of a tree that runs, where there is room
-pub admission_fits : (m : Machine) (seat : ℕ) (op : Op) (outcome : Outcome) → m.stopped ≡ None → charge m + total_weight (writes_of op) ≤ charge_limit m.gears.sizes (is_del op)
+-- of a tree that runs, where what was looked at doesn't refuse it and there is room
+pub admission_fits : (m : Machine) (seat : ℕ) (op : Op) (outcome : Outcome) → m.stopped ≡ None → refused_first m op outcome ≡ None → charge m +
+    total_weight (writes_of op) ≤ charge_limit m.gears.sizes (is_del op)
     → admit m seat op outcome ≡ admit_fitting m seat op (total_weight (writes_of op)) outcome
-admission_fits m seat op outcome runs room = grind (arith, common_steps, nat_tests)
+admission_fits m seat op outcome runs goes room =
+    looked_admits m seat op outcome None runs goes
+    ∙ ap (λ (b : Bool). cond b (replied seat op (Full (charge m)) m) (admit_fitting m seat op (total_weight (writes_of op)) outcome))
+    (not_past (charge_limit m.gears.sizes (is_del op)) (charge m + total_weight (writes_of op)) room)
 
 pub admission_goes_on : (opening : List (Key × Value)) (m : Machine) (fronts : Fronts) (seat : ℕ) (op : Op) (write : Write) (begun : Held) (tree : Tree) → MayAppend opening m fronts seat op write begun tree
     → (then : Fronts) × GoesOn opening (admit m seat op Well).state then (with_appended write begun tree)

@@ -22,7 +22,7 @@ use Rattle.seat_book.specs.State.{noted_in, stopped_in, paid_in, turned_in, help
 use Rattle.tree_log.specs.Log.{weight_of_tables, appended}
 use Rattle.core_moves.specs.Held.{IsPassDone, IsDeepDone, charge_in, is_run_full, goes_ahead}
 use Rattle.core_moves.specs.Moves.{with_book, SettlesDeep, SettlesPass, begun_in, TurnsLog}
-use Rattle.blsm_model.specs.Histories.{written, writes_of}
+use Rattle.blsm_model.specs.Histories.{is_met, written, writes_of}
 use Rattle.blsm_model.specs.Values.{value_at, key_of}
 use Rattle.record_delta.specs.declared.record.Rec.{Rec}
 use Rattle.pacing.specs.Kept.{IsPaced}
@@ -144,7 +144,8 @@ pub record SettledIn (opening : List (Key × Value)) (old settled : Held) (m : M
   pub has : HasPace settled numbers
   pub one : settled.gears.sizes ≡ settled.runs.sizes
 
--- The machine runs, the seat may write, and there is room. When the write is to be appended the core stands over this tree.
+-- The machine runs, the seat may write, the write's condition holds, and there is room. When the write is to be appended the core stands
+-- over this tree.
 pub record MayAppend (opening : List (Key × Value)) (m : Machine) (fronts : Fronts) (seat : ℕ) (op : Op) (write : Write) (begun : Held) (tree : Tree) : Type 0 where
   pub paced : IsPacedTree opening m
   pub within : AreFronts (pace_of m) fronts
@@ -152,6 +153,7 @@ pub record MayAppend (opening : List (Key × Value)) (m : Machine) (fronts : Fro
   pub may : IsTrue (may m seat (kind.Admit op))
   pub fits : WritesFit (kind.Admit op)
   pub writes : writes_of op ≡ write ∷ []
+  pub met : is_met op (value_in m.lists) ≡ true
   pub room : charge m + total_weight (writes_of op) ≤ charge_limit m.gears.sizes (is_del op)
   pub holds : HoldsMachine begun tree (ready_for (total_weight (writes_of op)) m)
   pub lanes : HasFronts tree (swapped m).lists (fronts_ready (pace_of m) fronts)

@@ -1,6 +1,6 @@
-// Pages that turn to zeros while the store runs: each call that comes to one names it. After a lookup or a next the store goes on, and a
-// payment or a turn stops it.
-use crate::samples::{key, put, put_of};
+// Pages that turn to zeros while the store runs: each call that comes to one names it. After a lookup, a write's too, or a next the store goes on,
+// and a payment or a turn stops it.
+use crate::samples::{key, new, put, put_of, swap, value};
 use crate::stops::calls_of;
 use crate::stores::{File, check_reply, make, smallest, work, write};
 use blsm_model::{Annals, CALLERS, Component, Geometry, Op, ShortReply, Why};
@@ -130,6 +130,31 @@ fn check_get(rt: &impl Abort, alloc: Global, part: Part, merged: Merged) {
 fn a_get_names_the_damaged_page(rt: HostRuntime) {
     for (part, merged) in PLACES {
         check_get(&rt, rt.alloc(), part, merged);
+    }
+}
+
+// A new and a swap name the page too, and then their caller writes without a look.
+fn check_condition(rt: &impl Abort, alloc: Global, part: Part, merged: Merged) {
+    let (mut core, page) = damaged(rt, alloc, part, merged);
+    make(alloc, &mut core, 2, Kind::Admit(new(rt, b"k", 1, b"")));
+    make(alloc, &mut core, 2, Kind::Admit(swap(rt, b"k", 7, 1, b"")));
+    make(alloc, &mut core, 2, Kind::Admit(put(rt, b"k", 8, b"")));
+    make(alloc, &mut core, 3, Kind::Admit(new(rt, b"k", 1, b"")));
+    let (_, annals, totals) = core.end();
+    let place = first_place(merged);
+    let damaged = ShortReply::Damaged(page);
+    check_reply(rt, &annals, place, &damaged);
+    check_reply(rt, &annals, place.saturating_add(1), &damaged);
+    check_reply(rt, &annals, place.saturating_add(2), &ShortReply::Done);
+    let kept = ShortReply::Kept(Some(value(rt, 8, b"")));
+    check_reply(rt, &annals, place.saturating_add(3), &kept);
+    assert!(rt; totals.stopped.is_none());
+}
+
+#[test]
+fn a_write_that_looks_first_names_the_damaged_page(rt: HostRuntime) {
+    for (part, merged) in PLACES {
+        check_condition(&rt, rt.alloc(), part, merged);
     }
 }
 

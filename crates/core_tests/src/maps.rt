@@ -32,14 +32,20 @@ fn with_tail(value: Option<&Value>, tail: &Text) -> Value {
 
 /// What a write makes of the map.
 pub fn apply(map: &mut [Option<Value>], op: &Op) {
-    let (Op::Put(key, _) | Op::Add(key, _) | Op::Tail(key, _) | Op::Del(key)) = op else {
+    let (Op::Put(key, _)
+    | Op::Add(key, _)
+    | Op::Tail(key, _)
+    | Op::Del(key)
+    | Op::New(key, _)
+    | Op::Swap(key, _, _)) = op
+    else {
         return;
     };
     let Some(place) = map.get_mut(number_of(key)) else {
         return;
     };
     *place = match (op, place.as_ref()) {
-        (Op::Put(_, value), _) => Some(value.copy()),
+        (Op::Put(_, value) | Op::New(_, value) | Op::Swap(_, _, value), _) => Some(value.copy()),
         (Op::Add(_, more), Some(value)) => Some(Value {
             count: value.count.wrapping_add(*more),
             text: value.text.copy(),
@@ -83,6 +89,28 @@ fn check_get(rt: &impl Abort, map: &[Option<Value>], key: &Key, reply: &ShortRep
             assert_that_at(rt, value_of(map, key) == Some(value), place);
         }
         ShortReply::Absent => assert_that_at(rt, value_of(map, key).is_none(), place),
+        _ => {}
+    }
+}
+
+// A write that looks first is kept out by what the map has, and is done, refused for its size, lost or unsure only where its condition holds.
+fn check_condition(
+    rt: &impl Abort,
+    map: &[Option<Value>],
+    op: &Op,
+    reply: &ShortReply,
+    place: u32,
+) {
+    let (Op::New(key, _) | Op::Swap(key, _, _)) = op else {
+        return;
+    };
+    let value = map.get(number_of(key)).expect(rt, "a key of the map");
+    match reply {
+        ShortReply::Kept(found) => {
+            assert_that_at(rt, found == value && !op.is_met(value), place);
+        }
+        ShortReply::Done | ShortReply::Full(_) | ShortReply::FaultLost | ShortReply::FaultUnsure =>
+            assert_that_at(rt, op.is_met(value), place),
         _ => {}
     }
 }
@@ -163,6 +191,7 @@ fn follow_short(
         return;
     }
     let seat = annals.seat(place);
+    check_condition(rt, &history.map, annals.op(place), reply, place);
     match (annals.op(place), reply) {
         (Op::Get(key), reply) => check_get(rt, &history.map, key, reply, place),
         (Op::Hold(low, high), ShortReply::Held) => {
@@ -180,7 +209,8 @@ fn follow_short(
     }
 }
 
-/// Goes over a history of so many keys, and asserts that each get tells what the map has then, and each next what it had at the hold's moment.
+/// Goes over a history of so many keys, and asserts that each get tells what the map has then, each next what it had at the hold's moment, and
+/// each new and each swap by its condition what the map has.
 pub fn follow(rt: &impl Abort, alloc: Global, keys: usize, annals: &Annals) -> History {
     let mut history = History {
         map: nothing(rt, alloc, keys),

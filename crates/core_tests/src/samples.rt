@@ -48,6 +48,14 @@ pub fn del(rt: &impl Abort, name: &[u8]) -> Op {
     Op::Del(key(rt, name))
 }
 
+pub fn new(rt: &impl Abort, name: &[u8], count: u64, text: &[u8]) -> Op {
+    Op::New(key(rt, name), value(rt, count, text))
+}
+
+pub fn swap(rt: &impl Abort, name: &[u8], from: u64, count: u64, text: &[u8]) -> Op {
+    Op::Swap(key(rt, name), from, value(rt, count, text))
+}
+
 /// A put of the greatest key that a number has, with the text that makes it weigh 512 bytes.
 pub fn put_of(rt: &impl Abort, number: usize) -> Op {
     let key = key_of(rt, number.saturating_mul(5).saturating_add(4));
@@ -108,15 +116,33 @@ fn draw_tail(rt: &impl Abort, draws: &mut Draws, name: &[u8]) -> Op {
     tail(rt, name, text.get(..length).expect(rt, "a text"))
 }
 
-/// One write of four is a tail, the others are as `draw_write` draws them.
-pub fn draw_write_or_tail(rt: &impl Abort, draws: &mut Draws, keys: u64) -> Op
+// A write of few keys and few counts, so that conditions often hold: of six two are news, two swaps, one adds and one deletes.
+fn draw_contended(rt: &impl Abort, draws: &mut Draws) -> Op {
+    let name = key_of(rt, draws.below(8) as usize);
+    let count = draws.below(3);
+    match draws.below(6) {
+        0..=1 => Op::New(name, draw_value(rt, draws, count)),
+        2..=3 => {
+            let from = draws.below(3);
+            Op::Swap(name, from, draw_value(rt, draws, count))
+        }
+        4 => Op::Add(name, count),
+        _ => Op::Del(name),
+    }
+}
+
+/// One write of four is a tail and one is of few keys that are contended for, the others are as `draw_write` draws them.
+pub fn draw_any_write(rt: &impl Abort, draws: &mut Draws, keys: u64) -> Op
     requires { 0 < keys }
 {
-    if draws.below(4) > 0 {
-        return draw_write(rt, draws, keys);
+    match draws.below(4) {
+        0 => {
+            let name = key_of(rt, draws.below(keys) as usize);
+            draw_tail(rt, draws, name.as_bytes())
+        }
+        1 => draw_contended(rt, draws),
+        _ => draw_write(rt, draws, keys),
     }
-    let name = key_of(rt, draws.below(keys) as usize);
-    draw_tail(rt, draws, name.as_bytes())
 }
 
 /// The most quanta that a write may cost; a command that is none costs none.

@@ -6,11 +6,11 @@ use crate::asserts::{assert_that, assert_that_at};
 use crate::lines::line_of;
 use crate::maps::follow;
 use crate::plays::check_plays;
-use crate::samples::{Draws, draw_write, draw_write_or_tail, key_of};
+use crate::samples::{Draws, draw_any_write, draw_write, key_of};
 use crate::stores::{File, fresh, make, smallest, steepest};
 use crate::told::{DEFAULT, SMALLEST, STEEPEST};
 use crate::weights::check_weights;
-use blsm_model::{Annals, CALLERS, Geometry, Key, Op, Totals};
+use blsm_model::{Annals, CALLERS, Geometry, Key, Op, ShortReply, Totals};
 use disk_mem::MemDisk;
 use std::alloc::Global;
 use std::process::Abort;
@@ -26,10 +26,10 @@ fn play_drawn(
     alloc: Global,
     core: &mut Core<MemDisk>,
     draws: &mut Draws,
-    tails: bool,
+    all_kinds: bool,
 ) {
     let seat = draws.below(24) as u32;
-    let kind = draw_kind(rt, draws, seat, tails);
+    let kind = draw_kind(rt, draws, seat, all_kinds);
     make(alloc, core, seat, kind);
 }
 
@@ -45,22 +45,22 @@ fn draw_key(rt: &impl Abort, draws: &mut Draws) -> Key {
     key_of(rt, draws.below(KEYS) as usize)
 }
 
-// A write, which is a tail only where these are wanted.
-fn draw_any_write(rt: &impl Abort, draws: &mut Draws, tails: bool) -> Op {
-    if tails {
-        draw_write_or_tail(rt, draws, KEYS)
+// A write, which is a tail, a new or a swap only where all kinds are wanted.
+fn draw_admitted(rt: &impl Abort, draws: &mut Draws, all_kinds: bool) -> Op {
+    if all_kinds {
+        draw_any_write(rt, draws, KEYS)
     } else {
         draw_write(rt, draws, KEYS)
     }
 }
 
 // A step of a caller, or of a worker.
-fn draw_kind(rt: &impl Abort, draws: &mut Draws, seat: u32, tails: bool) -> Kind {
+fn draw_kind(rt: &impl Abort, draws: &mut Draws, seat: u32, all_kinds: bool) -> Kind {
     if seat >= CALLERS {
         return Kind::WorkerTurn;
     }
     match draws.below(24) {
-        0..=6 => Kind::Admit(draw_any_write(rt, draws, tails)),
+        0..=6 => Kind::Admit(draw_admitted(rt, draws, all_kinds)),
         7..=13 => Kind::Pay,
         14..=15 => Kind::Look(Op::Get(draw_key(rt, draws))),
         16..=17 => Kind::WorkTurn,
@@ -93,12 +93,12 @@ fn schedule(
     geo: Geometry,
     seed: u64,
     steps: u32,
-    tails: bool,
+    all_kinds: bool,
 ) -> Core<MemDisk> {
     let mut draws = Draws(seed);
     let mut core = fresh(rt, alloc, geo);
     for _ in 0..steps {
-        play_drawn(rt, alloc, &mut core, &mut draws, tails);
+        play_drawn(rt, alloc, &mut core, &mut draws, all_kinds);
     }
     close(alloc, &mut core);
     core
@@ -123,12 +123,46 @@ fn check(rt: &impl Abort, alloc: Global, geo: Geometry, seed: u64, steps: u32, t
     check_left(rt, alloc, file, &annals, &totals);
 }
 
-// A schedule with tails.
-fn check_tails(rt: &impl Abort, alloc: Global, geo: Geometry, seed: u64) {
+// Whether the entry at a place is a swap, or else a new, that was kept out, or else done.
+fn is_conditional(annals: &Annals, place: u32, is_swap: bool, is_kept: bool) -> bool {
+    if annals.len() <= place as usize || is_swap != matches!(annals.op(place), Op::Swap(..)) {
+        return false;
+    }
+    match annals.short_reply(place) {
+        Some(ShortReply::Kept(_)) => is_kept,
+        Some(ShortReply::Done) => !is_kept && annals.op(place).looks_first(),
+        _ => false,
+    }
+}
+
+// How many entries are such ones.
+fn count_conditional(annals: &Annals, is_swap: bool, is_kept: bool) -> u32 {
+    let mut count = 0u32;
+    for place in 0..annals.len() as u32 {
+        if is_conditional(annals, place, is_swap, is_kept) {
+            count = count.saturating_add(1);
+        }
+    }
+    count
+}
+
+// How many news were done and how many kept out, and how many swaps.
+fn counts_of(annals: &Annals) -> [u32; 4] {
+    [
+        count_conditional(annals, false, false),
+        count_conditional(annals, false, true),
+        count_conditional(annals, true, false),
+        count_conditional(annals, true, true),
+    ]
+}
+
+// A schedule of all kinds of writes. Answers what it had of those with conditions.
+fn check_all_kinds(rt: &impl Abort, alloc: Global, geo: Geometry, seed: u64) -> [u32; 4] {
     let core = schedule(rt, alloc, geo, seed, 2_400, true);
     let (disk, annals, totals) = core.end();
     let file = File::over(rt, geo, disk);
     check_left(rt, alloc, file, &annals, &totals);
+    counts_of(&annals)
 }
 
 // A schedule of so many steps for each line.
@@ -140,13 +174,24 @@ fn check_all(rt: &impl Abort, alloc: Global, geo: Geometry, steps: u32, lines: &
     }
 }
 
+// Adds what one schedule had to what those before it had.
+fn add_counts(sums: &mut [u32; 4], counts: [u32; 4]) {
+    for at in 0..4usize {
+        sums[at] = sums[at].saturating_add(counts[at]);
+    }
+}
+
 #[test]
-fn schedules_with_tails(rt: HostRuntime) {
+fn schedules_of_all_kinds_of_writes(rt: HostRuntime) {
     let alloc = rt.alloc();
+    let mut sums = [0; 4];
     for seed in 0..16 {
-        check_tails(&rt, alloc, Geometry::default(), seed);
-        check_tails(&rt, alloc, smallest(&rt), seed);
-        check_tails(&rt, alloc, steepest(&rt), seed);
+        for geo in [Geometry::default(), smallest(&rt), steepest(&rt)] {
+            add_counts(&mut sums, check_all_kinds(&rt, alloc, geo, seed));
+        }
+    }
+    for sum in sums {
+        assert!(rt; 50 < sum, "{sums:?}");
     }
 }
 

@@ -180,6 +180,31 @@ fn parts(head: Head, bytes: &[u8]) -> (Key, Rec)
     (key, record_of(head, bytes))
 }
 
+// Makes a record the one of a head and its text. A base or a delta that it was has its text written over.
+fn record_over(head: Head, text: &[u8], rec: &mut Rec)
+    requires head { IsHead head }
+    requires len { length text.now ≡ head.text_len }
+    ensures { rec.new ≡ rec_with head.kind head.count text.now }
+{
+    match head.kind {
+        Kind::Base => rec.set_base(head.count, text),
+        Kind::Delta => rec.set_delta(head.count, text),
+        Kind::Tomb => *rec = Rec::Tomb,
+    }
+}
+
+// Makes a key and a record those of a head and its bytes.
+fn parts_over(head: Head, bytes: &[u8], key: &mut Key, rec: &mut Rec)
+    requires head { IsHead head }
+    requires len { length bytes.now ≡ head.key_len + head.text_len }
+    ensures key { key.new ≡ take head.key_len bytes.now }
+    ensures rec { rec.new ≡ rec_with head.kind head.count (drop head.key_len bytes.now) }
+{
+    let (key_bytes, text_bytes) = bytes.split_at(head.key_len as usize);
+    key.set(key_bytes);
+    record_over(head, text_bytes, rec);
+}
+
 impl Store {
     /// How many bytes of memory a place takes: a head, and one chunk. That is enough: the chunks of an entry are never more
     /// than the lightest entries that weigh what it does.
@@ -232,6 +257,18 @@ impl Store {
         let mut bytes = ArrayVec::new();
         read(&self.chunks, head.first, head.chunks(), &mut bytes);
         parts(head, &bytes.as_slice()[..head.len()])
+    }
+
+    /// Reads the entry at a place over another one. Where both are records of one kind, the bytes of the key and of the text are copied, and
+    /// nothing is blanked for them before.
+    pub fn read_over(&self, place: u32, key: &mut Key, rec: &mut Rec)
+        requires { place < length self.now.slots }
+        ensures { (entry : Key × Rec) → (key.new, rec.new) ≡ slice_index_or self.now.slots place entry }
+    {
+        let head = self.heads[place as usize];
+        let mut bytes = ArrayVec::new();
+        read(&self.chunks, head.first, head.chunks(), &mut bytes);
+        parts_over(head, &bytes.as_slice()[..head.len()], key, rec);
     }
 
     // A record takes some 450 bytes, and a call would copy it once more.

@@ -1,31 +1,22 @@
 //! The store that the cases begin with, and calls of the program over disks in memory.
 use crate::departure::Departure;
-use crate::disk::{NAME, OneShelf, PageDisk};
+use crate::disk::{OneShelf, PageDisk};
+use crate::words::words_of;
 use blsm_model::NoGate;
 use blsm_run::{Status, blsm_run};
-use std::alloc::{AllocError, Global};
+use std::alloc::Global;
 use std::sync::Wait;
 use std::thread::Threads;
 use text_io::{FaultlessSink, FaultlessSource, Sink, Source};
 
 // A store of the smallest geometry with short quanta.
-const MAKE: [&str; 9] = [
-    "blsm",
-    "make",
-    NAME,
-    "--half",
-    "17408",
-    "--ratio",
-    "2",
-    "--quantum",
-    "1024",
-];
+const MAKE: &str = "blsm make store --half 17408 --ratio 2 --quantum 1024";
 
-const RUN: [&str; 5] = ["blsm", "run", NAME, "--workers", "0"];
+const RUN: &str = "blsm run store --workers 0";
 
-const SERVE: [&str; 3] = ["blsm", "serve", NAME];
+const SERVE: &str = "blsm serve store";
 
-const CHECK: [&str; 3] = ["blsm", "check", NAME];
+const CHECK: &str = "blsm check store";
 
 /// How many bytes a text may have.
 pub const TEXT_LIMIT: u64 = 1 << 18;
@@ -43,14 +34,6 @@ pub struct Answer {
     pub status: Status,
     pub text: String,
     pub disk: PageDisk,
-}
-
-fn owned(alloc: Global, words: &[&str]) -> Result<Vec<String>, AllocError> {
-    let mut list = Vec::new(alloc);
-    for word in words {
-        list.push(String::from_str(alloc, word)?)?;
-    }
-    Ok(list)
 }
 
 /// What a sink holds, as a text.
@@ -108,9 +91,13 @@ pub struct Bench {
     made: PageDisk,
 }
 
-// The disk of a store that was just made.
-fn make<R: Threads + Wait + Sync>(rt: &R, alloc: Global) -> Result<PageDisk, Departure> {
-    let words = owned(alloc, &MAKE)?;
+// The disk of a store that the words of a call just made.
+fn make<R: Threads + Wait + Sync>(
+    rt: &R,
+    alloc: Global,
+    line: &str,
+) -> Result<PageDisk, Departure> {
+    let words = words_of(alloc, line)?;
     let answer = call(rt, alloc, &words, PageDisk::new(alloc), "")?;
     if answer.text.as_str() != "made 3481600\n" {
         return Err(Departure::found(alloc, "making", 0, &answer.text));
@@ -121,11 +108,22 @@ fn make<R: Threads + Wait + Sync>(rt: &R, alloc: Global) -> Result<PageDisk, Dep
 impl Bench {
     pub fn new<R: Threads + Wait + Sync>(rt: &R, alloc: Global) -> Result<Bench, Departure> {
         Ok(Bench {
-            run: owned(alloc, &RUN)?,
-            serve: owned(alloc, &SERVE)?,
-            check: owned(alloc, &CHECK)?,
-            made: make(rt, alloc)?,
+            run: words_of(alloc, RUN)?,
+            serve: words_of(alloc, SERVE)?,
+            check: words_of(alloc, CHECK)?,
+            made: make(rt, alloc, MAKE)?,
         })
+    }
+
+    /// Makes another store for the cases to come, with these options beside its own.
+    pub fn remake<R: Threads + Wait + Sync>(
+        &mut self,
+        rt: &R,
+        alloc: Global,
+        options: &str,
+    ) -> Result<(), Departure> {
+        self.made = make(rt, alloc, format!(in alloc; "{MAKE} {options}")?.as_str())?;
+        Ok(())
     }
 
     /// The disk of a store that was just made, on which no call was answered.

@@ -3,20 +3,11 @@ use crate::bench::call;
 use crate::departure::Departure;
 use crate::disk::PageDisk;
 use crate::scripts::{Scripts, lines_of};
-use crate::words::number;
+use crate::words::{number, words_of};
 use disk_trait::Disk;
-use std::alloc::{AllocError, Global};
+use std::alloc::Global;
 use std::sync::Wait;
 use std::thread::Threads;
-
-// The words of a call, parted by spaces.
-fn words_of(alloc: Global, line: &str) -> Result<Vec<String>, AllocError> {
-    let mut words = Vec::new(alloc);
-    for word in line.split(" ") {
-        words.push(String::from_str(alloc, word)?)?;
-    }
-    Ok(words)
-}
 
 // The words of a call, and the script that it reads. Behind `<-` it lacks the end of its last line.
 fn read_call<'a>(line: &'a str, scripts: &'a Scripts) -> Result<(&'a str, &'a str), Departure> {

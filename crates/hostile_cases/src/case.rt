@@ -8,11 +8,11 @@ use std::alloc::Global;
 use std::sync::Wait;
 use std::thread::Threads;
 
-/// Does what a line says: names a script, or checks a case.
+/// Does what a line says: names a script, makes another store for the cases to come, or checks a case.
 pub fn check<R: Threads + Wait + Sync>(
     rt: &R,
     alloc: Global,
-    bench: &Bench,
+    bench: &mut Bench,
     scripts: &mut Scripts,
     line: &str,
 ) -> Result<(), Departure> {
@@ -21,6 +21,7 @@ pub fn check<R: Threads + Wait + Sync>(
     };
     match word {
         "script" => scripts.add(rest),
+        "store" => bench.remake(rt, alloc, rest),
         "fail" => runs::check(rt, alloc, bench, scripts, Failing::Alone, rest),
         "stop" => runs::check(rt, alloc, bench, scripts, Failing::AndAfter, rest),
         "fails" => sweeps::check(rt, alloc, bench, scripts, Failing::Alone, rest),

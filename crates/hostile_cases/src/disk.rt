@@ -129,8 +129,8 @@ impl Disk for PageDisk {
     }
 }
 
-/// The name of the disk on its shelf.
-pub const NAME: &str = "store";
+// The name of the disk on its shelf.
+const NAME: &str = "store";
 
 /// A shelf of one disk.
 #[derive(Drop)]

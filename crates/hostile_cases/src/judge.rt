@@ -1,8 +1,8 @@
 //! A judge of histories of one caller, by the plain map: the list of the writes, and the rows that are held.
 use crate::departure::Departure;
-use crate::lookups::{reply_of, shown};
+use crate::lookups::{kept_of, reply_of, shown};
 use crate::words::number;
-use blsm_model::{Key, Op, Write, value_of};
+use blsm_model::{Key, Op, Value, Write, value_of};
 use std::alloc::{AllocError, Global};
 
 // The rows of a hold, as they are printed, and how many of them were given.
@@ -117,12 +117,30 @@ impl Judge {
         }
     }
 
+    // What a write that first looks at its key finds there.
+    fn looked_at(&self, op: &Op) -> Option<Value> {
+        match op {
+            Op::New(key, _) | Op::Swap(key, _, _) => value_of(&self.writes, key),
+            _ => None,
+        }
+    }
+
+    // The reply to a write: it is done where its condition holds.
+    fn reply_to_write(&self, op: &Op) -> Result<String, AllocError> {
+        let found = self.looked_at(op);
+        if op.is_met(&found) {
+            String::from_str(self.alloc, "ok")
+        } else {
+            kept_of(self.alloc, &found)
+        }
+    }
+
     // The reply to a command of a store that runs and whose calls don't fail. For work there is none that is known.
     fn reply_to(&self, op: &Op) -> Result<String, AllocError> {
         match op {
-            Op::Put(..) | Op::Add(..) | Op::Tail(..) | Op::Del(_) => String::from_str(
-                self.alloc, "ok",
-            ),
+            Op::Put(..) | Op::Add(..) | Op::Tail(..) | Op::Del(_) | Op::New(..) | Op::Swap(..) => {
+                self.reply_to_write(op)
+            }
             Op::Get(key) => reply_of(self.alloc, &value_of(&self.writes, key)),
             Op::Hold(..) => String::from_str(self.alloc, "held"),
             Op::Next(n) => match &self.held {
@@ -137,10 +155,18 @@ impl Judge {
         }
     }
 
+    // Whether it is a write whose condition holds.
+    fn is_taken(&self, op: &Op) -> bool {
+        op.is_write() && op.is_met(&self.looked_at(op))
+    }
+
     // Goes on by a command that was answered well.
     fn go_on(&mut self, op: &Op) -> Result<(), AllocError> {
+        self.may_have_paid = self.is_taken(op);
+        if op.is_write() && self.may_have_paid {
+            self.writes.push(op.write())?;
+        }
         match op {
-            Op::Put(..) | Op::Add(..) | Op::Tail(..) | Op::Del(_) => self.writes.push(op.write())?,
             Op::Hold(low, high) => {
                 let rows = rows_of(self.alloc, &self.writes, low, high)?;
                 self.held = Some(Held { rows, given: 0 });
@@ -152,9 +178,8 @@ impl Judge {
                 }
             }
             Op::Release => self.held = None,
-            Op::Get(_) | Op::Work(_) => {}
+            _ => {}
         }
-        self.may_have_paid = op.is_write();
         Ok(())
     }
 
@@ -164,17 +189,31 @@ impl Judge {
         self.stopped = Some(self.faults);
     }
 
+    // Whether the reply tells that a write failed whose condition holds. One in doubt may be there or not.
+    fn may_be_lost(&mut self, op: &Op, reply: &str) -> bool {
+        if !op.is_write() || !self.is_taken(op) {
+            return false;
+        }
+        if reply == "fault unsure" {
+            self.unsure = Some(op.write());
+            return true;
+        }
+        reply == "fault lost"
+    }
+
     // Whether the reply to a command of a store that runs tells of a failure that may have come.
     fn may_fail(&mut self, op: &Op, reply: &str) -> bool {
         match (op, reply) {
-            (Op::Get(_) | Op::Next(_), "fault") => self.faults = self.faults.saturating_add(1),
+            (Op::Get(_) | Op::Next(_) | Op::New(..) | Op::Swap(..), "fault") => {
+                self.faults = self.faults.saturating_add(1);
+            }
             (Op::Work(_), "fault") => self.stop(),
-            (Op::Put(..) | Op::Add(..) | Op::Tail(..) | Op::Del(_), "fault lost") => self.stop(),
-            (Op::Put(..) | Op::Add(..) | Op::Tail(..) | Op::Del(_), "fault unsure") => {
-                self.unsure = Some(op.write());
+            _ => {
+                if !self.may_be_lost(op, reply) {
+                    return false;
+                }
                 self.stop();
             }
-            _ => return false,
         }
         self.may_have_paid = false;
         true

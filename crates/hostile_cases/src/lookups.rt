@@ -35,6 +35,17 @@ pub fn reply_of(alloc: Global, value: &Option<Value>) -> Result<String, AllocErr
     }
 }
 
+/// The reply to a write whose condition doesn't hold where its key has this value.
+pub fn kept_of(alloc: Global, value: &Option<Value>) -> Result<String, AllocError> {
+    match value {
+        Some(value) => {
+            let text = shown(value.text.as_bytes());
+            format!(in alloc; "kept {} {text}", value.count)
+        }
+        None => String::from_str(alloc, "kept none"),
+    }
+}
+
 impl Map {
     fn new(alloc: Global) -> Map {
         Map {

@@ -1,5 +1,6 @@
-//! Cases of failing calls, stops and damage. Each line of the input is a case: what is done to a store on a disk in memory, and what must be
-//! answered. A case that departs is printed, and in the end how many cases there were.
+//! Cases of failing calls, stops and damage. Each line of the input names a script, makes the store that the next ones begin with, or is a
+//! case: what is done to a store on a disk in memory, and what must be answered. A case that departs is printed, and in the end how many cases
+//! there were.
 #![tactic(auto)]
 
 mod alike;
@@ -27,7 +28,7 @@ fn main(rt: HostRuntime) -> io::Result<()> {
     let alloc = rt.alloc();
     let mut scripts = Scripts::new(alloc);
     let mut count = 0u64;
-    let Ok(bench) = Bench::new(&rt, alloc) else {
+    let Ok(mut bench) = Bench::new(&rt, alloc) else {
         return println!(rt; "no store");
     };
     for line in rt.lines(alloc) {
@@ -35,7 +36,7 @@ fn main(rt: HostRuntime) -> io::Result<()> {
         if scripts::is_remark(&line) {
             continue;
         }
-        if let Err(departure) = case::check(&rt, alloc, &bench, &mut scripts, &line) {
+        if let Err(departure) = case::check(&rt, alloc, &mut bench, &mut scripts, &line) {
             println!(rt; "{line}: {departure}")?;
         }
         if scripts::is_case(&line) {

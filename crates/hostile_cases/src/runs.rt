@@ -54,7 +54,8 @@ fn reply_of(line: &str) -> Option<&str> {
 
 // The lines of a history have these replies, and no other line has one.
 fn check_replies(alloc: Global, text: &str, replies: &str) -> Result<(), Departure> {
-    let mut wanted = replies.split("; ");
+    let replies = lines_of(alloc, replies)?;
+    let mut wanted = replies.lines();
     for line in text.lines() {
         if let Some(reply) = reply_of(line) {
             if wanted.next() != Some(reply) {

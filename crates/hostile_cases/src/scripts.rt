@@ -9,9 +9,9 @@ pub fn is_remark(line: &str) -> bool {
     line.is_empty() || line.starts_with("#")
 }
 
-/// A line that names no script.
+/// A line that names no script and makes no store.
 pub fn is_case(line: &str) -> bool {
-    !line.starts_with("script ")
+    !line.starts_with("script ") && !line.starts_with("store ")
 }
 
 /// Scripts by their names.

@@ -45,6 +45,14 @@ impl<'a> LentEntry<'a> {
         self.store.compare(key, self.place)
     }
 
+    /// Makes a key and a record those of the entry. Where the record is of the entry's kind, the bytes of both are copied, and nothing is
+    /// blanked for them before.
+    pub fn read_over(&self, key: &mut Key, rec: &mut Rec)
+        ensures { (key.new, rec.new) ≡ self.now }
+    {
+        self.store.read_over(self.place, key, rec);
+    }
+
     /// The entry as a value of its own. It takes no memory.
     pub fn copy(&self) -> (Key, Rec)
         ensures { result ≡ self.now }

@@ -18,7 +18,6 @@ use page_file::{Broken, no_component};
 use page_space::{Role, Space};
 use record_delta::{Rec, Stream, weight};
 use run_cursor::Cursor;
-use run_writer::a_run_has_room;
 use snow_merge::Snow;
 use std::alloc::Global;
 use std::process::Abort;
@@ -274,7 +273,6 @@ impl Store {
         let File { geo, mut disk } = file;
         assert_that(rt, c1.pages != 0 || *c1 == no_component());
         let _role = role.number();
-        a_run_has_room();
         let mut filter = empty_filter(rt, alloc);
         let mut fences = empty_fences(rt, alloc, &geo);
         let mut snow = Snow::begin(c1, role, FILTER_BITS, &mut filter, &mut fences);
@@ -344,7 +342,6 @@ impl Store {
         assert_that(rt, c1x.pages != 0 || *c1x == no_component());
         assert_that(rt, c2.pages != 0 || *c2 == no_component());
         let _role = role.number();
-        a_run_has_room();
         let mut filter = empty_filter(rt, alloc);
         let mut fences = empty_fences(rt, alloc, &geo);
         let mut deep = Deep::begin(c1x, c2, role, FILTER_BITS, &mut filter, &mut fences);

@@ -46,15 +46,46 @@ fn keys_and_texts_have_their_lengths(rt: HostRuntime) {
     }
 }
 
+// It is a write, and weighs so many bytes.
+fn weighs(rt: &impl Abort, op: &Op, weight: u64) {
+    assert!(rt; op.is_write());
+    assert_same(rt, op.weight(), weight);
+}
+
 #[test]
 fn writes_weigh_their_entry(rt: HostRuntime) {
     let bytes = [b'x'; 435];
     let heaviest = Op::Put(key(&rt, &bytes[..64]), value(&rt, 9, &bytes));
-    assert_same(&rt, heaviest.weight(), Op::MAX_WEIGHT);
-    let put = Op::Put(key(&rt, b"a"), value(&rt, 5, b"hi"));
-    assert_same(&rt, put.weight(), 16);
-    assert_same(&rt, Op::Add(key(&rt, b"a"), 7).weight(), 14);
-    assert_same(&rt, Op::Del(key(&rt, b"a")).weight(), 14);
+    weighs(&rt, &heaviest, Op::MAX_WEIGHT);
+    weighs(&rt, &Op::Put(key(&rt, b"a"), value(&rt, 5, b"hi")), 16);
+    weighs(&rt, &Op::Add(key(&rt, b"a"), 7), 14);
+    weighs(&rt, &Op::Del(key(&rt, b"a")), 14);
+    weighs(&rt, &new_a(&rt, 5, b"hi"), 16);
+    weighs(&rt, &swap_a(&rt, 7, 5, b"hi"), 16);
+}
+
+fn new_a(rt: &impl Abort, count: u64, text: &[u8]) -> Op {
+    Op::New(key(rt, b"a"), value(rt, count, text))
+}
+
+fn swap_a(rt: &impl Abort, from: u64, count: u64, text: &[u8]) -> Op {
+    Op::Swap(key(rt, b"a"), from, value(rt, count, text))
+}
+
+// Whether it looks first, and whether its condition holds where there is no value, one of count 5 and one of count 7.
+fn has_condition(rt: &impl Abort, op: &Op, looks: bool, met: [bool; 3]) {
+    assert_same(rt, op.looks_first(), looks);
+    assert_same(rt, op.is_met(&None), met[0]);
+    assert_same(rt, op.is_met(&Some(value(rt, 5, b"x"))), met[1]);
+    assert_same(rt, op.is_met(&Some(value(rt, 7, b""))), met[2]);
+}
+
+#[test]
+fn a_condition_goes_by_the_value(rt: HostRuntime) {
+    has_condition(&rt, &new_a(&rt, 5, b""), true, [true, false, false]);
+    has_condition(&rt, &swap_a(&rt, 5, 7, b""), true, [false, true, false]);
+    has_condition(&rt, &swap_a(&rt, 0, 7, b""), true, [false, false, false]);
+    has_condition(&rt, &Op::Get(key(&rt, b"a")), false, [true, true, true]);
 }
 
 fn row(rt: &impl Abort, count: u64, text: &[u8]) -> Row {
@@ -277,6 +308,27 @@ fn the_plain_store_answers_the_worked_examples(rt: HostRuntime) {
     is_got(&rt, &mut plain, b"n", Reply::Is(value(&rt, 1, b"")));
     is_deleted(&rt, &mut plain, b"n", Reply::Full(58));
     is_got(&rt, &mut plain, b"n", Reply::Is(value(&rt, 1, b"")));
+}
+
+// A new of a key that is there, and swaps of the right count and of another.
+fn new_and_swaps(rt: &impl Abort, plain: &mut Plain) {
+    is_answered(rt, plain, new_a(rt, 1, b"x"), Reply::Done);
+    let kept = Reply::Kept(Some(value(rt, 1, b"x")));
+    is_answered(rt, plain, new_a(rt, 2, b"y"), kept);
+    is_answered(rt, plain, swap_a(rt, 1, 7, b"z"), Reply::Done);
+    let kept = Reply::Kept(Some(value(rt, 7, b"z")));
+    is_answered(rt, plain, swap_a(rt, 1, 9, b"z"), kept);
+    is_got(rt, plain, b"a", Reply::Is(value(rt, 7, b"z")));
+}
+
+#[test]
+fn the_plain_store_looks_first(rt: HostRuntime) {
+    let mut plain = Plain::new(rt.alloc(), 44);
+    new_and_swaps(&rt, &mut plain);
+    is_deleted(&rt, &mut plain, b"a", Reply::Done);
+    is_answered(&rt, &mut plain, swap_a(&rt, 7, 1, b""), Reply::Kept(None));
+    is_answered(&rt, &mut plain, new_a(&rt, 3, b""), Reply::Full(44));
+    is_got(&rt, &mut plain, b"a", Reply::Absent);
 }
 
 // The entry of this place is that of this seat, with this reply.

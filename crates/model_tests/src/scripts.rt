@@ -52,6 +52,16 @@ fn writes_and_gets_are_read(rt: HostRuntime) {
 }
 
 #[test]
+fn writes_that_look_first_are_read(rt: HostRuntime) {
+    const TEXT: &[u8] = b"16 new a 5 hi\n1 swap a 5 18446744073709551615 -";
+    let script = script_of(&rt, rt.alloc(), TEXT);
+    let new = Op::New(key(&rt, b"a"), value(&rt, 5, b"hi"));
+    is_line(&rt, &script, 0, 15, new);
+    let swap = Op::Swap(key(&rt, b"a"), 5, value(&rt, 18446744073709551615, b""));
+    is_line(&rt, &script, 1, 0, swap);
+}
+
+#[test]
 fn works_and_holds_are_read(rt: HostRuntime) {
     let script = script_of(&rt, rt.alloc(), SCRIPT);
     is_line(&rt, &script, 5, 2, Op::Work(1000));
@@ -150,22 +160,74 @@ fn a_line_is_read_without_its_end(rt: HostRuntime) {
     }
 }
 
-// A put by caller 16 of a key of 64 bytes, a count of 20 digits and a text of so many.
-fn longest_put(rt: &impl Abort, alloc: Global, text: u32) -> Vec<u8> {
-    let mut line = repeated(rt, alloc, b"16 put ", 1);
-    add_text(rt, &mut line, repeated(rt, alloc, b"k", 64).as_slice());
-    add_text(rt, &mut line, b" 18446744073709551615 ");
-    add_text(rt, &mut line, repeated(rt, alloc, b"t", text).as_slice());
+// A line, by its words before the key, the key's length, its words behind it, and the text's length.
+fn line_of(
+    rt: &impl Abort,
+    alloc: Global,
+    before: &[u8],
+    key: u32,
+    behind: &[u8],
+    text: u32,
+) -> Vec<u8> {
+    let mut line = repeated(rt, alloc, before, 1);
+    add_text(rt, &mut line, &repeated(rt, alloc, b"k", key));
+    add_text(rt, &mut line, behind);
+    add_text(rt, &mut line, &repeated(rt, alloc, b"t", text));
     line
+}
+
+// A swap by caller 16 of a key of 64 bytes, of two counts of 20 digits and a text of so many.
+fn longest_swap(rt: &impl Abort, alloc: Global, text: u32) -> Vec<u8> {
+    const COUNTS: &[u8] = b" 18446744073709551615 18446744073709551615 ";
+    line_of(rt, alloc, b"16 swap ", 64, COUNTS, text)
 }
 
 #[test]
 fn the_longest_line_has_its_length(rt: HostRuntime) {
-    let longest = longest_put(&rt, rt.alloc(), 435);
+    let longest = longest_swap(&rt, rt.alloc(), 435);
     assert_same(&rt, longest.len(), LONGEST_LINE);
     assert_that(&rt, read_line(longest.as_slice()).is_some());
-    let longer = longest_put(&rt, rt.alloc(), 436);
+    let longer = longest_swap(&rt, rt.alloc(), 436);
     assert_that(&rt, read_line(longer.as_slice()).is_none());
+}
+
+#[test]
+fn a_line_of_a_write_that_looks_first_has_its_words(rt: HostRuntime) {
+    const CASES: [(&[u8], Result<usize, ScriptFault>); 24] = [
+        (b"1 new a 1 -", Ok(1)),
+        (b"16 new a 18446744073709551615 x\n", Ok(1)),
+        (b"1 swap a 0 1 -", Ok(1)),
+        (b"1 swap - 18446744073709551615 0 --", Ok(1)),
+        (b"1 new", Err(ScriptFault::Bad(1))),
+        (b"1 new a", Err(ScriptFault::Bad(1))),
+        (b"1 new a 1", Err(ScriptFault::Bad(1))),
+        (b"1 new a 1 ", Err(ScriptFault::Bad(1))),
+        (b"1 new a 1 x y", Err(ScriptFault::Bad(1))),
+        (b"1 new a -1 x", Err(ScriptFault::Bad(1))),
+        (b"1 new a 01 x", Err(ScriptFault::Bad(1))),
+        (b"1 new a 18446744073709551616 x", Err(ScriptFault::Bad(1))),
+        (b"1 news a 1 x", Err(ScriptFault::Bad(1))),
+        (b"1 swap", Err(ScriptFault::Bad(1))),
+        (b"1 swap a 1", Err(ScriptFault::Bad(1))),
+        (b"1 swap a 1 2", Err(ScriptFault::Bad(1))),
+        (b"1 swap a 1 2 ", Err(ScriptFault::Bad(1))),
+        (b"1 swap a 1 2 x y", Err(ScriptFault::Bad(1))),
+        (b"1 swap a -1 2 x", Err(ScriptFault::Bad(1))),
+        (b"1 swap a 01 2 x", Err(ScriptFault::Bad(1))),
+        (b"1 swap a 1 -2 x", Err(ScriptFault::Bad(1))),
+        (
+            b"1 swap a 1 18446744073709551616 x",
+            Err(ScriptFault::Bad(1)),
+        ),
+        (
+            b"1 swap a 18446744073709551616 1 x",
+            Err(ScriptFault::Bad(1)),
+        ),
+        (b"1 new a 1 x\n1 swap a 1 2\n", Err(ScriptFault::Bad(2))),
+    ];
+    for &(text, wanted) in &CASES {
+        assert_same(&rt, count_lines(rt.alloc(), text), wanted);
+    }
 }
 
 #[test]
@@ -234,25 +296,23 @@ fn a_script_asks_for_so_many_rows(rt: HostRuntime) {
     }
 }
 
-// A line of a put, by the lengths of its key and of its text.
-fn put_line(rt: &impl Abort, alloc: Global, key: u32, text: u32) -> Vec<u8> {
-    let mut line = repeated(rt, alloc, b"1 put ", 1);
-    add_text(rt, &mut line, &repeated(rt, alloc, b"k", key));
-    add_text(rt, &mut line, b" 9 ");
-    add_text(rt, &mut line, &repeated(rt, alloc, b"t", text));
-    line
-}
-
-#[test]
-fn keys_and_texts_have_their_limits(rt: HostRuntime) {
+// The limits of the key and the text of a write, by its words before and behind the key.
+fn has_limits(rt: &impl Abort, alloc: Global, before: &[u8], behind: &[u8]) {
     for &(key_len, text_len, wanted) in &[
         (64, 435, Ok(1)),
         (65, 435, Err(ScriptFault::Bad(1))),
         (64, 436, Err(ScriptFault::Bad(1))),
     ] {
-        let line = put_line(&rt, rt.alloc(), key_len, text_len);
-        assert_same(&rt, count_lines(rt.alloc(), &line), wanted);
+        let line = line_of(rt, alloc, before, key_len, behind, text_len);
+        assert_same(rt, count_lines(alloc, &line), wanted);
     }
+}
+
+#[test]
+fn keys_and_texts_have_their_limits(rt: HostRuntime) {
+    has_limits(&rt, rt.alloc(), b"1 put ", b" 9 ");
+    has_limits(&rt, rt.alloc(), b"1 new ", b" 9 ");
+    has_limits(&rt, rt.alloc(), b"1 swap ", b" 9 10 ");
 }
 
 #[test]
@@ -502,6 +562,15 @@ fn note_gets(rt: &impl Abort, annals: &mut Annals) {
     }
 }
 
+fn note_conditions(rt: &impl Abort, annals: &mut Annals) {
+    let new = Op::New(key(rt, b"a"), value(rt, 5, b"hi"));
+    note_last(rt, annals, new, Reply::Kept(Some(value(rt, 7, b""))));
+    for reply in [Reply::Kept(None), Reply::Damaged(9)] {
+        let swap = Op::Swap(key(rt, b"a"), 5, value(rt, 7, b""));
+        note_last(rt, annals, swap, reply);
+    }
+}
+
 const EACH: &[u8] = b"open charge 18446744073709551615
 1 16 add a 7 => full 121856 q0
 2 16 add a 18446744073709551615 => fault lost q0
@@ -517,6 +586,9 @@ const EACH: &[u8] = b"open charge 18446744073709551615
 12 16 get a => damaged page 9 q0
 13 16 get a => stopped fault 1 q0
 14 16 get a => stopped page 4294967295 q0
+15 16 new a 5 hi => kept 7 - q0
+16 16 swap a 5 7 - => kept none q0
+17 16 swap a 5 7 - => damaged page 9 q0
 end c0 1 of 34816 callers 2 workers 3 swaps 4 5
 ";
 
@@ -539,5 +611,6 @@ fn each_command_and_reply_has_its_words(rt: HostRuntime) {
     note_nexts(&rt, &mut annals);
     note_work(&rt, &mut annals);
     note_gets(&rt, &mut annals);
+    note_conditions(&rt, &mut annals);
     is_printed(&rt, rt.alloc(), 18446744073709551615, &annals, &ALL, EACH);
 }

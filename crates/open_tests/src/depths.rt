@@ -1,10 +1,10 @@
-// How many pages a get reads, by what the memory table and the components have of the key.
+// How many pages a get reads, or a write that looks first, by what the memory table and the components have of the key.
 use crate::asserts::{assert_same, assert_same_at, assert_that, assert_that_at};
 use crate::maps::{follow, told_at};
 use crate::rich::{KEYS, fill_c1x, fill_c2};
-use crate::samples::{add, del, key_of, long, put};
+use crate::samples::{add, del, key_of, long, new, put, swap};
 use crate::stops::calls_of;
-use crate::stores::{admit, made, make, open, quickest, report, work};
+use crate::stores::{admit, copy, made, make, open, quickest, report, work};
 use blsm_model::{Annals, Op};
 use disk_mem::MemDisk;
 use std::alloc::Global;
@@ -47,55 +47,76 @@ fn make_deep(rt: &impl Abort, alloc: Global) -> Core<MemDisk> {
     core
 }
 
-// Gets the keys of these numbers from the store. Answers its history, and how many calls its disk had in all.
-fn get_from(rt: &impl Abort, alloc: Global, numbers: &[usize]) -> (Annals, u64) {
+// How many calls the disk of the store has had.
+fn calls_before(rt: &impl Abort, alloc: Global) -> u64 {
+    let (disk, _, _) = make_deep(rt, alloc).end();
+    check_deep(rt, alloc, &mut copy(rt, &disk));
+    calls_of(disk)
+}
+
+// The store does this. Answers its history, and how many calls its disk had in all.
+fn calls_behind(rt: &impl Abort, alloc: Global, kind: Kind) -> (Annals, u64) {
     let mut core = make_deep(rt, alloc);
-    for number in numbers {
-        make(
-            alloc,
-            &mut core,
-            0,
-            Kind::Look(Op::Get(key_of(rt, *number))),
-        );
-    }
-    let (mut disk, annals, totals) = core.end();
+    make(alloc, &mut core, 0, kind);
+    let (disk, annals, totals) = core.end();
     assert_that(rt, totals.stopped.is_none());
-    check_deep(rt, alloc, &mut disk);
     (annals, calls_of(disk))
 }
 
-// A get of the key of this number reads so many pages, and tells what the writes led to.
-fn check_get(rt: &impl Abort, alloc: Global, before: u64, number: usize, reads: u64) {
-    let (annals, calls) = get_from(rt, alloc, &[number]);
-    assert_same_at(rt, calls, before.saturating_add(reads), number);
+// The last entry tells what the writes led to of the key of this number.
+fn check_told(rt: &impl Abort, alloc: Global, annals: &Annals, number: usize) {
     let last = (annals.len() as u32).saturating_sub(1);
-    let told = told_at(rt, &annals, last);
-    let map = follow(rt, alloc, KEYS, &annals);
-    let Some(value) = map.get(number) else {
-        rt.abort()
-    };
+    let told = told_at(rt, annals, last);
+    let map = follow(rt, alloc, KEYS, annals);
+    let value = map.get(number).expect(rt, "a key of the map");
     assert_that_at(rt, told == *value, number);
 }
 
-// Two deltas over a base, a base and a tombstone in C1', a base in C1 under a delta in memory and one alone, a base and a tombstone in memory
-// over bases, and keys that aren't there.
+// A get of the key of this number, or a write that its condition keeps out, reads so many pages, and tells what the writes led to.
+fn check_look(rt: &impl Abort, alloc: Global, number: usize, kind: Kind, calls: u64) {
+    let (annals, made) = calls_behind(rt, alloc, kind);
+    assert_same_at(rt, made, calls, number);
+    check_told(rt, alloc, &annals, number);
+}
+
+// A new of a key that isn't there is appended, by four calls more.
+fn check_taken(rt: &impl Abort, alloc: Global, number: usize, calls: u64) {
+    let (annals, made) = calls_behind(rt, alloc, Kind::Admit(new(rt, number, 0, 0)));
+    assert_same_at(rt, made, calls.saturating_add(4), number);
+    let map = follow(rt, alloc, KEYS, &annals);
+    let value = map.get(number).expect(rt, "a key of the map");
+    assert_that_at(rt, value.is_some(), number);
+}
+
+// A get and a swap from a count that no key has.
+fn check_both(rt: &impl Abort, alloc: Global, number: usize, calls: u64) {
+    let get = Kind::Look(Op::Get(key_of(rt, number)));
+    check_look(rt, alloc, number, get, calls);
+    let swap = Kind::Admit(swap(rt, number, 77, 0, 0));
+    check_look(rt, alloc, number, swap, calls);
+}
+
+// Two deltas over a base, a base in C1', a base in C1 under a delta in memory and one alone, and a base in memory over one.
 #[test]
-fn a_get_reads_a_page_of_each_component_down_to_a_base(rt: HostRuntime) {
+fn a_lookup_reads_a_page_of_each_component_down_to_a_base(rt: HostRuntime) {
     let alloc = rt.alloc();
-    let (_, before) = get_from(&rt, alloc, &[]);
-    let rows = [
-        (2, 3),
-        (1, 1),
-        (6, 1),
-        (3, 1),
-        (7, 1),
-        (8, 0),
-        (5, 0),
-        (0, 0),
-        (4, 0),
-        (15, 0),
-    ];
-    for (number, reads) in rows {
-        check_get(&rt, alloc, before, number, reads);
+    let before = calls_before(&rt, alloc);
+    for (number, reads) in [(2, 3), (1, 1), (3, 1), (7, 1), (8, 0)] {
+        let calls = before.saturating_add(reads);
+        check_both(&rt, alloc, number, calls);
+        let new = Kind::Admit(new(&rt, number, 0, 0));
+        check_look(&rt, alloc, number, new, calls);
+    }
+}
+
+// A tombstone in C1' and one in memory over bases, and keys that were never there.
+#[test]
+fn a_lookup_of_no_key_reads_a_page_down_to_a_tombstone(rt: HostRuntime) {
+    let alloc = rt.alloc();
+    let before = calls_before(&rt, alloc);
+    for (number, reads) in [(6, 1), (5, 0), (0, 0), (4, 0), (15, 0)] {
+        let calls = before.saturating_add(reads);
+        check_both(&rt, alloc, number, calls);
+        check_taken(&rt, alloc, number, calls);
     }
 }

@@ -1,5 +1,5 @@
 // A disk on which one call fails, each in turn.
-use crate::asserts::{assert_same_at, assert_that, assert_that_at};
+use crate::asserts::{assert_same, assert_same_at, assert_that, assert_that_at};
 use crate::maps::map_of;
 use crate::rich::{KEYS, Rich, make_rich};
 use crate::stops::{calls_of, calls_of_opening};
@@ -41,6 +41,40 @@ fn checking_tells_each_fault(rt: HostRuntime) {
     for call in 1..all.saturating_add(1) {
         check_checking(&rt, alloc, &store, call, &then);
     }
+}
+
+// How many calls a reading of this store makes: two for its superblock and its length, two for its slots, one for each page of a component, one for
+// each record of a lane, and one for the closed gate behind those of each.
+fn calls_of_reading(found: &Report) -> u64 {
+    let pages = u64::from(found.c1.pages)
+        .saturating_add(u64::from(found.c1x.pages))
+        .saturating_add(u64::from(found.c2.pages));
+    let records = found.lane_a.saturating_add(found.lane_b);
+    pages.saturating_add(records).saturating_add(6)
+}
+
+#[test]
+fn a_check_reads_each_page_and_each_record_once(rt: HostRuntime) {
+    let alloc = rt.alloc();
+    let store = make_rich(&rt, alloc);
+    let mut disk = copy(&rt, &store.disk);
+    let found = report(&rt, alloc, &mut disk);
+    assert_same(&rt, calls_of(disk), calls_of_reading(&found));
+}
+
+// Where nothing is to be settled an opening syncs and reads.
+#[test]
+fn an_opening_reads_each_page_once(rt: HostRuntime) {
+    let alloc = rt.alloc();
+    let store = make_rich(&rt, alloc);
+    let (settled, _, _) = open(&rt, alloc, copy(&rt, &store.disk)).end();
+    let mut disk = copy(&rt, &settled);
+    let found = report(&rt, alloc, &mut disk);
+    assert_same(
+        &rt,
+        calls_of_opening(&rt, alloc, &settled),
+        calls_of_reading(&found).saturating_add(1),
+    );
 }
 
 // Opening tells a fault of a call, and the disk that is given back opens to the map.

@@ -1,5 +1,5 @@
 // Plain maps: what a history leads to, and what a core looks up.
-use crate::asserts::assert_same;
+use crate::asserts::{assert_same, assert_that};
 use crate::samples::{key_of, number_of};
 use crate::stores::make;
 use blsm_model::{Annals, Op, ShortReply, Text, Value};
@@ -37,14 +37,20 @@ fn with_tail(value: Option<&Value>, tail: &Text) -> Value {
 
 // What a write makes of the map.
 fn apply(map: &mut [Option<Value>], op: &Op) {
-    let (Op::Put(key, _) | Op::Add(key, _) | Op::Tail(key, _) | Op::Del(key)) = op else {
+    let (Op::Put(key, _)
+    | Op::Add(key, _)
+    | Op::Tail(key, _)
+    | Op::Del(key)
+    | Op::New(key, _)
+    | Op::Swap(key, _, _)) = op
+    else {
         return;
     };
     let Some(place) = map.get_mut(number_of(key)) else {
         return;
     };
     *place = match (op, place.as_ref()) {
-        (Op::Put(_, value), _) => Some(value.copy()),
+        (Op::Put(_, value) | Op::New(_, value) | Op::Swap(_, _, value), _) => Some(value.copy()),
         (Op::Add(_, more), Some(value)) => Some(Value {
             count: value.count.wrapping_add(*more),
             text: value.text.copy(),
@@ -58,23 +64,44 @@ fn apply(map: &mut [Option<Value>], op: &Op) {
     };
 }
 
-/// What a history of so many keys leads to, in which nothing failed.
+// A write that looks first is kept out by what the map has, and is done only where its condition holds.
+fn check_condition(rt: &impl Abort, map: &[Option<Value>], op: &Op, reply: &ShortReply) {
+    let (Op::New(key, _) | Op::Swap(key, _, _)) = op else {
+        return;
+    };
+    let value = map.get(number_of(key)).expect(rt, "a key of the map");
+    match reply {
+        ShortReply::Kept(found) => assert_that(rt, found == value && !op.is_met(value)),
+        ShortReply::Done => assert_that(rt, op.is_met(value)),
+        _ => rt.abort(),
+    }
+}
+
+// What an entry makes of the map.
+fn follow_one(rt: &impl Abort, map: &mut [Option<Value>], op: &Op, reply: &ShortReply) {
+    check_condition(rt, map, op, reply);
+    if *reply == ShortReply::Done {
+        apply(map, op);
+    }
+}
+
+/// What a history of so many keys leads to, in which nothing failed, no write was too big, and each new and each swap went by its condition.
 pub fn follow(rt: &impl Abort, alloc: Global, keys: usize, annals: &Annals) -> Map {
     let mut map = empty(rt, alloc, keys);
     for place in 0..annals.len() as u32 {
-        if annals.short_reply(place) == Some(&ShortReply::Done) {
-            apply(&mut map, annals.op(place));
+        if let Some(reply) = annals.short_reply(place) {
+            follow_one(rt, &mut map, annals.op(place), reply);
         }
     }
     map
 }
 
-/// The value that the entry at a place tells.
+/// The value that the entry at a place tells: of a get, or of a write that was kept out.
 pub fn told_at(rt: &impl Abort, annals: &Annals, place: u32) -> Option<Value> {
     assert!(rt; (place as usize) < annals.len());
     match annals.short_reply(place) {
-        Some(ShortReply::Is(value)) => Some(value.copy()),
-        Some(ShortReply::Absent) => None,
+        Some(ShortReply::Is(value) | ShortReply::Kept(Some(value))) => Some(value.copy()),
+        Some(ShortReply::Absent | ShortReply::Kept(None)) => None,
         _ => rt.abort(),
     }
 }

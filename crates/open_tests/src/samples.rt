@@ -75,7 +75,29 @@ pub fn del(rt: &impl Abort, number: usize) -> Op {
     Op::Del(key_of(rt, number))
 }
 
-/// Of twelve writes five put, three add, two put a tail and two delete; the key's number is below this. Sums of counts often wrap.
+pub fn new(rt: &impl Abort, number: usize, count: u64, length: usize) -> Op {
+    Op::New(key_of(rt, number), value(rt, count, length))
+}
+
+/// A swap from a count to another one.
+pub fn swap(rt: &impl Abort, number: usize, from: u64, count: u64, length: usize) -> Op {
+    Op::Swap(key_of(rt, number), from, value(rt, count, length))
+}
+
+// A write of few keys and few counts, so that conditions often hold: of six two are news, two swaps, one adds and one deletes.
+fn draw_contended(rt: &impl Abort, draws: &mut Draws, length: usize) -> Op {
+    let number = draws.below(6) as usize;
+    let count = draws.below(3);
+    match draws.below(6) {
+        0..=1 => new(rt, number, count, length),
+        2..=3 => swap(rt, number, draws.below(3), count, length),
+        4 => add(rt, number, count),
+        _ => del(rt, number),
+    }
+}
+
+/// Of sixteen writes five put, three add, two put a tail and two delete; the key's number is below this. Sums of counts often wrap. The other
+/// four are of few keys that are contended for.
 pub fn draw_write(rt: &impl Abort, draws: &mut Draws, keys: u64) -> Op
     requires { 0 < keys }
 {
@@ -85,10 +107,11 @@ pub fn draw_write(rt: &impl Abort, draws: &mut Draws, keys: u64) -> Op
         .wrapping_mul(u64::MAX / 3)
         .wrapping_add(draws.below(100));
     let length = draws.below(Text::MAX_LEN as u64 + 1) as usize;
-    match draws.below(12) {
+    match draws.below(16) {
         0..=4 => put(rt, number, count, length),
         5..=7 => add(rt, number, count),
         8..=9 => draw_tail(rt, draws, number),
-        _ => del(rt, number),
+        10..=11 => del(rt, number),
+        _ => draw_contended(rt, draws, length),
     }
 }

@@ -9,15 +9,16 @@ use Rattle.std.proofs.lemmas.List.{length-set}
 use Rattle.blsm_model.specs.Format.{callers}
 use Rattle.blsm_model.specs.Geometry.{charge_limit}
 use Rattle.blsm_model.specs.Values.{key_of, weight_of}
-use Rattle.blsm_model.specs.Histories.{is_done, writes_of}
+use Rattle.blsm_model.specs.Histories.{is_done, is_met, looked_at, looks_first, writes_of}
 use Rattle.blsm_model.specs.Legal.{is_write, total_weight, is_del}
 use Rattle.blsm_model.specs.declared.key.Key.{Key}
+use Rattle.blsm_model.specs.declared.row.Value.{Value}
 use Rattle.blsm_model.specs.declared.op.Op.{Op}
 use Rattle.blsm_model.specs.declared.op.Write.{Write}
 use Rattle.blsm_model.specs.declared.history.Why.{Why}
 use Rattle.blsm_model.specs.declared.history.Why.TheVariants.{Faulted}
 use Rattle.blsm_model.specs.declared.history.Reply.{Reply}
-use Rattle.blsm_model.specs.declared.history.Reply.TheVariants.{Done, Full, FaultLost, FaultUnsure, Stopped}
+use Rattle.blsm_model.specs.declared.history.Reply.TheVariants.{Damaged, Done, Fault, Full, FaultLost, FaultUnsure, Kept, Stopped}
 use Rattle.blsm_model.proofs.OpLemmas.{writes_one}
 use Rattle.record_delta.specs.declared.record.Rec.{Rec}
 use Rattle.record_delta.specs.Records.{record_of}
@@ -29,12 +30,33 @@ use Rattle.pacing.proofs.Promises.{moves_keep}
 use Rattle.record_delta.specs.Entries.{AreSorted, Entries, entries_weight, with_record}
 use Rattle.tree_machine.specs.declared.step.Kind.{Kind}
 use Rattle.tree_machine.specs.declared.step.Kind.TheVariants as kind
-use Rattle.tree_machine.specs.Lists.{Lists}
+use Rattle.tree_machine.specs.Lists.{Lists, value_in}
 use Rattle.tree_machine.specs.Merges.{Merge}
 use Rattle.tree_machine.specs.Layers.{IsSound, HasWay}
 use Rattle.tree_machine.specs.Machine.{Machine, charge}
 use Rattle.tree_machine.specs.Moves.{goes_to_a, with_write, take_write, with_peak, note, stop}
-use Rattle.tree_machine.specs.Steps.{Outcome, Well, FailedAfter, Broken, NoRoom, Replied, replied, deep_swapped, swaps_due, ready_for, taken_once, admit, admit_fitting, unless_stopped}
+use Rattle.tree_machine.specs.Steps.{
+  Outcome,
+  Well,
+  FailedAfter,
+  FailedLooking,
+  Broken,
+  NoRoom,
+  Replied,
+  replied,
+  deep_swapped,
+  swaps_due,
+  ready_for,
+  taken_once,
+  told_by_look,
+  refused_first,
+  admit,
+  admit_met,
+  admit_fitting,
+  is_full,
+  unless_refused,
+  unless_stopped,
+}
 use Rattle.tree_machine.specs.Stands.{FitsFormat}
 use Rattle.tree_machine.proofs.CarryLemmas.{ready_carries}
 use Rattle.tree_machine.proofs.LightLemmas.{write_is_light}
@@ -196,13 +218,40 @@ note_makes m seat k op reply is made paced t = makes seat k (Replied reply) m (n
 
 pub admission_makes : (m : Machine) (seat : ℕ) (op : Op) (outcome : Outcome) → IsSound m → HasWay m → IsPaced (pace_of m) → IsToldOf m → seat < callers → is_write op ≡ true
     → (m.stopped ≡ None → first_debt m.gears seat + second_debt m.gears seat ≡ 0) → AllByRecursion FitsFormat (writes_of op) → Makes seat (kind.Admit op) (admit m seat op outcome).answer m (admit m seat op outcome).state
-admission_makes m seat op outcome sound way paced t caller writing settled fits = by m.stopped refl (nat_lt (charge_limit m.gears.sizes (is_del op)) (charge m + total_weight (writes_of op))) refl outcome
+admission_makes m seat op outcome sound way paced t caller writing settled fits = by m.stopped refl
   where
-    by : (o : Option Why) → m.stopped ≡ o → (b : Bool) → nat_lt (charge_limit m.gears.sizes (is_del op)) (charge m + total_weight (writes_of op)) ≡ b → (e : Outcome)
-        → (let ended = unless_stopped o seat op m (cond b (replied seat op (Full (charge m)) m) (admit_fitting m seat op (total_weight (writes_of op)) e)) in Makes seat (kind.Admit op) ended.answer m ended.state)
-    by (Some why) is b test e = note_makes m seat (kind.Admit op) op (Stopped why) refl refl paced t
-    by None runs true test e = note_makes m seat (kind.Admit op) op (Full (charge m)) refl refl paced t
-    by None runs false test (FailedAfter commits faults) = failed_makes m seat op sound way paced t caller commits faults
-    by None runs false test Well = done_makes m seat op sound way paced t caller writing (settled runs) fits (ltb-false (charge_limit m.gears.sizes (is_del op)) (charge m + total_weight (writes_of op)) test)
-    by None runs false test (Broken page) = done_makes m seat op sound way paced t caller writing (settled runs) fits (ltb-false (charge_limit m.gears.sizes (is_del op)) (charge m + total_weight (writes_of op)) test)
-    by None runs false test NoRoom = done_makes m seat op sound way paced t caller writing (settled runs) fits (ltb-false (charge_limit m.gears.sizes (is_del op)) (charge m + total_weight (writes_of op)) test)
+    fitting : m.stopped ≡ None → charge m + total_weight (writes_of op) ≤ charge_limit m.gears.sizes (is_del op) → (e : Outcome)
+        → (let ended = admit_fitting m seat op (total_weight (writes_of op)) e in Makes seat (kind.Admit op) ended.answer m ended.state)
+    fitting runs room (FailedAfter commits faults) = failed_makes m seat op sound way paced t caller commits faults
+    fitting runs room (FailedLooking faults) = done_makes m seat op sound way paced t caller writing (settled runs) fits room
+    fitting runs room (Broken page) = done_makes m seat op sound way paced t caller writing (settled runs) fits room
+    fitting runs room Well = done_makes m seat op sound way paced t caller writing (settled runs) fits room
+    fitting runs room NoRoom = done_makes m seat op sound way paced t caller writing (settled runs) fits room
+
+    met : m.stopped ≡ None → (b : Bool) → is_full m op ≡ b → (e : Outcome)
+        → (let ended = cond b (replied seat op (Full (charge m)) m) (admit_fitting m seat op (total_weight (writes_of op)) e) in Makes seat
+        (kind.Admit op) ended.answer m ended.state)
+    met runs true test e = note_makes m seat (kind.Admit op) op (Full (charge m)) refl refl paced t
+    met runs false test e = fitting runs (ltb-false (charge_limit m.gears.sizes (is_del op)) (charge m + total_weight (writes_of op)) test) e
+
+    kept : m.stopped ≡ None → (holds : Bool) (found : Option Value) (e : Outcome)
+        → (let ended = unless_refused (cond holds None (Some (Kept found))) seat op m (admit_met m seat op e) in Makes seat (kind.Admit op)
+        ended.answer m ended.state)
+    kept runs true found e = met runs (is_full m op) refl e
+    kept runs false found e = note_makes m seat (kind.Admit op) op (Kept found) refl refl paced t
+
+    looked : m.stopped ≡ None → (first holds : Bool) (found : Option Value) (e : Outcome)
+        → (let ended = unless_refused (cond first (told_by_look e holds found) None) seat op m (admit_met m seat op e) in Makes seat (kind.Admit op)
+        ended.answer m ended.state)
+    looked runs false holds found e = met runs (is_full m op) refl e
+    looked runs true holds found (FailedLooking faults) = note_makes m seat (kind.Admit op) op Fault refl refl paced t
+    looked runs true holds found (Broken page) = note_makes m seat (kind.Admit op) op (Damaged page) refl refl paced t
+    looked runs true holds found (FailedAfter commits faults) = kept runs holds found (FailedAfter commits faults)
+    looked runs true holds found Well = kept runs holds found Well
+    looked runs true holds found NoRoom = kept runs holds found NoRoom
+
+    by : (o : Option Why) → m.stopped ≡ o
+        → (let ended = unless_stopped o seat op m (unless_refused (refused_first m op outcome) seat op m (admit_met m seat op outcome)) in Makes seat
+        (kind.Admit op) ended.answer m ended.state)
+    by (Some why) is = note_makes m seat (kind.Admit op) op (Stopped why) refl refl paced t
+    by None runs = looked runs (looks_first op) (is_met op (value_in m.lists)) (looked_at op (value_in m.lists)) outcome

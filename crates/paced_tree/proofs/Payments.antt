@@ -22,7 +22,21 @@ use Rattle.tree_machine.specs.Merges.{Merge, cursor_after, quantum_of}
 use Rattle.tree_machine.specs.Layers.{IsSound}
 use Rattle.tree_machine.specs.Machine.{Machine, Seats}
 use Rattle.tree_machine.specs.Moves.{count_quantum, pass_quantum_of, deep_quantum_of}
-use Rattle.tree_machine.specs.Steps.{Outcome, Well, FailedAfter, Broken, NoRoom, Paid, forgive, last_write, count_for_write, pay, pay_running, pay_planned}
+use Rattle.tree_machine.specs.Steps.{
+  Outcome,
+  Well,
+  FailedAfter,
+  FailedLooking,
+  Broken,
+  NoRoom,
+  Paid,
+  forgive,
+  last_write,
+  count_for_write,
+  pay,
+  pay_running,
+  pay_planned,
+}
 use Rattle.tree_machine.proofs.QuantumLemmas.{took_newer}
 use Rattle.paced_tree.specs.Booking.{IsBookOf}
 use Rattle.paced_tree.specs.Numbers.{taken_of, HasTaken, pace_of}
@@ -141,10 +155,12 @@ module _ (m : Machine) (seat : ℕ) (sound : IsSound m) (paced : IsPaced (pace_o
       planned Nothing is e = record { made = same; told = told }
       planned Snow is (FailedAfter commits faults) = record { made = same; told = record { booked = t.booked; started = t.started } }
       planned Snow is (Broken page) = record { made = same; told = record { booked = t.booked; started = t.started } }
+      planned Snow is (FailedLooking faults) = snow_makes is
       planned Snow is Well = snow_makes is
       planned Snow is NoRoom = snow_makes is
       planned Deep is (FailedAfter commits faults) = record { made = same; told = record { booked = t.booked; started = t.started } }
       planned Deep is (Broken page) = record { made = same; told = record { booked = t.booked; started = t.started } }
+      planned Deep is (FailedLooking faults) = deep_makes is
       planned Deep is Well = deep_makes is
       planned Deep is NoRoom = deep_makes is
 

@@ -9,19 +9,37 @@ use Rattle.blsm_model.specs.Format.{callers}
 use Rattle.blsm_model.specs.declared.key.Key.{Key}
 use Rattle.blsm_model.specs.declared.row.Value.{Value}
 use Rattle.blsm_model.specs.declared.room.Room.{Room}
-use Rattle.blsm_model.specs.Geometry.{c1_mark, charge_limit, work_bound}
+use Rattle.blsm_model.specs.Geometry.{c1_mark, work_bound}
 use Rattle.gear_sched.specs.Gears.{first_debt, second_debt}
 use Rattle.pacing.specs.Pace.{Pace, opened as pace_opened, pass_done as pace_pass_done, deep_done as pace_deep_done, pass_over}
 use Rattle.pacing.specs.Kept.{IsPaced, quanta_for}
 use Rattle.pacing.proofs.Runs.{opened_paced, bounded, deep_in_time}
 use Rattle.record_delta.specs.Entries.{Entries, entries_weight}
-use Rattle.tree_machine.specs.Lists.{map_in}
+use Rattle.tree_machine.specs.Lists.{map_in, value_in}
 use Rattle.tree_machine.specs.Layers.{IsSound, HasWay}
 use Rattle.tree_machine.specs.Machine.{Machine, Catalogue, opened, fresh_seats, in_pass, in_deep, pass_done, deep_done}
 use Rattle.tree_machine.specs.Stands.{Stands, WritesFit}
 use Rattle.tree_machine.specs.Machine.{charge}
 use Rattle.tree_machine.specs.Moves.{stop}
-use Rattle.tree_machine.specs.Steps.{Outcome, Well, FailedAfter, Broken, NoRoom, one_if, replied, unless_stopped, admit_fitting, deep_swapped, ready_for, swaps_due}
+use Rattle.tree_machine.specs.Steps.{
+  Outcome,
+  Well,
+  FailedAfter,
+  FailedLooking,
+  Broken,
+  NoRoom,
+  one_if,
+  replied,
+  unless_stopped,
+  unless_refused,
+  told_by_look,
+  is_full,
+  admit_met,
+  admit_fitting,
+  deep_swapped,
+  ready_for,
+  swaps_due,
+}
 use Rattle.tree_machine.specs.Plays.{may, may_step, stepped, stepped_as, played, played_one}
 use Rattle.tree_machine.specs.declared.step.Step.{Step}
 use Rattle.tree_machine.specs.declared.step.Kind.{Kind}
@@ -41,8 +59,8 @@ use Rattle.tree_machine.specs.declared.step.Kind.TheVariants as kind
 use Rattle.blsm_model.specs.declared.history.Why.{Why}
 use Rattle.blsm_model.specs.declared.history.Why.TheVariants.{Faulted}
 use Rattle.blsm_model.specs.declared.history.Reply.TheVariants.{Full, FaultLost, FaultUnsure}
-use Rattle.blsm_model.specs.Histories.{writes_of}
-use Rattle.blsm_model.specs.Legal.{total_weight, is_del}
+use Rattle.blsm_model.specs.Histories.{is_met, looked_at, looks_first, writes_of}
+use Rattle.blsm_model.specs.Legal.{total_weight}
 use Rattle.paced_tree.specs.Made.{IsMadeBy}
 use Rattle.paced_tree.proofs.Made.{is_unsure, made_paced, made_spends, made_counts, made_few}
 use Rattle.paced_tree.proofs.Steps.{step_makes, caller_below}
@@ -78,20 +96,36 @@ ran m seat k outcome none = grind (arith, common_steps, nat_tests)
 
 -- and where its answer is unsure it stopped
 unsure_stops : (m : Machine) (seat : ℕ) (k : Kind) (outcome : Outcome) → (stepped_as m seat k outcome).state.stopped ≡ None → is_unsure k (stepped_as m seat k outcome).answer ≡ false
-unsure_stops m seat (kind.Admit op) outcome none = by m.stopped (nat_lt (charge_limit m.gears.sizes (is_del op)) (charge m + total_weight (writes_of op))) outcome none
+unsure_stops m seat (kind.Admit op) outcome none = by m.stopped (looks_first op) (is_met op (value_in m.lists)) (looked_at op (value_in m.lists))
+    outcome none
   where
     stops : (faults : ℕ) (b d : Bool)
         → (cond b (replied seat op FaultLost (stop (Faulted faults) (cond d m (deep_swapped m)))) (replied seat op FaultUnsure (stop (Faulted faults) (ready_for (total_weight (writes_of op)) m)))).state.stopped ≡ None → ⊥
     stops faults b d h1 = grind (arith, common_steps, nat_tests)
 
-    by : (o : Option Why) (b : Bool) (e : Outcome)
-        → (let ended = unless_stopped o seat op m (cond b (replied seat op (Full (charge m)) m) (admit_fitting m seat op (total_weight (writes_of op)) e)) in ended.state.stopped ≡ None → is_unsure (kind.Admit op) ended.answer ≡ false)
-    by (Some why) b e none = refl
-    by None true e none = refl
-    by None false Well none = refl
-    by None false NoRoom none = refl
-    by None false (Broken page) none = refl
-    by None false (FailedAfter commits faults) none = absurd (stops faults (nat_lt commits (swaps_due m)) (commits == 0) none)
+    met : (b : Bool) (e : Outcome)
+        → (let ended = cond b (replied seat op (Full (charge m)) m) (admit_fitting m seat op (total_weight (writes_of op)) e) in ended.state.stopped
+        ≡ None → is_unsure (kind.Admit op) ended.answer ≡ false)
+    met true e none = refl
+    met false Well none = refl
+    met false NoRoom none = refl
+    met false (FailedLooking faults) none = refl
+    met false (Broken page) none = refl
+    met false (FailedAfter commits faults) none = absurd (stops faults (nat_lt commits (swaps_due m)) (commits == 0) none)
+
+    by : (o : Option Why) (first holds : Bool) (found : Option Value) (e : Outcome)
+        → (let ended = unless_stopped o seat op m (unless_refused (cond first (told_by_look e holds found) None) seat op m (admit_met m seat op e)) in
+        ended.state.stopped ≡ None → is_unsure (kind.Admit op) ended.answer ≡ false)
+    by (Some why) first holds found e none = refl
+    by None false holds found e none = met (is_full m op) e none
+    by None true holds found (FailedLooking faults) none = refl
+    by None true holds found (Broken page) none = refl
+    by None true false found Well none = refl
+    by None true false found NoRoom none = refl
+    by None true false found (FailedAfter commits faults) none = refl
+    by None true true found Well none = met (is_full m op) Well none
+    by None true true found NoRoom none = met (is_full m op) NoRoom none
+    by None true true found (FailedAfter commits faults) none = met (is_full m op) (FailedAfter commits faults) none
 unsure_stops m seat kind.Pay outcome none = refl
 unsure_stops m seat (kind.Look op) outcome none = refl
 unsure_stops m seat (kind.Hold low high) outcome none = refl

@@ -20,7 +20,33 @@ use Rattle.tree_machine.specs.Layers.{IsSound}
 use Rattle.tree_machine.specs.Machine.{Machine, is_closed, Worked, WorkSoFar, seats, pass_done, deep_done, work_of, turn_more}
 use Rattle.tree_machine.specs.Moves.{end_pass, output_of, rotate, pass_quantum_of, deep_quantum_of}
 use Rattle.tree_machine.specs.Steps as machine
-use Rattle.tree_machine.specs.Steps.{Choice, SwapDeep, SwapPass, DeepQuantum, PassQuantum, Begin, Rotate, Rest, choice, chosen, ended_as, quanta_of, work_noted, with_turn, work_turn, work_turning, worker_turn, worker_turning, do_turn, Outcome, Well, FailedAfter, Broken, NoRoom}
+use Rattle.tree_machine.specs.Steps.{
+  Choice,
+  SwapDeep,
+  SwapPass,
+  DeepQuantum,
+  PassQuantum,
+  Begin,
+  Rotate,
+  Rest,
+  choice,
+  chosen,
+  ended_as,
+  quanta_of,
+  work_noted,
+  with_turn,
+  work_turn,
+  work_turning,
+  worker_turn,
+  worker_turning,
+  do_turn,
+  Outcome,
+  Well,
+  FailedAfter,
+  FailedLooking,
+  Broken,
+  NoRoom,
+}
 use Rattle.paced_tree.specs.Booking.{IsBookOf}
 use Rattle.paced_tree.specs.Made.{IsTurnedBy}
 use Rattle.paced_tree.specs.Numbers.{HasTaken, pace_of}
@@ -221,6 +247,7 @@ work_turn_makes m seat outcome sound paced t caller places settled = by m.stoppe
     by (Some why) is e = record { made = refl; told = record { booked = still (with_turn (work_of seat m) (work_turning (Some why) m seat e)) refl; started = t.started } }
     by None runs (FailedAfter commits faults) = record { made = refl; told = record { booked = still (with_turn (work_of seat m) (work_turning None m seat (FailedAfter commits faults))) refl; started = t.started } }
     by None runs (Broken page) = record { made = refl; told = record { booked = still (with_turn (work_of seat m) (work_turning None m seat (Broken page))) refl; started = t.started } }
+    by None runs (FailedLooking faults) = well runs
     by None runs Well = well runs
     by None runs NoRoom = well runs
 
@@ -247,5 +274,6 @@ worker_turn_makes m seat outcome sound paced t worker there = by m.stopped (is_c
     by None true e = record { made = refl; told = record { booked = t.booked; started = t.started } }
     by None false (FailedAfter commits faults) = record { made = refl; told = record { booked = t.booked; started = t.started } }
     by None false (Broken page) = record { made = refl; told = record { booked = t.booked; started = t.started } }
+    by None false (FailedLooking faults) = well
     by None false Well = well
     by None false NoRoom = well

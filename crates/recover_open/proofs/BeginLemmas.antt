@@ -1,7 +1,7 @@
 -- What was read of a store may be settled.
 use Rattle.std.proofs.lemmas.Bool.Decides.{nat_tests}
 use Rattle.std.proofs.lemmas.Grind.{common_steps}
-use Rattle.std.specs.Prelude.{◌≡◌, ℕ, ◌-◌, ◌≤◌, Bool, List, [], length}
+use Rattle.std.specs.Prelude.{◌≡◌, ℕ, ◌≤◌, Bool, List, [], length}
 use Rattle.std.proofs.Common.{◌∙◌, refl, ap, sym, subst, arith}
 use Rattle.std.proofs.Math.Seq.{take-length}
 use Rattle.blsm_model.specs.Sizes.{Sizes}
@@ -20,7 +20,7 @@ use Rattle.tree_runs.specs.Runs.{GuideState, RunsState, first_tags, opened}
 use Rattle.tree_runs.specs.Holding.{AreGuided, AreOf, AreTagged}
 use Rattle.page_space.specs.Space.{SpaceState}
 use Rattle.tree_settling.specs.Settling.{HasBegun, IsDeepLight}
-use Rattle.recover_open.specs.Opening.{BeginsIn}
+use Rattle.recover_open.specs.Opening.{BeginsIn, weight_found}
 
 abbrev runs_of : Found → List GuideState → RunsState
 runs_of found guides = opened found.geometry found.catalogue found.space guides
@@ -62,6 +62,11 @@ begun light found guides honest file is =
       reserved_a = omega (arith, is.reserved_a);
       reserved_b = omega (arith, is.reserved_b);
     }
+
+-- all that was found is within the capacity
+pub found_full : BeginsLight → (found : Found) (honest : Bool) (file : List ℕ) → IsFound found honest file → weight_found found ≤ capacity
+    found.geometry
+found_full light found honest file is = (begun light found [] honest file is).full
 
 pub has_begun : BeginsLight → (found : Found) (guides : List GuideState) (honest : Bool) (file : List ℕ) (runs : RunsState) (log : LogState) → IsFound found honest file → runs ≡ runs_of found guides → log ≡ log_in found → HasBegun runs log
 has_begun light found guides honest file runs log is runs_are log_are =

@@ -1,22 +1,20 @@
 -- A sync, a reading, and the settling behind them.
 use Rattle.std.proofs.lemmas.Bool.Decides.{nat_tests}
 use Rattle.std.proofs.lemmas.Grind.{common_steps}
-use Rattle.std.specs.Prelude.{◌≡◌, ◌⊎◌, ℕ, ◌+◌, ◌*◌, ◌≤◌, IsTrue, length, max, Result, IfOk, IsErr, OnOk}
+use Rattle.std.specs.Prelude.{◌≡◌, ◌⊎◌, ℕ, ◌+◌, ◌≤◌, IsTrue, length, max, Result, Ok, Err, IfOk, IsErr, OnOk}
 use Rattle.std.proofs.Common.{◌∙◌, sym, subst, inl, inr, ⊎_elim, arith}
-use Rattle.catalog_swap.specs.Text.{IsCatalog}
-use Rattle.catalog_swap.specs.declared.catalog.Catalog.{Catalog}
 use Rattle.disk_trait.specs.Disk.{DiskState, IsSure, MarksSync, Only, Passes, WritesNothing}
 use Rattle.disk_trait.proofs.EffectLemmas.{affects_more, affects_nothing, affects_wider}
 use Rattle.disk_trait.specs.Moments.{IsTimed, LeavesOnly, LeavesOnlyOnceSynced}
 use Rattle.disk_trait.proofs.MomentLemmas.{leaves_only_call, leaves_only_run, leaves_only_start, leaves_only_weaken, once_synced_call, once_synced_kept, once_synced_start}
 use Rattle.disk_trait.specs.Reads.{OnlyReads}
 use Rattle.disk_trait.proofs.ReadLemmas.{only_reads_each}
-use Rattle.blsm_model.specs.Geometry.{file_length, page_count}
+use Rattle.blsm_model.specs.Geometry.{file_length}
 use Rattle.blsm_model.specs.Sizes.{IsGeometry, Sizes}
 use Rattle.store_file.specs.Layout.{superblock_length}
 use Rattle.tree_reading.specs.declared.found.Found.{Found}
 use Rattle.tree_reading.specs.declared.found.Unreadable.{Unreadable}
-use Rattle.tree_reading.specs.Reading.{HasLooked, IsFound, reading_calls}
+use Rattle.tree_reading.specs.Reading.{HasLooked, IsFound, calls_of_reading, reading_calls}
 use Rattle.tree_settling.specs.Settling.{CallsFew}
 use Rattle.recover_open.specs.Opening.{HasLengthOf, StaysInside, most_opening_calls}
 
@@ -52,6 +50,12 @@ of_opening old sizes h1 = grind (arith, common_steps, nat_tests)
 pub synced_few : {old mid : DiskState} (new : DiskState) (result : Result Found Unreadable) → Passes old mid → IfOk result (λ found. OnlyReads (file_length found.geometry) (reading_calls found.geometry) mid new)
     → IfOk result (λ found. CallsFew (1 + reading_calls found.geometry) old new)
 synced_few new result h1 h2 = grind (arith, common_steps, nat_tests)
+
+pub synced_read : {old mid : DiskState} (new : DiskState) (result : Result Found Unreadable) → Passes old mid
+    → IfOk result (λ found. new.clock ≤ mid.clock + calls_of_reading found.catalogue found.records_a found.records_b)
+    → IfOk result (λ found. CallsFew (1 + calls_of_reading found.catalogue found.records_a found.records_b) old new)
+synced_read new (Ok found) passes few = one_more (calls_of_reading found.catalogue found.records_a found.records_b) passes few
+synced_read new (Err why) passes few = tt
 
 -- a sync that failed
 pub sync_inside : {old new : DiskState} {ended_well : Type 0} → IsTimed old → Passes old new → MarksSync ended_well old new → WritesNothing old new → IsSure 0 old new → StaysInside old new
@@ -101,9 +105,3 @@ still_long result h1 h2 h3 = grind (arith, common_steps, nat_tests)
 -- what holds holds once it is done
 pub when_done : (result : Result Found Unreadable) {P : Type 0} → P → OnOk result P
 when_done result h1 = grind (arith, common_steps, nat_tests)
-
--- ---- the second reading
-
-pub guides_few : {sizes : Sizes} {catalogue : Catalog} {old new : DiskState} → IsCatalog sizes catalogue
-    → OnlyReads (file_length sizes) (catalogue.c1.pages + catalogue.c1x.pages + catalogue.c2.pages) old new → OnlyReads (file_length sizes) (3 * page_count sizes) old new
-guides_few h1 h2 = grind (arith, common_steps, nat_tests)

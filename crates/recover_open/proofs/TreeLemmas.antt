@@ -1,14 +1,15 @@
 -- A reading, and settling what was read.
 use Rattle.std.proofs.lemmas.Bool.Decides.{nat_tests}
 use Rattle.std.proofs.lemmas.Grind.{common_steps}
-use Rattle.std.specs.Prelude.{◌≡◌, ℕ, ◌+◌, ◌*◌, ◌≤◌, IsTrue, List, length, max, Result, Ok, Err, IfOk, IfErr}
+use Rattle.std.specs.Prelude.{◌≡◌, ℕ, ◌+◌, ◌≤◌, IsTrue, List, length, max, Result, Ok, Err, IfOk, IfErr}
 use Rattle.std.proofs.Common.{refl, sym, subst, inl, inr, arith, ap}
-use Rattle.blsm_model.specs.Geometry.{file_length, page_count}
+use Rattle.blsm_model.specs.Geometry.{capacity, file_length}
 use Rattle.blsm_model.specs.Sizes.{IsGeometry, Sizes}
 use Rattle.catalog_swap.specs.declared.catalog.Catalog.{Catalog}
 use Rattle.blsm_model.specs.declared.key.Key.{Key}
 use Rattle.blsm_model.specs.declared.row.Value.{Value}
 use Rattle.disk_trait.specs.Disk.{DiskState, TellsFaultsBy}
+use Rattle.record_delta.specs.Entries.{entries_weight}
 use Rattle.disk_trait.specs.Effects.{Affects}
 use Rattle.disk_trait.proofs.EffectLemmas.{affects_more, affects_wider}
 use Rattle.disk_trait.specs.Moments.{IsTimed, LeavesOnly, LeavesOnlyOnceSynced, SyncsLater}
@@ -18,10 +19,22 @@ use Rattle.tree_reading.specs.declared.found.Found.{Found}
 use Rattle.tree_reading.specs.declared.found.Unreadable.{Unreadable}
 use Rattle.tree_reading.specs.declared.found.Unreadable.TheVariants.{Fault}
 use Rattle.tree_reading.specs.Damage.{most_version}
-use Rattle.tree_reading.specs.Reading.{HoldsFound, IsWhy, reading_calls}
+use Rattle.tree_reading.specs.Reading.{HoldsFound, IsHead, IsWhy, calls_of_reading, reading_calls}
 use Rattle.recover_open.specs.declared.beginning.Begun.{Begun}
 use Rattle.tree_settling.specs.Settling.{CallsFew, KeepsMap, anywhere, settling_calls}
-use Rattle.recover_open.specs.Opening.{IsReady, KeepsMapOf, HasLengthOf, HasOpenedOn, SparesImages, StandsEmpty, StaysInside, most_opening_calls}
+use Rattle.recover_open.specs.Opening.{
+  IsReady,
+  KeepsMapOf,
+  HasLengthOf,
+  HasOpenedOn,
+  SparesImages,
+  StandsEmpty,
+  StaysInside,
+  TakesFew,
+  most_opening_calls,
+  tables_of,
+  weight_found,
+}
 
 -- ---- what was found
 
@@ -109,17 +122,43 @@ stays_on {old} {mid} {new} sizes calls timed calm long geometry few first second
 }
 
 -- a sync and a reading, and then all that is left of an opening
-pub opening_few : (old : ℕ) {mid new : ℕ} (sizes : Sizes) → mid ≤ old + (1 + reading_calls sizes) → new ≤ mid + (3 * page_count sizes + settling_calls sizes) → new ≤ old + most_opening_calls sizes
-opening_few old sizes h1 h2 = grind (arith, common_steps, nat_tests)
+pub opening_few : (old : ℕ) {mid new : ℕ} (sizes : Sizes) (weight : ℕ) → mid ≤ old + (1 + reading_calls sizes) → new ≤ mid + settling_calls sizes
+    weight → weight ≤ capacity sizes
+    → new ≤ old + most_opening_calls sizes
+opening_few old sizes weight read settled full = omega (arith, read, settled, full)
 
-pub few_as : (result : Result Begun Unreadable) (sizes : Sizes) (version : ℕ) (old new : DiskState) → CallsFew (most_opening_calls sizes) old new → IfOk result (λ begun. IsReady sizes version begun.runs begun.log new)
-    → IfOk result (λ begun. CallsFew (most_opening_calls begun.runs.sizes) old new)
-few_as result sizes version old new h1 h2 = grind (arith, common_steps, nat_tests)
+-- by what was found
+pub opening_takes : (found : Found) (old mid new : DiskState) → CallsFew (1 + calls_of_reading found.catalogue found.records_a found.records_b) old
+    mid
+    → CallsFew (settling_calls found.geometry (weight_found found)) mid new → CallsFew (most_opening_calls found.geometry) old new → weight_found
+    found ≤ capacity found.geometry
+    → IsHead found.geometry found.catalogue → (IsTrue old.is_honest → HoldsFound found old.bytes) → TakesFew found.geometry old new
+opening_takes found old mid new read settled by_sizes full head holds = record {
+  catalogue = found.catalogue;
+  head = head;
+  records_a = found.records_a;
+  records_b = found.records_b;
+  tables = tables_of found;
+  few = omega (arith, read, settled);
+  by_sizes = by_sizes;
+  full = full;
+  reads = λ honest.
+      let has = holds honest in (
+        has.tree,
+        has.holds,
+        has.catalogue,
+        sym has.records_a,
+        sym has.records_b,
+        omega
+            (arith, ap entries_weight has.table_a, ap entries_weight has.table_b),
+      );
+}
+
+pub takes_as : (result : Result Begun Unreadable) (sizes : Sizes) (version : ℕ) (old new : DiskState) → TakesFew sizes old new → IfOk result
+    (λ begun. IsReady sizes version begun.runs begun.log new)
+    → IfOk result (λ begun. TakesFew begun.runs.sizes old new)
+takes_as (Ok begun) sizes version old new takes ready = subst (λ (s : Sizes). TakesFew s old new) (sym ready.sizes_are) takes
+takes_as (Err why) sizes version old new takes ready = tt
 
 pub faults_on : {old mid new : DiskState} (result : Result Begun Unreadable) → mid.faults ≡ old.faults → TellsFaultsBy (Err Fault) result mid new → TellsFaultsBy (Err Fault) result old new
 faults_on result h1 h2 = grind (arith, common_steps, nat_tests)
-
--- a call that refuses as another one did
-pub told_then : {T : Type 0} (e : Unreadable) (result : Result Begun Unreadable) (inner : Result T Unreadable) (old new : DiskState) → inner ≡ Err e → result ≡ Err e
-    → TellsFaultsBy (Err Fault) inner old new → TellsFaultsBy (Err Fault) result old new
-told_then e result inner old new was is told = record { stands = λ other. told.stands (λ same. other (cc)); failed = λ fault. told.failed (cc) }

@@ -1,12 +1,14 @@
 -- What opening a store finds, and what it leaves.
-use Rattle.std.specs.Prelude.{◌≡◌, ◌≢◌, ◌⊎◌, ℕ, ◌+◌, ◌*◌, ◌≤◌, IsTrue, List, [], Option, None, Some, Result, Ok, Err, IfOk, IfErr, length, max}
+use Rattle.std.specs.Prelude.{◌≡◌, ◌≢◌, ◌⊎◌, ℕ, ◌+◌, ◌≤◌, IsTrue, List, [], Option, None, Some, Result, Ok, Err, IfOk, IfErr, length, max}
 use Rattle.disk_trait.specs.Disk.{DiskState}
 use Rattle.disk_trait.specs.Effects.{Affects}
 use Rattle.disk_trait.specs.Moments.{LeavesOnly, LeavesOnlyOnceSynced, IsOldOr}
 use Rattle.blsm_model.specs.Sizes.{IsGeometry, Sizes}
-use Rattle.blsm_model.specs.Geometry.{file_length, page_count}
+use Rattle.blsm_model.specs.Geometry.{capacity, file_length}
 use Rattle.blsm_model.specs.Book.{Book}
 use Rattle.blsm_model.specs.declared.room.Room.{Room}
+use Rattle.catalog_swap.specs.declared.catalog.Catalog.{Catalog}
+use Rattle.record_delta.specs.Entries.{entries_weight}
 use Rattle.blsm_model.specs.declared.key.Key.{Key}
 use Rattle.blsm_model.specs.declared.row.Value.{Value}
 use Rattle.store_file.specs.Layout.{superblock_length}
@@ -22,7 +24,8 @@ use Rattle.core_lists.specs.Standing.{catalogue_of}
 use Rattle.tree_core.specs.Core.{CoreState}
 use Rattle.tree_core.specs.Holds.{StandsWhole}
 use Rattle.tree_reading.specs.Damage.{most_version}
-use Rattle.tree_reading.specs.Reading.{IsWhy, reading_calls}
+use Rattle.tree_reading.specs.Reading.{IsHead, IsWhy, calls_of_reading, reading_calls}
+use Rattle.tree_reading.specs.declared.found.Found.{Found}
 use Rattle.tree_reading.specs.declared.found.Unreadable.{Unreadable}
 use Rattle.recover_open.specs.declared.beginning.Begun.{Begun}
 use Rattle.recover_open.specs.declared.opening.NotOpened.{NotOpened}
@@ -79,9 +82,39 @@ HasLengthOf sizes d = IsTrue d.tells_bytes → length d.bytes ≡ file_length si
 
 -- ---- how many calls
 
--- Those of an opening: a sync and the reading, a second reading of each live page for the filters and fences, and settling.
+-- how much the tables weigh that were found, and all that was found
+abbrev pub tables_of : Found → ℕ
+tables_of found = entries_weight found.a.entries + entries_weight found.b.entries
+
+abbrev pub weight_found : Found → ℕ
+weight_found found = components_of found.catalogue + tables_of found
+
+-- Those of an opening that finds this catalogue, so many records in its lanes, and tables that weigh so much: a sync, the reading, and settling.
+abbrev pub opening_calls : Sizes → Catalog → (a b tables : ℕ) → ℕ
+opening_calls sizes catalogue a b tables = (1 + calls_of_reading catalogue a b) + settling_calls sizes (components_of catalogue + tables)
+
+-- Those of any opening of a store of these sizes: as if a walk met each page, and the components filled the capacity.
 abbrev pub most_opening_calls : Sizes → ℕ
-most_opening_calls sizes = (1 + reading_calls sizes) + (3 * page_count sizes + settling_calls sizes)
+most_opening_calls sizes = (1 + reading_calls sizes) + settling_calls sizes (capacity sizes)
+
+-- An opening calls the disk no more than what it read takes: a catalogue that is valid for these sizes, so many records in its lanes, and tables that
+-- weigh so much; nor more than any opening of a store of these sizes. On an honest disk what it read is what the file holds.
+pub record TakesFew (sizes : Sizes) (old new : DiskState) : Type 0 where
+  pub catalogue : Catalog
+  pub head : IsHead sizes catalogue
+  pub records_a : ℕ
+  pub records_b : ℕ
+  pub tables : ℕ
+  pub few : CallsFew (opening_calls sizes catalogue records_a records_b tables) old new
+  pub by_sizes : CallsFew (most_opening_calls sizes) old new
+  pub full : components_of catalogue + tables ≤ capacity sizes
+  pub reads : IsTrue old.is_honest
+      → (image : Tree) × HoldsTree sizes image old.bytes × (image.catalogue ≡ catalogue) × (length image.lane_a ≡ records_a) ×
+      (length image.lane_b ≡ records_b) × (lanes_weight image ≡ tables)
+
+-- how many calls that is
+abbrev pub calls_taken : {sizes : Sizes} {old new : DiskState} → TakesFew sizes old new → ℕ
+calls_taken {sizes} takes = opening_calls sizes takes.catalogue takes.records_a takes.records_b takes.tables
 
 -- No more than those of the sizes of which the file's length is, or three.
 abbrev pub CallsInside : DiskState → DiskState → Type 0

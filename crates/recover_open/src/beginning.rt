@@ -1,23 +1,31 @@
 //! What was read of a store becomes components and a log that are settled.
-ghost use Rattle.std.specs.Prelude.{◌≡◌, ◌+◌, ◌*◌, ◌≤◌, ◌<◌, ◌^◌, ℕ, Bool, List, Err, length, IsTrue, IfOk, IfErr};
+ghost use Rattle.std.specs.Prelude.{◌≡◌, ◌+◌, ◌≤◌, ◌<◌, ◌^◌, ℕ, Bool, List, Err, length, IsTrue, IfOk, IfErr};
 ghost use Rattle.disk_trait.specs.Disk.{Only, TellsFaultsBy};
 ghost use Rattle.disk_trait.specs.Effects.{Affects};
-ghost use Rattle.blsm_model.specs.Geometry.{file_length, page_count};
+ghost use Rattle.blsm_model.specs.Geometry.{file_length};
 ghost use Rattle.blsm_model.specs.declared.key.Key.{Key};
 ghost use Rattle.blsm_model.specs.declared.row.Value.{Value};
 ghost use Rattle.tree_reading.specs.Reading.{HoldsFound, IsFound};
-ghost use Rattle.tree_runs.specs.Runs.{AreGuides, AreRunning, first_tags};
-ghost use Rattle.tree_runs.specs.Holding.{AreGuided};
-ghost use Rattle.tree_settling.specs.Settling.{HasBegun, IsSettled, LeavesMaps, MaySettle, SettlesOn, ShowsMap, anywhere, settling_calls};
-ghost use Rattle.recover_open.specs.Opening.{BeginsIn, IsReady, TellsSettled};
+ghost use Rattle.tree_log.specs.Log.{weight_of_tables};
+ghost use Rattle.tree_runs.specs.Runs.{AreGuides, AreRunning};
+ghost use Rattle.tree_settling.specs.Settling.{
+  HasBegun,
+  IsSettled,
+  LeavesMaps,
+  MaySettle,
+  SettlesOn,
+  ShowsMap,
+  anywhere,
+  settling_calls,
+  settling_weight,
+};
+ghost use Rattle.recover_open.specs.Opening.{BeginsIn, IsReady, TellsSettled, tables_of, weight_found};
 
-use crate::filters::guides_of;
 use disk_trait::Disk;
 use page_file::Broken;
-use std::alloc::Global;
 use tree_log::LoggedTables;
 use tree_reading::{Found, Place, Unreadable};
-use tree_runs::{GuideRoom, MergeRoom, Runs};
+use tree_runs::{MergeRoom, Runs};
 use tree_settling::settle;
 
 /// The components and the log of a store that was read.
@@ -27,15 +35,16 @@ pub(crate) struct Begun {
     pub(crate) log: LoggedTables,
 }
 
-// Begins with what was found, and the filters and fences of its components. A deep merge runs where C1' has pages.
-fn begin(found: Found, room: MergeRoom, guides: GuideRoom) -> Begun
+// Begins with what was found. A deep merge runs where C1' has pages.
+fn begin(found: Found, room: MergeRoom) -> Begun
     requires found { (honest : Bool) × (file : List ℕ) × IsFound found honest file }
-    requires guides { AreGuides found.geometry guides }
+    requires guides { AreGuides found.geometry found.guides }
     ensures sizes { result.runs.sizes ≡ found.geometry }
     ensures catalogue { result.runs.catalogue ≡ found.catalogue }
+    ensures tables { weight_of_tables result.log ≡ tables_of found }
     ensures numbers { HasBegun result.runs result.log }
     ensures running { (honest : Bool) (file : List ℕ) → AreRunning honest file result.runs }
-    ensures lists { (file : List ℕ) → (holds : HoldsFound found file) → AreGuided guides first_tags holds.tree → BeginsIn result.runs result.log holds.tree file }
+    ensures lists { (file : List ℕ) → (holds : HoldsFound found file) → BeginsIn result.runs result.log holds.tree file }
 {
     let Found {
         geometry,
@@ -44,6 +53,7 @@ fn begin(found: Found, room: MergeRoom, guides: GuideRoom) -> Begun
         a,
         b,
         lanes,
+        guides,
         ..
     } = found;
     let runs = Runs::open(&geometry, catalogue, space, room, guides);
@@ -55,7 +65,8 @@ fn begin(found: Found, room: MergeRoom, guides: GuideRoom) -> Begun
 fn settle_begun<D: Disk>(disk: &mut D, begun: Begun) -> Result<Begun, Unreadable>
     requires may { MaySettle begun.runs begun.log (D.state disk.old) }
     requires version { begun.runs.catalogue.version + 5 < 2 ^ 64 }
-    ensures leaves { LeavesMaps (settling_calls begun.runs.sizes) begun.runs begun.log (D.state disk.old) (D.state disk.new) }
+    ensures leaves { LeavesMaps (settling_calls begun.runs.sizes (settling_weight begun.runs begun.log)) begun.runs begun.log (D.state disk.old)
+        (D.state disk.new) }
     ensures on { IfOk result (λ ready. SettlesOn begun.runs ready.runs begun.log ready.log (D.state disk.old) (D.state disk.new)) }
     ensures settled { IfOk result (λ ready. IsSettled ready.runs ready.log × (ready.runs.catalogue.version ≤ begun.runs.catalogue.version + 5)) }
     ensures why { (pairs : List (Key × Value)) → IsTrue (D.state disk.old).is_honest → ShowsMap begun.runs begun.log pairs (D.state disk.old)
@@ -70,21 +81,21 @@ fn settle_begun<D: Disk>(disk: &mut D, begun: Begun) -> Result<Begun, Unreadable
     }
 }
 
-/// Begins with what was found, whose filters and fences it fills first, and settles it.
+/// Begins with what was found, with its filters and fences, and settles it.
 pub(crate) fn settle_found<D: Disk>(
-    alloc: Global,
     disk: &mut D,
     found: Found,
     room: MergeRoom,
 ) -> Result<Begun, Unreadable>
     requires found { (honest : Bool) × (file : List ℕ) × IsFound found honest file }
+    requires guides { AreGuides found.geometry found.guides }
     requires length { IsTrue (D.state disk.old).tells_bytes → length (D.state disk.old).bytes ≡ file_length found.geometry }
     ensures ready { IfOk result (λ begun. IsReady found.geometry found.catalogue.version begun.runs begun.log (D.state disk.new)) }
     ensures tells { IsTrue (D.state disk.old).is_honest → Only (D.state disk.old).bytes (D.state disk.old).images → (holds : HoldsFound found (D.state disk.old).bytes)
         → TellsSettled found.geometry holds.tree result (D.state disk.old) (D.state disk.new) }
-    ensures effect { Affects anywhere (file_length found.geometry) (3 * page_count found.geometry + settling_calls found.geometry) (D.state disk.old) (D.state disk.new) }
+    ensures effect { Affects anywhere (file_length found.geometry) (settling_calls found.geometry (weight_found found)) (D.state disk.old)
+        (D.state disk.new) }
     ensures faults { TellsFaultsBy (Err Unreadable.Fault) result (D.state disk.old) (D.state disk.new) }
 {
-    let guides = guides_of(alloc, disk, &found)?;
-    settle_begun(disk, begin(found, room, guides))
+    settle_begun(disk, begin(found, room))
 }

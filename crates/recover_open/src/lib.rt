@@ -2,7 +2,6 @@
 #![tactic(auto)]
 
 mod beginning;
-mod filters;
 mod making;
 mod opening;
 

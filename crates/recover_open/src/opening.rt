@@ -9,11 +9,25 @@ ghost use Rattle.blsm_model.specs.declared.key.Key.{Key};
 ghost use Rattle.blsm_model.specs.declared.row.Value.{Value};
 ghost use Rattle.tree_file.specs.Tree.{ReadsAsMap};
 ghost use Rattle.tree_reading.specs.Damage.{most_version};
-ghost use Rattle.tree_reading.specs.Reading.{HoldsFound, IsFound, IsWhy, reading_calls};
+ghost use Rattle.tree_reading.specs.Reading.{HoldsFound, IsFound, IsWhy, calls_of_reading, reading_calls};
+ghost use Rattle.tree_runs.specs.Runs.{AreGuides};
 ghost use Rattle.tree_settling.specs.Settling.{CallsFew};
 ghost use Rattle.core_moves.specs.Held.{charge_in};
 ghost use Rattle.core_pace.specs.Opening.{IsOpened};
-ghost use Rattle.recover_open.specs.Opening.{IsReady, KeepsMapOf, ReadsAsNone, HasLengthOf, HasOpenedOn, OpensAs, SparesImages, StaysInside, disk_of, most_opening_calls, no_entries, why_of};
+ghost use Rattle.recover_open.specs.Opening.{
+  IsReady,
+  KeepsMapOf,
+  ReadsAsNone,
+  HasLengthOf,
+  HasOpenedOn,
+  OpensAs,
+  SparesImages,
+  StaysInside,
+  TakesFew,
+  disk_of,
+  no_entries,
+  why_of,
+};
 
 use crate::beginning::{Begun, settle_found};
 use blsm_model::{Annals, Room};
@@ -23,10 +37,10 @@ use scan_view::{Holds, RowRoom};
 use std::alloc::Global;
 use tree_core::{Core, Parts};
 use tree_log::LoggedTables;
-use tree_reading::{Found, Unreadable, read_tree};
+use tree_reading::{Found, Purpose, Unreadable, read_tree};
 use tree_runs::{MergeRoom, Runs};
 
-// Syncs and reads. What an earlier run left to a crash is settled before a byte of it counts.
+// Syncs and reads, with filters and fences. What an earlier run left to a crash is settled before a byte of it counts.
 fn read_synced<D: Disk>(alloc: Global, disk: &mut D) -> Result<Found, Unreadable>
     ensures found { IfOk result (λ found. (honest : Bool) × (file : List ℕ) × IsFound found honest file) }
     ensures holds { IsTrue (D.state disk.old).is_honest → IfOk result (λ found. HoldsFound found (D.state disk.old).bytes) }
@@ -37,14 +51,17 @@ fn read_synced<D: Disk>(alloc: Global, disk: &mut D) -> Result<Found, Unreadable
     ensures only { OnOk result (IsTrue (D.state disk.old).is_honest → Only (D.state disk.new).bytes (D.state disk.new).images) }
     ensures kept { IsTrue (D.state disk.old).is_honest → LeavesOnly (D.state disk.old) (D.state disk.new) (D.state disk.old).images }
     ensures synced { IsTrue (D.state disk.old).is_honest → LeavesOnlyOnceSynced (D.state disk.old) (D.state disk.new) (λ c. c ≡ (D.state disk.old).bytes) }
+    ensures guides { IfOk result (λ found. AreGuides found.geometry found.guides) }
     ensures calls { IfOk result (λ found. CallsFew (1 + reading_calls found.geometry) (D.state disk.old) (D.state disk.new)) }
+    ensures few { IfOk result (λ found. CallsFew (1 + calls_of_reading found.catalogue found.records_a found.records_b) (D.state disk.old)
+        (D.state disk.new)) }
     ensures effect { StaysInside (D.state disk.old) (D.state disk.new) }
     ensures faults { TellsFaultsBy (Err Unreadable.Fault) result (D.state disk.old) (D.state disk.new) }
 {
     let Ok(()) = disk.sync() else {
         return Err(Unreadable::Fault);
     };
-    read_tree(alloc, disk)
+    read_tree(alloc, disk, Purpose::Opening)
 }
 
 // Memory for what reading doesn't fill: the merges, the history, the callers' holds, and the rows of one reply.
@@ -80,12 +97,12 @@ fn open_tree<D: Disk>(alloc: Global, disk: &mut D, room: MergeRoom) -> Result<Be
     ensures untouched { IsTrue (D.state disk.old).is_honest → ReadsAsNone (D.state disk.old).bytes → LeavesOnly (D.state disk.old) (D.state disk.new) (D.state disk.old).images }
     ensures long { IfOk result (λ begun. HasLengthOf begun.runs.sizes (D.state disk.old)) }
     ensures spares { IsTrue (D.state disk.old).is_honest → IfErr result (λ why. SparesImages why (D.state disk.old) (D.state disk.new)) }
-    ensures calls { IfOk result (λ begun. CallsFew (most_opening_calls begun.runs.sizes) (D.state disk.old) (D.state disk.new)) }
+    ensures takes { IfOk result (λ begun. TakesFew begun.runs.sizes (D.state disk.old) (D.state disk.new)) }
     ensures effect { StaysInside (D.state disk.old) (D.state disk.new) }
     ensures faults { TellsFaultsBy (Err Unreadable.Fault) result (D.state disk.old) (D.state disk.new) }
 {
     let found = read_synced(alloc, disk)?;
-    settle_found(alloc, disk, found, room)
+    settle_found(disk, found, room)
 }
 
 /// Why a store was not opened, and the disk.
@@ -97,11 +114,11 @@ pub struct NotOpened<D: Drop> {
     pub why: Unreadable,
 }
 
-/// Opens the store on a disk as a core with these rooms for the callers. It syncs first, reads the store, fills the filters and fences of its
-/// components from their pages, and settles it by its merges: then C1' and both tables are empty, and the history has no entry.
+/// Opens the store on a disk as a core with these rooms for the callers. It syncs first, reads the store, each page once, whose keys it notes in
+/// the filters and fences of its components, and settles it by its merges: then C1' and both tables are empty, and the history has no entry.
 ///
 /// `NotAStore`, `Damaged` and `Worn` come as `read_tree` tells them, `Fault` just where the disk's count of faults rose, and `NoMemory` where memory
-/// was refused, also that for filters and fences, whose size is known once the geometry is read. The disk is given back, with what it had.
+/// was refused, also that for tables, filters and fences, whose size is known once the geometry is read. The disk is given back, with what it had.
 /// Half of the clauses are of the core that it gives, half of what a refusal or a crash leaves, of calls and of faults.
 ///
 /// It stays a call, so that the parts of a core aren't added to the frame of who runs it.
@@ -132,7 +149,9 @@ pub fn open_store<D: Disk + Drop>(
     ensures untouched { IsTrue (D.state disk).is_honest → ReadsAsNone (D.state disk).bytes
         → LeavesOnly (D.state disk) (D.state (disk_of result)) (D.state disk).images }
     ensures spares { IsTrue (D.state disk).is_honest → IfErr result (λ refused. SparesImages refused.why (D.state disk) (D.state refused.disk)) }
-    ensures calls { IfOk result (λ core. CallsFew (most_opening_calls core.held.runs.sizes) (D.state disk) (D.state core.disk)) }
+
+    // On every disk no more calls than what was read takes: the pages and the weight that the catalogue says, and the records of the lanes.
+    ensures takes { IfOk result (λ core. TakesFew core.held.runs.sizes (D.state disk) (D.state core.disk)) }
     ensures effect { StaysInside (D.state disk) (D.state (disk_of result)) }
     ensures faults { TellsFaultsBy (Some Unreadable.Fault) (why_of result) (D.state disk) (D.state (disk_of result)) }
 {

@@ -21,7 +21,7 @@ use page_file::{Broken, PAGE_HEAD_LEN, PAGE_LEN, PageHead, read_page};
 use page_space::{Role, Space};
 use record_delta::{Rec, weight};
 use refusal::Failed;
-use run_writer::{Writer, a_run_has_room, where_a_run_writes};
+use run_writer::Writer;
 use std::alloc::Global;
 use std::process::Abort;
 
@@ -147,7 +147,6 @@ fn write_all<D: Disk>(
         if !space.has_free() || !fences.takes(&entry.0) {
             return Err(Failed);
         }
-        a_run_has_room();
         writer.push(disk, geo, space, filter, fences, &entry.0, &entry.1)?;
     }
     writer.end(disk, geo)
@@ -551,6 +550,4 @@ fn a_list_of_one_entry(rt: HostRuntime) {
     );
     assert_that(&rt, filter.may(&entries[0].0));
     assert_same(&rt, fences.page_of(&entries[0].0), Some(0));
-    a_run_has_room();
-    where_a_run_writes();
 }

@@ -6,7 +6,7 @@ use Rattle.std.proofs.lemmas.List.Elements.{All-from_recursion, All-replicate}
 use Rattle.std.proofs.lemmas.List.Folds.{sum_by-replicate}
 use Rattle.std.proofs.Math.ListN.{length-replicate}
 use Rattle.blsm_model.specs.declared.op.Op.{Op}
-use Rattle.blsm_model.specs.declared.op.Op.TheVariants.{Put, Del, Get, Hold, Next, Release, Work}
+use Rattle.blsm_model.specs.declared.op.Op.TheVariants.{Put, Del, New, Swap, Get, Hold, Next, Release, Work}
 use Rattle.blsm_model.specs.declared.history.Line.{Line}
 use Rattle.blsm_model.specs.Printed.{command_text}
 use Rattle.script_text.specs.Grammar.{IsAllowed, IsBadLine, IsCommand, IsKey, IsLine, IsScript, IsText, IsVisible, all_rows_asked, lines_text}
@@ -41,6 +41,21 @@ a_get = record { allowed = record { seat = omega arith; command = key_a }; spell
 a_put : IsLine (codes "16 put a 5 -") put_a
 unfolding digits put_a
 a_put = record { allowed = record { seat = omega arith; command = (key_a, omega arith, no_text) }; spelled = refl }
+
+-- lines of writes that look first: a new is spelled as a put, a swap with one number more
+new_a : Line
+new_a = record { seat = 0; op = New (97 ∷ []) (record { count = 1; text = [] }) }
+
+swap_a : Line
+swap_a = record { seat = 2; op = Swap (97 ∷ []) 1 (record { count = 7; text = [] }) }
+
+a_new : IsLine (codes "1 new a 1 -") new_a
+unfolding digits new_a
+a_new = record { allowed = record { seat = omega arith; command = (key_a, omega arith, no_text) }; spelled = refl }
+
+a_swap : IsLine (codes "3 swap a 1 7 -") swap_a
+unfolding digits swap_a
+a_swap = record { allowed = record { seat = omega arith; command = (key_a, omega arith, omega arith, no_text) }; spelled = refl }
 
 -- lines of holds: any two keys, a number of rows, and a word alone
 hold_a : Line

@@ -9,7 +9,7 @@ use Rattle.std.proofs.lemmas.Fmt.{decimal_injective, decimal_nonempty, length-de
 use Rattle.std.proofs.Math.Seq.{drop-append_seam}
 use Rattle.blsm_model.specs.declared.row.Value.{Value}
 use Rattle.blsm_model.specs.declared.op.Op.{Op}
-use Rattle.blsm_model.specs.declared.op.Op.TheVariants.{Put, Add, Tail, Del, Get, Hold, Next, Release, Work}
+use Rattle.blsm_model.specs.declared.op.Op.TheVariants.{Put, Add, Tail, Del, New, Swap, Get, Hold, Next, Release, Work}
 use Rattle.blsm_model.specs.declared.history.Line.{Line}
 use Rattle.blsm_model.specs.Printed.{and_number, and_value, and_word, command_text, spelled}
 use Rattle.script_text.specs.Grammar.{IsAllowed, IsBadLine, IsCommand, IsKey, IsLine, IsOnlyBadLine, IsOnlyReading, IsScript, IsText, all_rows_asked, first_line, line_text, lines_text, longest_line}
@@ -33,19 +33,54 @@ one_value v w small_v small_w text_v text_w is =
     let text : v.text ≡ w.text = one_text v.text w.text text_v.no_dash text_w.no_dash both.1 in
     λ i. record { count = count i; text = text i }
 
+-- a key and a value
+one_pair : (key k : List ℕ) (value v : Value) → IsKey key → IsKey k → value.count < 2 ^ 64 → v.count < 2 ^ 64 → IsText value.text → IsText v.text
+    → key ++ and_value value ≡ k ++ and_value v → (key ≡ k) × (value ≡ v)
+one_pair key k value v is_key is_k small small_v is_text is_text_v is =
+    let both = one_cut 32 key k (decimal value.count ++ and_word (spelled value.text)) (decimal v.count ++ and_word (spelled v.text))
+    (visible_lacks 32 key (omega arith) is_key.visible) (visible_lacks 32 k (omega arith) is_k.visible) is in
+    (both.0, one_value value v small small_v is_text is_text_v both.1)
+
 one_put : (key : List ℕ) (value : Value) (y : Op) → IsCommand (Put key value) → IsCommand y → command_text (Put key value) ≡ command_text y → Put key value ≡ y
 one_put key value (Put k v) (is_key, small, is_text) (is_k, small_v, is_text_v) is =
-    let both = one_cut 32 key k (decimal value.count ++ and_word (spelled value.text)) (decimal v.count ++ and_word (spelled v.text)) (visible_lacks 32 key (omega arith) is_key.visible) (visible_lacks 32 k (omega arith) is_k.visible) (ap (λ (l : List ℕ). drop 4 l) is) in
+    let both = one_pair key k value v is_key is_k small small_v is_text is_text_v (ap (λ (l : List ℕ). drop 4 l) is) in
     let same_key : key ≡ k = both.0 in
-    let same_value : value ≡ v = one_value value v small small_v is_text is_text_v both.1 in
+    let same_value : value ≡ v = both.1 in
     λ i. Put (same_key i) (same_value i)
 one_put key value _ x y is = absurd (omega (arith, heads is))
+
+one_new : (key : List ℕ) (value : Value) (y : Op) → IsCommand (New key value) → IsCommand y → command_text (New key value) ≡ command_text y → New key
+    value ≡ y
+one_new key value (New k v) (is_key, small, is_text) (is_k, small_v, is_text_v) is =
+    let both = one_pair key k value v is_key is_k small small_v is_text is_text_v (ap (λ (l : List ℕ). drop 4 l) is) in
+    let same_key : key ≡ k = both.0 in
+    let same_value : value ≡ v = both.1 in
+    λ i. New (same_key i) (same_value i)
+one_new key value (Next n) x y is = absurd (omega (arith, heads (ap (λ (l : List ℕ). drop 2 l) is)))
+one_new key value _ x y is = absurd (omega (arith, heads is))
+
+one_swap : (key : List ℕ) (count : ℕ) (value : Value) (y : Op) → IsCommand (Swap key count value) → IsCommand y
+    → command_text (Swap key count value) ≡ command_text y → Swap key count value ≡ y
+one_swap key count value (Swap k n v) (is_key, little, small, is_text) (is_k, little_n, small_v, is_text_v) is =
+    let first = one_cut 32 key k (decimal count ++ and_value value) (decimal n ++ and_value v)
+    (visible_lacks 32 key (omega arith) is_key.visible) (visible_lacks 32 k (omega arith) is_k.visible)
+    (sym (append_assoc key (and_number count) (and_value value)) ∙ ap (λ (l : List ℕ). drop 5 l) is ∙ append_assoc k (and_number n) (and_value v)) in
+    let second = one_cut 32 (decimal count) (decimal n) (decimal value.count ++ and_word (spelled value.text))
+    (decimal v.count ++ and_word (spelled v.text))
+    (decimal_lacks 32 count little (omega arith)) (decimal_lacks 32 n little_n (omega arith)) first.1 in
+    let same_key : key ≡ k = first.0 in
+    let same_count : count ≡ n = decimal_injective count n little little_n second.0 in
+    let same_value : value ≡ v = one_value value v small small_v is_text is_text_v second.1 in
+    λ i. Swap (same_key i) (same_count i) (same_value i)
+one_swap key count value _ x y is = absurd (omega (arith, heads is))
 
 one_command : (x y : Op) → IsCommand x → IsCommand y → command_text x ≡ command_text y → x ≡ y
 one_command (Put key value) y allowed_x allowed_y is = one_put key value y allowed_x allowed_y is
 one_command (Add key count) y allowed_x allowed_y is = grind (arith, common_steps, nat_tests, one_cut, decimal, visible_lacks, decimal_injective, heads)
 one_command (Tail key tail) y allowed_x allowed_y is = grind (arith, common_steps, nat_tests, one_cut, visible_lacks, heads)
 one_command (Del key) y allowed_x allowed_y is = grind (arith, common_steps, nat_tests)
+one_command (New key value) y allowed_x allowed_y is = one_new key value y allowed_x allowed_y is
+one_command (Swap key count value) y allowed_x allowed_y is = one_swap key count value y allowed_x allowed_y is
 one_command (Get key) y allowed_x allowed_y is = grind (arith, common_steps, nat_tests)
 one_command (Hold low high) y allowed_x allowed_y is = grind (arith, common_steps, nat_tests, one_cut, visible_lacks, heads)
 one_command (Next n) y allowed_x allowed_y is = grind (arith, common_steps, nat_tests, decimal_injective, heads)
@@ -95,6 +130,20 @@ command_lacks (Tail key tail) (is_key, is_tail) =
     (All-cons (λ byte. byte ≢ 10) 32 tail (λ same. absurd (omega arith)) (visible_lacks 10 tail (omega arith) is_tail.visible))
 command_lacks (Del key) is_key =
     All-append (λ byte. byte ≢ 10) (codes "del") (and_word key) (three_lack 100 101 108 (λ same. absurd (omega arith)) (λ same. absurd (omega arith)) (λ same. absurd (omega arith))) (key_lacks key is_key)
+command_lacks (New key value) (is_key, small, is_text) =
+    All-append (λ byte. byte ≢ 10) (codes "new" ++ and_word key) (and_value value)
+    (All-append (λ byte. byte ≢ 10) (codes "new") (and_word key) (three_lack 110 101 119 (λ same. absurd (omega arith))
+    (λ same. absurd (omega arith)) (λ same. absurd (omega arith))) (key_lacks key is_key))
+    (All-append (λ byte. byte ≢ 10) (and_number value.count) (and_word (spelled value.text)) (number_lacks value.count small)
+    (text_lacks value.text is_text))
+command_lacks (Swap key count value) (is_key, little, small, is_text) =
+    All-append (λ byte. byte ≢ 10) (codes "swap" ++ and_word key ++ and_number count) (and_value value)
+    (All-append (λ byte. byte ≢ 10) (codes "swap" ++ and_word key) (and_number count)
+    (All-append (λ byte. byte ≢ 10) (codes "swap") (and_word key) (four_lack 115 119 97 112 (λ same. absurd (omega arith))
+    (λ same. absurd (omega arith)) (λ same. absurd (omega arith)) (λ same. absurd (omega arith))) (key_lacks key is_key))
+    (number_lacks count little))
+    (All-append (λ byte. byte ≢ 10) (and_number value.count) (and_word (spelled value.text)) (number_lacks value.count small)
+    (text_lacks value.text is_text))
 command_lacks (Get key) is_key =
     All-append (λ byte. byte ≢ 10) (codes "get") (and_word key) (three_lack 103 101 116 (λ same. absurd (omega arith)) (λ same. absurd (omega arith)) (λ same. absurd (omega arith))) (key_lacks key is_key)
 command_lacks (Hold low high) (is_low, is_high) =
@@ -123,12 +172,35 @@ spelled_fits (byte ∷ bytes) fits = fits
 number_fits : (n : ℕ) → n < 2 ^ 64 → length (and_number n) ≤ 21
 number_fits n small = omega (arith, length-decimal-le 20 n (omega arith) (omega arith) small)
 
-command_fits : (op : Op) → IsCommand op → length (command_text op) ≤ 525
+command_fits : (op : Op) → IsCommand op → length (command_text op) ≤ 547
 command_fits (Put key value) (is_key, small, is_text) =
     omega (arith, length-append (codes "put" ++ and_word key) (and_value value), length-append (codes "put") (and_word key), length-append (and_number value.count) (and_word (spelled value.text)), number_fits value.count small, spelled_fits value.text is_text.fits, is_key.fits)
 command_fits (Add key count) (is_key, small) = omega (arith, length-append (codes "add" ++ and_word key) (and_number count), length-append (codes "add") (and_word key), number_fits count small, is_key.fits)
 command_fits (Tail key tail) (is_key, is_tail) = omega (arith, length-append (codes "tail" ++ and_word key) (and_word tail), length-append (codes "tail") (and_word key), is_key.fits, is_tail.fits)
 command_fits (Del key) is_key = omega (arith, length-append (codes "del") (and_word key), is_key.fits)
+command_fits (New key value) (is_key, small, is_text) =
+    omega (
+      arith,
+      length-append (codes "new" ++ and_word key) (and_value value),
+      length-append (codes "new") (and_word key),
+      length-append
+          (and_number value.count) (and_word (spelled value.text)),
+      number_fits value.count small,
+      spelled_fits value.text is_text.fits,
+      is_key.fits,
+    )
+command_fits (Swap key count value) (is_key, little, small, is_text) =
+    omega (
+      arith,
+      length-append (codes "swap" ++ and_word key ++ and_number count) (and_value value),
+      length-append (codes "swap" ++ and_word key) (and_number count),
+      length-append (codes "swap") (and_word key),
+      length-append (and_number value.count) (and_word (spelled value.text)),
+      number_fits count little,
+      number_fits value.count small,
+      spelled_fits value.text is_text.fits,
+      is_key.fits,
+    )
 command_fits (Get key) is_key = omega (arith, length-append (codes "get") (and_word key), is_key.fits)
 command_fits (Hold low high) (is_low, is_high) = omega (arith, length-append (codes "hold" ++ and_word low) (and_word high), length-append (codes "hold") (and_word low), is_low.fits, is_high.fits)
 command_fits (Next n) allowed = omega (arith, length-append (codes "next") (and_number n), number_fits n (omega (arith, allowed.1)))

@@ -16,7 +16,7 @@ use Rattle.std.proofs.lemmas.Fmt.{IsAscii-decimal, decimal_nonempty, decimal_dig
 use Rattle.std.specs.Borrow.{Bor}
 use Rattle.blsm_model.specs.declared.row.Value.{Value}
 use Rattle.blsm_model.specs.declared.op.Op.{Op}
-use Rattle.blsm_model.specs.declared.op.Op.TheVariants.{Put, Add, Tail, Del, Get, Hold, Next, Release, Work}
+use Rattle.blsm_model.specs.declared.op.Op.TheVariants.{Put, Add, Tail, Del, New, Swap, Get, Hold, Next, Release, Work}
 use Rattle.blsm_model.specs.Printed.{command_text, and_value, and_number, and_word}
 use Rattle.script_text.specs.declared.line.Verb.{Verb}
 use Rattle.script_text.specs.declared.line.Verb.TheVariants as verb
@@ -116,6 +116,23 @@ pub no_tail : (bytes : List ℕ) → ((x : List ℕ × List ℕ) → (bytes ≡ 
 no_tail bytes none (Tail key tail) (is, (is_key, is_tail)) = none (key, tail) (sym (ap (λ (l : List ℕ). drop 5 l) is), (is_key, is_tail))
 no_tail bytes none _ (is, allowed) = absurd (omega (arith, heads is))
 
+-- what isn't a key and a value is no new's arguments either
+pub no_new : (bytes : List ℕ) → ((x : List ℕ × Value) → (bytes ≡ x.0 ++ and_value x.1) × (IsKey x.0 × (x.1.count < 2 ^ 64) × IsText x.1.text) → ⊥) →
+    (op : Op)
+    → SpellsArguments verb.New bytes op → ⊥
+no_new bytes none (New key value) (is, (is_key, small, is_text)) = none (key, value)
+    (sym (ap (λ (l : List ℕ). drop 4 l) is), (is_key, small, is_text))
+no_new bytes none (Next n) (is, allowed) = absurd (omega (arith, heads (ap (λ (l : List ℕ). drop 2 l) is)))
+no_new bytes none _ (is, allowed) = absurd (omega (arith, heads is))
+
+-- what isn't a key, a number and a value is no swap's arguments
+pub no_swap : (bytes : List ℕ)
+    → ((x : List ℕ × ℕ × Value) → (bytes ≡ x.0 ++ and_number x.1 ++ and_value x.2) ×
+    (IsKey x.0 × (x.1 < 2 ^ 64) × (x.2.count < 2 ^ 64) × IsText x.2.text) → ⊥)
+    → (op : Op) → SpellsArguments verb.Swap bytes op → ⊥
+no_swap bytes none (Swap key count value) (is, allowed) = none (key, count, value) (sym (ap (λ (l : List ℕ). drop 5 l) is), allowed)
+no_swap bytes none _ (is, allowed) = absurd (omega (arith, heads is))
+
 -- what isn't two keys is no hold's arguments
 pub no_hold : (bytes : List ℕ) → ((x : List ℕ × List ℕ) → (bytes ≡ x.0 ++ and_word x.1) × (IsKey x.0 × IsKey x.1) → ⊥) → (op : Op) → SpellsArguments verb.Hold bytes op → ⊥
 no_hold bytes none (Hold low high) (is, (is_low, is_high)) = none (low, high) (sym (ap (λ (l : List ℕ). drop 5 l) is), (is_low, is_high))
@@ -139,6 +156,8 @@ form_of (Put key value) = worded verb.Put (key ++ and_value value) refl
 form_of (Add key count) = worded verb.Add (key ++ and_number count) refl
 form_of (Tail key tail) = worded verb.Tail (key ++ and_word tail) refl
 form_of (Del key) = worded verb.Del key refl
+form_of (New key value) = worded verb.New (key ++ and_value value) refl
+form_of (Swap key count value) = worded verb.Swap (key ++ and_number count ++ and_value value) refl
 form_of (Get key) = worded verb.Get key refl
 form_of (Hold low high) = worded verb.Hold (low ++ and_word high) refl
 form_of (Next n) = worded verb.Next (decimal n) refl

@@ -4,7 +4,7 @@ use Rattle.std.specs.Prelude.{◌≡◌, ℕ, zero, suc, ◌+◌, ◌*◌, ◌/�
 use Rattle.blsm_model.specs.Format.{overhead}
 use Rattle.blsm_model.specs.declared.key.Key.{Key}
 use Rattle.blsm_model.specs.declared.op.Op.{Op}
-use Rattle.blsm_model.specs.declared.op.Op.TheVariants.{Put, Add, Tail, Del, Get, Hold}
+use Rattle.blsm_model.specs.declared.op.Op.TheVariants.{Put, Add, Tail, Del, New, Swap, Get, Hold}
 use Rattle.blsm_model.specs.declared.history.Line.{Line}
 
 -- the state after a draw
@@ -76,6 +76,8 @@ HasMadeKeys (Put key value) = IsMade key
 HasMadeKeys (Add key count) = IsMade key
 HasMadeKeys (Tail key tail) = IsMade key
 HasMadeKeys (Del key) = IsMade key
+HasMadeKeys (New key value) = IsMade key
+HasMadeKeys (Swap key count value) = IsMade key
 HasMadeKeys (Get key) = IsMade key
 HasMadeKeys (Hold low high) = IsMade low × IsMade high
 HasMadeKeys _ = ⊤

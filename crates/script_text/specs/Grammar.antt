@@ -3,7 +3,7 @@ use Rattle.std.specs.Prelude.{◌≡◌, ◌≢◌, ⊤, ℕ, ◌+◌, ◌^◌, 
 use Rattle.std.specs.List.{All, before_first}
 use Rattle.blsm_model.specs.Format.{callers, most_key, most_lines, most_rows, most_rows_asked, most_tail, most_text, most_turns}
 use Rattle.blsm_model.specs.declared.op.Op.{Op}
-use Rattle.blsm_model.specs.declared.op.Op.TheVariants.{Put, Add, Tail, Del, Get, Hold, Next, Release, Work}
+use Rattle.blsm_model.specs.declared.op.Op.TheVariants.{Put, Add, Tail, Del, New, Swap, Get, Hold, Next, Release, Work}
 use Rattle.blsm_model.specs.declared.history.Line.{Line}
 use Rattle.blsm_model.specs.Printed.{and_word, command_text}
 use Rattle.blsm_model.specs.Scripts.{rows_of}
@@ -35,6 +35,8 @@ IsCommand (Put key value) = IsKey key × (value.count < 2 ^ 64) × IsText value.
 IsCommand (Add key count) = IsKey key × (count < 2 ^ 64)
 IsCommand (Tail key tail) = IsKey key × IsTail tail
 IsCommand (Del key) = IsKey key
+IsCommand (New key value) = IsKey key × (value.count < 2 ^ 64) × IsText value.text
+IsCommand (Swap key count value) = IsKey key × (count < 2 ^ 64) × (value.count < 2 ^ 64) × IsText value.text
 IsCommand (Get key) = IsKey key
 IsCommand (Hold low high) = IsKey low × IsKey high
 IsCommand (Next n) = (1 ≤ n) × (n ≤ most_rows)
@@ -55,9 +57,9 @@ pub record IsLine (bytes : List ℕ) (line : Line) : Type 0 where
   pub allowed : IsAllowed line
   pub spelled : bytes ≡ line_text line
 
--- how many bytes the longest line has, without its end: a put by a caller of two digits, of a count of twenty
+-- how many bytes the longest line has, without its end: a swap by a caller of two digits, of two counts of twenty
 abbrev pub longest_line : ℕ
-longest_line = 2 + 1 + 3 + (1 + most_key) + (1 + 20) + (1 + most_text)
+longest_line = 2 + 1 + 4 + (1 + most_key) + (1 + 20) + (1 + 20) + (1 + most_text)
 
 -- how many rows these lines ask for together
 abbrev pub all_rows_asked : List Line → ℕ

@@ -38,6 +38,23 @@ fn add_tail(piece: &mut Piece, key: &Key, tail: &Text)
     piece.add_and_tail(tail);
 }
 
+fn add_new(piece: &mut Piece, key: &Key, value: &Value)
+    requires { length piece.old + COMMAND ≤ LONGEST }
+    ensures { AddsToPiece piece.old (codes "new" ++ and_word key.now ++ and_value value.now) COMMAND piece.new }
+{
+    add_named_key(piece, b"new", key);
+    piece.add_and_value(value);
+}
+
+fn add_swap(piece: &mut Piece, key: &Key, count: u64, value: &Value)
+    requires { length piece.old + COMMAND ≤ LONGEST }
+    ensures { AddsToPiece piece.old (codes "swap" ++ and_word key.now ++ and_number count ++ and_value value.now) COMMAND piece.new }
+{
+    add_named_key(piece, b"swap", key);
+    piece.add_and_number(count);
+    piece.add_and_value(value);
+}
+
 fn add_hold(piece: &mut Piece, low: &Key, high: &Key)
     requires { length piece.old + COMMAND ≤ LONGEST }
     ensures { AddsToPiece piece.old (codes "hold" ++ and_word low.now ++ and_word high.now) COMMAND piece.new }
@@ -56,6 +73,8 @@ pub fn add_command(piece: &mut Piece, op: &Op)
         Op::Add(key, count) => add_add(piece, key, *count),
         Op::Tail(key, tail) => add_tail(piece, key, tail),
         Op::Del(key) => add_named_key(piece, b"del", key),
+        Op::New(key, value) => add_new(piece, key, value),
+        Op::Swap(key, count, value) => add_swap(piece, key, *count, value),
         Op::Get(key) => add_named_key(piece, b"get", key),
         Op::Hold(low, high) => add_hold(piece, low, high),
         Op::Next(n) => piece.add_named_number(b"next", u64::from(*n)),

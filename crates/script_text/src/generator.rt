@@ -123,9 +123,9 @@ pub fn generate(alloc: Global, seed: u64, count: u32) -> Result<Script, NoMemory
     ensures { IfOk result (λ script. script ≡ generated seed count) }
 {
     let mut generator = Generator { state: seed };
-    let mut lines = Vec::new(alloc);
+    let mut lines = Vec::with_capacity(alloc, count as usize)?;
     while lines.len() < count as usize {
-        lines.push(generator.make_line())?;
+        lines.push_reserved(generator.make_line());
     }
     Ok(Script::from_lines(lines))
 }

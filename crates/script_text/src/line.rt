@@ -53,6 +53,30 @@ fn read_key_and_value(bytes: &[u8]) -> Option<(Key, Value)>
     Some((key, value))
 }
 
+fn read_number_and_value(bytes: &[u8]) -> Option<(u64, Value)>
+    ensures { Reads (Spells (λ (both : ℕ × Value). decimal both.0 ++ and_value both.1)
+        (λ both. (both.0 < 2 ^ 64) × (both.1.count < 2 ^ 64) × IsText both.1.text))
+        bytes.now result }
+{
+    let (number, rest) = cut(bytes, b' ');
+    let rest = rest?;
+    let count = read_number(number)?;
+    let value = read_value(rest)?;
+    Some((count, value))
+}
+
+// The words of a swap.
+fn read_key_number_and_value(bytes: &[u8]) -> Option<(Key, u64, Value)>
+    ensures { Reads (Spells (λ (all : Key × ℕ × Value). all.0 ++ and_number all.1 ++ and_value all.2)
+        (λ all. IsKey all.0 × (all.1 < 2 ^ 64) × (all.2.count < 2 ^ 64) × IsText all.2.text)) bytes.now result }
+{
+    let (word, rest) = cut(bytes, b' ');
+    let rest = rest?;
+    let key = read_key(word)?;
+    let (count, value) = read_number_and_value(rest)?;
+    Some((key, count, value))
+}
+
 fn read_key_and_number(bytes: &[u8]) -> Option<(Key, u64)>
     ensures { Reads (Spells (λ (both : Key × ℕ). both.0 ++ and_number both.1) (λ both. IsKey both.0 × (both.1 < 2 ^ 64))) bytes.now result }
 {
@@ -89,6 +113,8 @@ enum Verb {
     Add,
     Tail,
     Del,
+    New,
+    Swap,
     Get,
     Hold,
     Next,
@@ -103,6 +129,8 @@ fn read_verb(word: &[u8]) -> Option<Verb>
         b"add" => Some(Verb::Add),
         b"tail" => Some(Verb::Tail),
         b"del" => Some(Verb::Del),
+        b"new" => Some(Verb::New),
+        b"swap" => Some(Verb::Swap),
         b"get" => Some(Verb::Get),
         b"hold" => Some(Verb::Hold),
         b"next" => Some(Verb::Next),
@@ -139,6 +167,14 @@ fn read_arguments(verb: Verb, bytes: &[u8]) -> Option<Op>
             Some(Op::Tail(key, tail))
         }
         Verb::Del => Some(Op::Del(read_key(bytes)?)),
+        Verb::New => {
+            let (key, value) = read_key_and_value(bytes)?;
+            Some(Op::New(key, value))
+        }
+        Verb::Swap => {
+            let (key, count, value) = read_key_number_and_value(bytes)?;
+            Some(Op::Swap(key, count, value))
+        }
         Verb::Get => Some(Op::Get(read_key(bytes)?)),
         Verb::Hold => {
             let (low, high) = read_two_keys(bytes)?;

@@ -23,11 +23,11 @@ pub const AND_TEXT: usize = 1 + Text::MAX_LEN;
 
 pub const AND_VALUE: usize = AND_NUMBER + AND_TEXT;
 
-/// The longest command: a put.
-pub const COMMAND: usize = 3 + AND_KEY + AND_VALUE;
+/// The longest command: a swap.
+pub const COMMAND: usize = 4 + AND_KEY + AND_NUMBER + AND_VALUE;
 
-/// The longest reply that gives no rows: a value.
-pub const REPLY: usize = 2 + AND_VALUE;
+/// The longest reply that gives no rows: the value by which a new or a swap is kept.
+pub const REPLY: usize = 4 + AND_VALUE;
 
 /// What stands before the reply: the place, the caller, the command and an arrow.
 pub const LINE_START: usize = NUMBER + AND_NUMBER + 1 + COMMAND + 4;
@@ -40,7 +40,7 @@ pub const LONGEST: usize = LINE_START + REPLY + LINE_END;
 
 /// The text of a line while it is gathered, of at most `LONGEST` bytes. Contracts see it as the list of its bytes.
 ///
-/// It takes some 1,060 bytes, so one serves for all lines, and each function takes it by reference.
+/// It takes some 1,080 bytes, so one serves for all lines, and each function takes it by reference.
 #[derive(Debug, Drop)]
 pub struct Piece {
     bytes: ArrayVec<u8, LONGEST>,

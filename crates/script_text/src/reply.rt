@@ -1,6 +1,6 @@
 // A reply in words.
 ghost use Rattle.std.specs.Prelude.{◌≡◌, ◌+◌, ◌≤◌, ◌++◌, codes, length};
-ghost use Rattle.blsm_model.specs.Printed.{and_row, and_value, and_word, reply_text, why_text};
+ghost use Rattle.blsm_model.specs.Printed.{and_found, and_row, and_value, and_word, reply_text, why_text};
 ghost use Rattle.blsm_model.specs.Stored.{as_reply};
 ghost use Rattle.script_text.specs.Pieces.{AddsToPiece};
 
@@ -18,6 +18,17 @@ fn add_is(piece: &mut Piece, value: &Value)
 {
     piece.add(b"is");
     piece.add_and_value(value);
+}
+
+fn add_kept(piece: &mut Piece, found: &Option<Value>)
+    requires { length piece.old + REPLY ≤ LONGEST }
+    ensures { AddsToPiece piece.old (codes "kept" ++ and_found found.now) REPLY piece.new }
+{
+    piece.add(b"kept");
+    match found {
+        Some(value) => piece.add_and_value(value),
+        None => piece.add(b" none"),
+    }
 }
 
 fn add_why(piece: &mut Piece, why: &Why)
@@ -47,6 +58,7 @@ pub fn add_reply(piece: &mut Piece, reply: &ShortReply)
         ShortReply::Done => piece.add(b"ok"),
         ShortReply::Is(value) => add_is(piece, value),
         ShortReply::Absent => piece.add(b"none"),
+        ShortReply::Kept(found) => add_kept(piece, found),
         ShortReply::Held => piece.add(b"held"),
         ShortReply::NoHold => piece.add(b"nohold"),
         ShortReply::Did(turns) => piece.add_named_number(b"did", u64::from(*turns)),

@@ -114,6 +114,8 @@ fn note_write(flags: &mut [bool; PLACES], op: &Op)
         Op::Add(key, _) => flags[place_of(key)] = true,
         Op::Tail(key, _) => flags[place_of(key)] = true,
         Op::Del(key) => flags[place_of(key)] = false,
+        Op::New(key, _) => flags[place_of(key)] = true,
+        Op::Swap(key, _, _) => flags[place_of(key)] = true,
         _ => (),
     }
 }

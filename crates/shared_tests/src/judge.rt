@@ -1,6 +1,6 @@
 // A plain judge of histories: the list of the writes, and the rows that each caller holds, entry by entry.
 use crate::asserts::{assert_same, assert_that};
-use blsm_model::{Annals, CALLERS, Key, Line, Op, Reply, Row, Why, Write, value_of};
+use blsm_model::{Annals, CALLERS, Key, Line, Op, Reply, Row, Value, Why, Write, value_of};
 use disk_mem::MemDisk;
 use disk_trait::Disk;
 use std::alloc::Global;
@@ -13,6 +13,11 @@ struct Held {
     given: usize,
 }
 
+// Up to which charge a store of the least size takes a write, and a del, in bytes.
+const MOST: u64 = 121_856;
+
+const MOST_OF_DELS: u64 = 139_264;
+
 /// The writes that were done, in order, what each caller holds, and how the store failed.
 #[derive(Drop)]
 pub struct Judge {
@@ -20,7 +25,9 @@ pub struct Judge {
     // The same, with the write that may be there or not.
     tried: Vec<Write>,
     held: Vec<Option<Held>>,
-    // How many lookups and nexts failed.
+    // What the writes weigh that were done, in bytes.
+    charge: u64,
+    // How many lookups and nexts failed, and lookups of a new or a swap.
     faults: u64,
     // Why the store stopped, and whether a reply told of it.
     stopped: Option<Why>,
@@ -105,6 +112,7 @@ impl Judge {
             writes: Vec::new(alloc),
             tried: Vec::new(alloc),
             held,
+            charge: 0,
             faults: 0,
             stopped,
             is_told: false,
@@ -143,16 +151,63 @@ impl Judge {
         }
     }
 
-    // A write was done.
-    fn write(&mut self, rt: &impl Abort, done: Write, tried: Write) {
-        assert_that(rt, self.writes.push(done).is_ok());
-        assert_that(rt, self.tried.push(tried).is_ok());
+    // What a write finds that looks first and is kept out by it.
+    fn bar(&self, op: &Op) -> Option<Option<Value>> {
+        match op {
+            Op::New(key, _) => match value_of(&self.writes, key) {
+                None => None,
+                found => Some(found),
+            },
+            Op::Swap(key, count, _) => match value_of(&self.writes, key) {
+                Some(value) if value.count == *count => None,
+                found => Some(found),
+            },
+            _ => None,
+        }
     }
 
-    // A write may be there or not: the store stops.
-    fn try_write(&mut self, rt: &impl Abort, tried: Write) {
-        assert_that(rt, self.tried.push(tried).is_ok());
+    // A write was done.
+    fn write(&mut self, rt: &impl Abort, op: &Op) {
+        assert_that(rt, op.is_write());
+        self.charge = self.charge.saturating_add(op.weight());
+        assert_that(rt, self.writes.push(op.write()).is_ok());
+        assert_that(rt, self.tried.push(op.write()).is_ok());
+    }
+
+    // A write is refused for its size, at a charge that may have fallen by merges since the writes.
+    fn refuse(&self, rt: &impl Abort, op: &Op, charge: u64) {
+        assert_that(rt, op.is_write());
+        let most = match op {
+            Op::Del(_) => MOST_OF_DELS,
+            _ => MOST,
+        };
+        assert_that(rt, charge <= self.charge);
+        assert_that(rt, charge.saturating_add(op.weight()) > most);
+    }
+
+    // A write is kept out exactly where it looks first and its condition fails; else it is done, or refused for its size.
+    fn answer_write(&mut self, rt: &impl Abort, op: &Op, reply: &Reply) {
+        match (self.bar(op), reply) {
+            (Some(found), _) => assert_that(rt, *reply == Reply::Kept(found)),
+            (None, Reply::Full(charge)) => self.refuse(rt, op, *charge),
+            (None, _) => {
+                assert_that(rt, *reply == Reply::Done);
+                self.write(rt, op);
+            }
+        }
+    }
+
+    // A write failed, which nothing had kept out: the store stops.
+    fn lose_write(&mut self, rt: &impl Abort, op: &Op) {
+        assert_that(rt, self.bar(op).is_none());
         self.stop(rt);
+    }
+
+    // One that may be there or not.
+    fn try_write(&mut self, rt: &impl Abort, op: &Op) {
+        assert_that(rt, op.is_write());
+        self.lose_write(rt, op);
+        assert_that(rt, self.tried.push(op.write()).is_ok());
     }
 
     // The first reply that tells of the stop.
@@ -168,17 +223,13 @@ impl Judge {
                 assert_same(rt, self.stopped, Some(*why));
                 self.is_told = true;
             }
-            (Op::Get(_) | Op::Next(_), Reply::Fault) => {
+            (Op::Get(_) | Op::Next(_) | Op::New(..) | Op::Swap(..), Reply::Fault) => {
                 assert_that(rt, !self.is_told);
                 self.faults = self.faults.saturating_add(1);
             }
             (Op::Work(_), Reply::Fault) => self.stop(rt),
-            (Op::Put(..) | Op::Add(..) | Op::Tail(..) | Op::Del(_), Reply::FaultLost) => {
-                self.stop(rt)
-            }
-            (Op::Put(..) | Op::Add(..) | Op::Tail(..) | Op::Del(_), Reply::FaultUnsure) => {
-                self.try_write(rt, op.write())
-            }
+            (_, Reply::FaultLost) if op.is_write() => self.lose_write(rt, op),
+            (_, Reply::FaultUnsure) if op.is_write() => self.try_write(rt, op),
             _ => return false,
         }
         true
@@ -202,10 +253,7 @@ impl Judge {
                 Reply::Did(turns) => assert!(rt; turns <= n),
                 _ => rt.abort(),
             },
-            Op::Put(..) | Op::Add(..) | Op::Tail(..) | Op::Del(_) => {
-                assert_that(rt, *reply == Reply::Done);
-                self.write(rt, op.write(), op.write());
-            }
+            _ => self.answer_write(rt, op, reply),
         }
     }
 

@@ -4,6 +4,8 @@
 #[cfg(test)]
 mod asserts;
 #[cfg(test)]
+mod contests;
+#[cfg(test)]
 mod judge;
 #[cfg(test)]
 mod random;

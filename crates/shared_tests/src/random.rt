@@ -24,25 +24,43 @@ impl Draws {
     }
 }
 
-// The longest text there is: 435 letters.
-const LETTERS: &str =
-    "abcdefghijklmnopqrstuvwxyzabcdefghijklmnopqrstuvwxyzabcdefghijklmnopqrstuvwxyzabcdefghijklmnopqrstuvwxyzabcdefghijklmnopqrstuvwxyzabcdefghijklmnopqrstuvwxyzabcdefghijklmnopqrstuvwxyzabcdefghijklmnopqrstuvwxyzabcdefghijklmnopqrstuvwxyzabcdefghijklmnopqrstuvwxyzabcdefghijklmnopqrstuvwxyzabcdefghijklmnopqrstuvwxyzabcdefghijklmnopqrstuvwxyzabcdefghijklmnopqrstuvwxyzabcdefghijklmnopqrstuvwxyzabcdefghijklmnopqrstuvwxyzabcdefghijklmnopqrs";
+/// A quarter of the longest text there is, but for a mark of three digits.
+pub const LETTERS: &str =
+    "abcdefghijklmnopqrstuvwxyzabcdefghijklmnopqrstuvwxyzabcdefghijklmnopqrstuvwxyzabcdefghijklmnopqrstuvwxyzabcd";
 
-// A command on one of ten keys, k0 to k9. A range may be empty.
+// What a put sets: a count of two, so that a swap's condition holds often, and often not, and a text that few others have.
+fn any_value(alloc: Global, draws: &mut Draws) -> Result<String, AllocError> {
+    let count = draws.below(2);
+    let mark = 100 + draws.below(900);
+    format!(in alloc; "{count} {mark}{LETTERS}{LETTERS}{LETTERS}{LETTERS}")
+}
+
+// A write of one of ten keys, k0 to k9.
+fn any_write(alloc: Global, draws: &mut Draws) -> Result<String, AllocError> {
+    let key = draws.below(10);
+    let count = draws.below(2);
+    let value = any_value(alloc, draws)?;
+    match draws.below(18) {
+        0..=4 => format!(in alloc; "put k{key} {value}"),
+        5..=6 => format!(in alloc; "add k{key} {}", 1 + count),
+        7..=8 => format!(in alloc; "tail k{key} {}/{count}", draws.below(1_000)),
+        9..=11 => format!(in alloc; "del k{key}"),
+        12..=14 => format!(in alloc; "new k{key} {value}"),
+        _ => format!(in alloc; "swap k{key} {count} {value}"),
+    }
+}
+
+// A command on these keys. A range may be empty.
 fn any_command(alloc: Global, draws: &mut Draws) -> Result<String, AllocError> {
     let key = draws.below(10);
     let other = draws.below(10);
-    let count = draws.below(1_000);
-    match draws.below(18) {
-        0..=5 => format!(in alloc; "put k{key} {count} {LETTERS}"),
-        6..=7 => format!(in alloc; "add k{key} {count}"),
-        8 => format!(in alloc; "del k{key}"),
-        9..=10 => format!(in alloc; "get k{key}"),
-        11..=12 => format!(in alloc; "hold k{key} k{other}"),
-        13 => format!(in alloc; "next {}", 1 + key),
-        14 => String::from_str(alloc, "drop"),
-        15..=16 => format!(in alloc; "tail k{key} {count}/{other}"),
-        _ => format!(in alloc; "work {}", 1 + other),
+    match draws.below(24) {
+        0..=1 => format!(in alloc; "get k{key}"),
+        2..=3 => format!(in alloc; "hold k{key} k{other}"),
+        4 => format!(in alloc; "next {}", 1 + key),
+        5 => String::from_str(alloc, "drop"),
+        6 => format!(in alloc; "work {}", 1 + other),
+        _ => any_write(alloc, draws),
     }
 }
 

@@ -90,7 +90,7 @@ const NONE: u64 = 1_000_000_000_000_999_000;
 const ANY: u64 = 1_000_000;
 
 // Stores that begin a pass at once, or never in so short a script; seeds, and how many calls the disk answers. The opening takes fewer, and the writes
-// of each script alone take more: half of its lines are writes, of four calls each.
+// of each script that ask nothing first alone take more: two of five of its lines are such, of four calls each.
 const CASES: [(u64, u64, u64); 6] = [
     (LOW, 1, ANY),
     (LOW, 2, 40),

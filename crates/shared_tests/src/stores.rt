@@ -2,14 +2,15 @@
 ghost use Rattle.std.specs.Prelude.{◌≤◌};
 
 use crate::asserts::assert_same;
-use blsm_model::{Annals, Geometry, NoGate, Totals};
+use blsm_model::{Annals, Gate, Geometry, Point, Totals};
 use disk_mem::MemDisk;
 use recover_open::{make_store, open_store};
 use script_text::{Script, read_script};
 use std::alloc::Global;
 use std::process::Abort;
 use std::sync::Wait;
-use std::thread::Threads;
+use std::sync::atomic::{AtomicU64, Ordering};
+use std::thread::{Threads, yield_now};
 use tree_shared::{an_opened_core_is_fresh, run_all};
 
 // How many bytes of record a disk has beside those of its making.
@@ -54,6 +55,22 @@ pub fn script(rt: &impl Abort, alloc: Global, text: &[u8]) -> Script {
     }
 }
 
+// A gate at which who comes gives way, up to seven times by a draw, so that callers and workers come between one another.
+#[derive(Drop)]
+struct Restless {
+    came: AtomicU64,
+}
+
+impl Gate for Restless {
+    fn at(&self, _seat: u32, _point: Point) {
+        let came = self.came.fetch_add(1, Ordering::SeqCst);
+        let times = came.wrapping_mul(6_364_136_223_846_793_005) >> 61;
+        for _ in 0..times {
+            yield_now();
+        }
+    }
+}
+
 /// What a run leaves.
 #[derive(Drop)]
 pub struct Ran {
@@ -76,7 +93,10 @@ pub fn run<R: Abort + Threads + Wait + Sync>(
     let Ok(core) = open_store(alloc, disk, script.room()) else {
         rt.abort()
     };
-    let Ok(core) = run_all(rt, alloc, core, script.lines(), workers, TURNS, &NoGate) else {
+    let gate = Restless {
+        came: AtomicU64::new(0),
+    };
+    let Ok(core) = run_all(rt, alloc, core, script.lines(), workers, TURNS, &gate) else {
         rt.abort()
     };
     let (disk, annals, totals) = core.end();

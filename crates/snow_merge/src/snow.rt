@@ -4,7 +4,7 @@ ghost use Rattle.std.specs.List.{Contains};
 ghost use Rattle.blsm_model.specs.Components.{empty_component};
 ghost use Rattle.blsm_model.specs.declared.key.Key.{Key};
 ghost use Rattle.blsm_model.specs.Keys.{key_cmp};
-ghost use Rattle.blsm_model.specs.Format.{least_weight, most_weight};
+ghost use Rattle.blsm_model.specs.Format.{least_weight, most_weight, overhead};
 ghost use Rattle.blsm_model.specs.Sizes.{Sizes};
 ghost use Rattle.blsm_model.specs.Geometry.{page_count, file_length};
 ghost use Rattle.bloom_bits.specs.BitSet.{BitState, cleared};
@@ -88,23 +88,41 @@ fn lesser(first: &LentEntry, key: &Key, below: &Rec, room: &mut Option<(Key, Rec
     }
 }
 
+// Puts the table's entry into the room, over what stands there.
+fn put_in(first: &LentEntry, room: &mut Option<(Key, Rec)>)
+    ensures { room.new ≡ Some first.now }
+{
+    if let Some((key, rec)) = room {
+        first.read_over(key, rec);
+        return;
+    }
+    put_first(first, room);
+}
+
 // What holds a record stays a call, as a function zeroes all its locals at entry.
-// The table's entry, which is taken alone, in the room.
+// The same where the room is empty.
 #[inline(never)]
+fn put_first(first: &LentEntry, room: &mut Option<(Key, Rec)>)
+    ensures { room.new ≡ Some first.now }
+{
+    *room = Some(first.copy());
+}
+
+// The table's entry, which is taken alone, in the room.
 fn copied(first: &LentEntry, room: &mut Option<(Key, Rec)>) -> Taken
     ensures group { result ≡ InRoom (weight_with first.now.0 first.now.1) }
     ensures room { room.new ≡ Some first.now }
     ensures some { least_weight ≤ weight_with first.now.0 first.now.1 }
     ensures light { weight_with first.now.0 first.now.1 ≤ most_weight }
 {
-    let (key, rec) = first.copy();
-    let weight = weight(&key, &rec);
-    *room = Some((key, rec));
-    Taken::InRoom(weight)
+    put_in(first, room);
+    match room {
+        Some((key, rec)) => Taken::InRoom(weight(key, rec)),
+        None => unreachable!(),
+    }
 }
 
 // The table's entry and an older one of its key, in the room.
-#[inline(never)]
 fn folded(first: &LentEntry, key: &Key, below: &Rec, room: &mut Option<(Key, Rec)>) -> Taken
     requires { key_cmp key.now first.now.0 ≡ Ordering.Equal }
     ensures group { result ≡ InRoom (weight_with first.now.0 first.now.1 + weight_with key.now below.now) }
@@ -114,10 +132,38 @@ fn folded(first: &LentEntry, key: &Key, below: &Rec, room: &mut Option<(Key, Rec
     ensures light { weight_with first.now.0 (fold_of first.now.1 below.now) ≤ weight_with first.now.0 first.now.1 + weight_with key.now below.now }
     ensures grows { weight_with first.now.0 first.now.1 ≤ weight_with first.now.0 (fold_of first.now.1 below.now) }
 {
-    let (same, rec) = first.copy();
-    let weight = weight(&same, &rec) + weight(key, below);
-    *room = Some((same, fold(rec, below.copy())));
-    Taken::InRoom(weight)
+    put_in(first, room);
+    match room {
+        Some((same, rec)) => {
+            let weight = weight(same, rec) + weight(key, below);
+            fold_over(rec, below);
+            Taken::InRoom(weight)
+        }
+        None => unreachable!(),
+    }
+}
+
+// Folds a record over an older one, where it lies. A base and a tombstone stay, and nothing is copied for them.
+fn fold_over(rec: &mut Rec, below: &Rec)
+    ensures folded { rec.new ≡ fold_of rec.old below.now }
+    ensures lighter { (key : Key) → weight_with key rec.new + (overhead + length key) ≤ weight_with key rec.old + weight_with key below.now }
+    ensures grows { (key : Key) → weight_with key rec.old ≤ weight_with key rec.new }
+{
+    match rec {
+        Rec::Base(_) => {}
+        Rec::Delta(_) => fold_delta(rec, below),
+        Rec::Tomb => {}
+    }
+}
+
+// The same of a delta, which is made anew.
+#[inline(never)]
+fn fold_delta(rec: &mut Rec, below: &Rec)
+    ensures folded { rec.new ≡ fold_of rec.old below.now }
+    ensures lighter { (key : Key) → weight_with key rec.new + (overhead + length key) ≤ weight_with key rec.old + weight_with key below.now }
+    ensures grows { (key : Key) → weight_with key rec.old ≤ weight_with key rec.new }
+{
+    *rec = fold(rec.copy(), below.copy());
 }
 
 impl Newer for InMemory<'_> {

@@ -59,7 +59,8 @@ shows_opening sizes opening history n file c shows reads here =
 -- Some calls led on from a store that was opened on a disk: what a crash leaves of them at each moment since the first.
 module _ {D : Type 0} (state : D → DiskState) (timed : (d : D) → IsTimed (state d)) (opening : List (Key × Value)) (calls : List (Step × CoreState D)) (first : DiskState) (old new : CoreState D)
     (m : Machine) (none : old.held.book.book.entries ≡ []) (whole : StandsWhole state opening old m) (keeps : KeepsMapOf old.held.runs.sizes opening first (state old.disk))
-    (syncs : SyncsLater (state old.disk) (state new.disk)) (sizes_stand : new.held.runs.sizes ≡ old.held.runs.sizes) (steps : ChainIsSteps state opening calls old new m) (called : AreCalled state old calls) where
+    (syncs : SyncsLater (state old.disk) (state new.disk)) (sizes_stand : new.held.runs.sizes ≡ old.held.runs.sizes)
+    (steps : ChainIsSteps state opening calls old new m) (called : AreCalled state old calls) where
   abbrev sizes : Sizes
   sizes = old.held.runs.sizes
 
@@ -103,7 +104,8 @@ module _ {D : Type 0} (state : D → DiskState) (timed : (d : D) → IsTimed (st
     acknowledged = steps.acknowledged;
   }
 
-  pub leaves_history : (run : Run) → run.entries ≡ entries → LeavesHistory state calls sizes opening run m (outcomes_in steps.made) first old (state new.disk)
+  pub leaves_history : (run : Run) → run.entries ≡ entries → LeavesHistory state calls sizes opening run m (outcomes_in steps.made) first old
+      (state new.disk)
   leaves_history run is = record {
     begins = keeps;
     each = subst (λ (es : List Entry). LeavesOnly first (state new.disk) (IsOldOr first.images (ShowsHistory sizes opening es 0))) (sym is)

@@ -27,8 +27,7 @@ use Rattle.core_lists.proofs.FileWeights.{running_is_sure}
 use Rattle.disk_trait.specs.Disk.{DiskState, GoesOn}
 use Rattle.disk_trait.specs.Moments.{IsTimed}
 use Rattle.pacing.specs.Kept.{most_taken}
-use Rattle.recover_open.specs.Opening.{KeepsMapOf, OpensAs, most_opening_calls}
-use Rattle.tree_settling.specs.Settling.{CallsFew}
+use Rattle.recover_open.specs.Opening.{KeepsMapOf, OpensAs, TakesFew}
 use Rattle.record_delta.specs.Entries.{Entries, entries_weight}
 use Rattle.seat_book.specs.Seats.{turns_in}
 use Rattle.seat_book.specs.State.{BookState, book_of, totals_in}
@@ -156,7 +155,7 @@ ends_of state opening sizes c1 c2 catalogue faults room steps old new play = rec
 pub record Session {D : Type 0} (state : D → DiskState) (room : Room) (lines : List Line) (first : DiskState) (old new : CoreState D) : Type 0 where
   pub opens : OpensAs state room old first.bytes
   pub goes_on : GoesOn first (state old.disk)
-  pub calls : CallsFew (most_opening_calls old.held.runs.sizes) first (state old.disk)
+  pub takes : TakesFew old.held.runs.sizes first (state old.disk)
   pub calm : (state old.disk).faults ≡ first.faults
   pub ran : old.held.book.stopped ≡ None
   pub run : HasRun state lines old new
@@ -224,7 +223,7 @@ served_from {D} state room lines first old new c1 c2 catalogue session whole ste
       no_page = no_page_of opens.pairs new.held machine _ after (charge_in old.held) ends;
       opened = old.disk;
       starts = session.goes_on;
-      calls = session.calls;
+      takes = session.takes;
       goes_on = since.goes_on;
       calm = session.calm;
       reached = reached_of state sizes opens.pairs c1 c2 catalogue before.faults room steps old new refl session.ran whole refl play;
@@ -338,7 +337,8 @@ headline_from {D} state timed room lines workers turns first old new c1 c2 catal
       solo = solo_of served.reached lines workers runs.of_script (record { idle = ended.idle; even = ended.even })
           (λ (alone : workers ≡ 0). ap helps_in (its_steps steps.made ∙ steps.steps_are) ∙ rests (λ seat above below. (runs.rested seat (omega (arith, alone, above)) below).0));
       helped = subst (λ (ss : List Step). sum (drop callers new.held.book.seats.quanta) ≤ helps_in ss) (sym (its_steps steps.made ∙ steps.steps_are)) few;
-      crashes = leaves_history state timed opens.pairs runs.came.calls (state first) old new machine none whole map_kept session.run.effect.syncs session.run.since.sizes steps caused.tells.called (run_at (charge_in old.held) new.held) refl;
+      crashes = leaves_history state timed opens.pairs runs.came.calls (state first) old new machine none whole map_kept session.run.effect.syncs
+          session.run.since.sizes steps caused.tells.called (run_at (charge_in old.held) new.held) refl;
     }
 
 -- what is printed, with the headline

@@ -21,13 +21,12 @@ use Rattle.core_moves.specs.Held.{charge_in}
 use Rattle.core_pace.specs.Opening.{IsOpened}
 use Rattle.disk_trait.specs.Disk.{DiskState}
 use Rattle.disk_trait.specs.Moments.{IsTimed}
-use Rattle.recover_open.specs.Opening.{HasLengthOf, KeepsMapOf, OpensAs, StaysInside, most_opening_calls, no_entries}
+use Rattle.recover_open.specs.Opening.{HasLengthOf, KeepsMapOf, OpensAs, StaysInside, TakesFew, no_entries}
 use Rattle.seat_book.specs.State.{BookState}
 use Rattle.tree_core.specs.Core.{CoreState, IsCore}
 use Rattle.tree_core.specs.Steps.{StandsSince}
 use Rattle.tree_file.specs.Tree.{ReadsAsMap}
 use Rattle.tree_session.specs.Lines.{Rests}
-use Rattle.tree_settling.specs.Settling.{CallsFew}
 use Rattle.tree_shared.specs.Runs.{RunsAll}
 use Rattle.store_run.specs.Run.{AreCounted, CameToEnd, HasCauses, IsRunOf, Run, WasOpened, run_at}
 use Rattle.store_run.proofs.CauseLemmas.{AreCaused, causes_at}
@@ -44,7 +43,7 @@ pub record Opened {D : Type 0} (state : D → DiskState) (room : Room) (first : 
   pub holds : core.holds ≡ replicate callers None
   pub weighs : charge_in core.held ≡ core.held.runs.catalogue.c1.weight + core.held.runs.catalogue.c2.weight
   pub long : HasLengthOf core.held.runs.sizes (state first)
-  pub few : CallsFew (most_opening_calls core.held.runs.sizes) (state first) (state core.disk)
+  pub takes : TakesFew core.held.runs.sizes (state first) (state core.disk)
   pub inside : StaysInside (state first) (state core.disk)
   pub calm : (state core.disk).faults ≡ (state first).faults
   pub stands : IsTrue (state first).is_honest → OpensAs state room core (state first).bytes
@@ -74,7 +73,7 @@ module _ {D : Type 0} (state : D → DiskState) (timed : (d : D) → IsTimed (st
     begins = o.opened;
     weighs = o.weighs;
     goes_on = o.inside.effect.goes_on;
-    few = o.few;
+    takes = o.takes;
     calm = o.calm;
     long = o.long;
   }
@@ -97,7 +96,15 @@ module _ {D : Type 0} (state : D → DiskState) (timed : (d : D) → IsTimed (st
       let opens = o.stands honest in
       let helps = chain_helps state runs.came.calls old new unasked runs.came.are in
       whole_headline state timed room lines workers turns first old new
-      (record { opens = opens; goes_on = o.inside.effect.goes_on; calls = o.few; calm = o.calm; ran = ap (λ (b : BookState). b.stopped) o.opened.book; run = has_run })
+      (record {
+        opens = opens;
+        goes_on = o.inside.effect.goes_on;
+        takes = o.takes;
+        calm = o.calm;
+        ran = ap (λ (b : BookState). b.stopped)
+            o.opened.book;
+        run = has_run;
+      })
       none_noted (o.kept old.held.runs.sizes opens.pairs honest opens.reads) runs was_opened are_caused
       (λ opening m stands. chain_is_steps state opening runs.came.calls old new m (timed new.disk) o.keeps runs.came.are (o.inside.effect.goes_on.is_honest ∙ honest) stands)
       (few_turned state runs.came.calls (no_entries room) (state old.disk).faults old new o.opened helps) helps.rests last same run is

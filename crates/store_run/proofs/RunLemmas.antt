@@ -86,7 +86,8 @@ pub record HasRun {D : Type 0} (state : D → DiskState) (lines : List Line) (ol
   pub effect : Reaches (file_length old.held.runs.sizes) calls (state old.disk) (state new.disk)
 
 -- one thread did the lines one after another
-module _ {D : Type 0} (state : D → DiskState) (lines : List Line) (annals : Book) (faults : ℕ) (old new : CoreState D) (opened : IsOpened annals faults old.held) (first : IsCore old.held (state old.disk))
+module _ {D : Type 0} (state : D → DiskState) (lines : List Line) (annals : Book) (faults : ℕ) (old new : CoreState D)
+    (opened : IsOpened annals faults old.held) (first : IsCore old.held (state old.disk))
     (begins : StandsSince state old old) (runs : Runs state lines old new) where
   core : IsCore new.held (state new.disk)
   core = chain_keeps state (λ (c : CoreState D). IsCore c.held (state c.disk)) (link_keeps state) runs.made.0 old new runs.made.1 first

@@ -2,7 +2,8 @@
 -- printed. Each phrase has its word here, or in `IsRunOf`:
 --
 --   each caller's commands once, in order                        `IsRunOf.of_script`
---   the sequential map's replies                                 `IsServed.replies`; a write is refused for size or for a fault alone
+--   the sequential map's replies                                 `IsServed.replies`; a write is refused for size or for a fault alone (`kept` of
+--                                                                one that looks first is a reply of the map)
 --   the memory table never passes its bytes                      `IsRunOf.peak`, `EndsWithin.lanes`
 --   each write does few merge quanta itself                      `IsRunOf.few`; and the quanta are real: `EndsWithin.components`, `IsServed.commits`, `IsServed.stands`
 --   every crash image opens to a prefix of the history           `LeavesHistory.each`, `LeavesHistory.once_synced`
@@ -35,13 +36,13 @@ use Rattle.tree_machine.specs.Machine.{Catalogue, Machine, opened, totals}
 use Rattle.tree_machine.specs.Outcomes.{AreTold}
 use Rattle.tree_machine.specs.Plays.{played}
 use Rattle.tree_machine.specs.Steps.{Outcome, swaps_due}
+use Rattle.tree_core.specs.Causes.{pages_first}
 use Rattle.tree_core.specs.Core.{CoreState}
 use Rattle.tree_file.specs.Tree.{Tree, HoldsTree, ReadsAsMap, components_weight, lists_of}
 use Rattle.core_lists.specs.Shown.{HasCommitted, ShowsHistory, doubted, lanes_weight}
 use Rattle.core_lists.specs.Standing.{catalogue_of}
 use Rattle.tree_reading.specs.Damage.{most_version}
-use Rattle.recover_open.specs.Opening.{KeepsMapOf, OpensAs, most_opening_calls, weight_of_tree}
-use Rattle.tree_settling.specs.Settling.{CallsFew}
+use Rattle.recover_open.specs.Opening.{KeepsMapOf, OpensAs, TakesFew, weight_of_tree}
 use Rattle.core_chain.specs.Quanta.{helps_in}
 use Rattle.core_chain.specs.Start.{steps_of}
 use Rattle.core_chain.specs.Tells.{AreCalled}
@@ -105,10 +106,10 @@ pub record IsServed {D : Type 0} (state : D → DiskState) (sizes : Sizes) (run 
   -- the sequential map's replies, or refusals by name; none tells of a page
   pub replies : IsLegal (limits_of sizes run.charge) opening run.entries
   pub no_page : finds_damage run ≡ false
-  -- the opening made few calls, none of which failed, and from there the end is reached
+  -- the opening made no more calls than what the disk had takes, none of which failed, and from there the end is reached
   pub opened : D
   pub starts : GoesOn first (state opened)
-  pub calls : CallsFew (most_opening_calls sizes) first (state opened)
+  pub takes : TakesFew sizes first (state opened)
   pub goes_on : GoesOn (state opened) last
   pub calm : (state opened).faults ≡ first.faults
   pub reached : IsReached sizes opening run room (state opened).bytes (state opened).faults last.faults
@@ -136,8 +137,9 @@ pub record HaveMoments {D : Type 0} (state : D → DiskState) (calls : List (Ste
       → ShowsHistory sizes opening run.entries (length (noted_after begin n steps)) c
   -- A write was acknowledged behind the first n steps: by the end of its own step, and later than theirs, a sync of its own ended well, which the disk's last state
   -- tells still. So n writes that were acknowledged have n such moments, which rise.
-  pub acknowledged : (n : ℕ) → Acknowledges begin n steps
-      → HasOwnSync (swaps_due (after_steps begin n steps)) (clock_after (state opened.disk).clock n steps) (clock_after (state opened.disk).clock (suc n) steps) last
+  pub acknowledged : (n : ℕ) → (it : Acknowledges begin n steps)
+      → HasOwnSync (pages_first it.entry.op) (swaps_due (after_steps begin n steps)) (clock_after (state opened.disk).clock n steps)
+      (clock_after (state opened.disk).clock (suc n) steps) last
 
 -- What a crash leaves while the history is made. The disk was `first` before the call, that of `opened` when the store was open, and is `last` after
 -- it.
@@ -190,4 +192,5 @@ pub record Headline {D : Type 0} (state : D → DiskState) (sizes : Sizes) (line
   pub helped : run.totals.workers ≤ helps_in (map (λ one. one.0) served.reached.made)
   pub solo : Solo lines workers run (begin_of served.reached)
   pub crashes
-      : LeavesHistory state causes.calls sizes served.opening run (begin_of served.reached) served.reached.made (state first) causes.opened (state last)
+      : LeavesHistory state causes.calls sizes served.opening run (begin_of served.reached) served.reached.made (state first) causes.opened
+      (state last)

@@ -34,8 +34,7 @@ use Rattle.core_chain.specs.Start.{IsUnasked}
 use Rattle.tree_shared.specs.Runs.{SawFront}
 use Rattle.core_chain.specs.Tells.{AreCalled, calls_of_all, lookups_failed}
 use Rattle.core_pace.specs.Opening.{IsOpened}
-use Rattle.recover_open.specs.Opening.{HasLengthOf, most_opening_calls, no_entries}
-use Rattle.tree_settling.specs.Settling.{CallsFew}
+use Rattle.recover_open.specs.Opening.{HasLengthOf, TakesFew, calls_taken, no_entries}
 use Rattle.store_run.specs.declared.run.Ending.{Ending}
 use Rattle.store_run.specs.declared.run.Ending.TheVariants.{Well, Faulted, Damaged}
 use Rattle.store_run.specs.declared.run.Finished.{Finished}
@@ -121,15 +120,16 @@ pub record AreCounted (run : Run) (first last : DiskState) : Type 0 where
   pub quiet : faults_told run.entries ≡ 0 → is_by_fault run.totals.stopped ≡ false → last.faults ≡ first.faults
   pub stop : NamesCount run.totals.stopped first last
 
--- The core that the opening left of this disk, with this room: nothing was asked of it, and the opening made few calls, none of which failed, on a file that
--- was as long as its sizes say.
+-- The core that the opening left of this disk, with this room: nothing was asked of it, and the opening made few calls, by what it read, none of
+-- which failed, on a file that was as long as its sizes say.
 pub record WasOpened {D : Type 0} (state : D → DiskState) (room : Room) (first : D) (core : CoreState D) : Type 0 where
   pub unasked : IsUnasked state core
   pub begins : IsOpened (no_entries room) (state core.disk).faults core.held
   -- its charge is what the catalogue's C1 and C2 weigh
   pub weighs : charge_in core.held ≡ core.held.runs.catalogue.c1.weight + core.held.runs.catalogue.c2.weight
   pub goes_on : GoesOn (state first) (state core.disk)
-  pub few : CallsFew (most_opening_calls core.held.runs.sizes) (state first) (state core.disk)
+  -- it made no more calls than what it read takes
+  pub takes : TakesFew core.held.runs.sizes (state first) (state core.disk)
   pub calm : (state core.disk).faults ≡ (state first).faults
   pub long : HasLengthOf core.held.runs.sizes (state first)
 
@@ -143,8 +143,8 @@ pub record HasCauses {D : Type 0} (state : D → DiskState) (room : Room) (run :
   pub began : WasOpened state room first opened
   -- what is printed first is the charge of the one, and the rest the other's
   pub printed : run ≡ run_at (charge_in opened.held) end.held
-  -- the calls of the disk, summed: those of the opening, and those that each call of the core may make
-  pub summed : (state last).clock ≤ (state first).clock + (most_opening_calls opened.held.runs.sizes + calls_of_all opened calls)
+  -- the calls of the disk, summed: those that what the opening read takes, and those that each call of the core may make
+  pub summed : (state last).clock ≤ (state first).clock + (calls_taken began.takes + calls_of_all opened calls)
   -- each call of the core calls it no more often than it may between the cores before and after it
   pub called : AreCalled state opened calls
   -- and the nexts of one hold read each page once that it had ahead, and three more each at most

@@ -70,9 +70,9 @@ pub fn finish<D: Disk + Drop>(core: Core<D>, charge: u64) -> (D, Finished)
 /// Opens the store on a disk and does the commands of these lines on it: sixteen callers do their own ones, each in order, beside so many merge workers,
 /// each of which takes so many turns at most, all on threads where they can be made. The disk comes back whatever happens.
 ///
-/// The refusals are those of `open_store`, or want of memory for the threads' lock; then no command was done. The lines are puts, adds, tails, dels, gets, holds,
-/// nexts, drops of holds and works, of callers who have room for them and for the rows that they may give. A hold for which memory is refused is answered
-/// so in its entry.
+/// The refusals are those of `open_store`, or want of memory for the threads' lock; then no command was done. The lines are writes, gets, holds,
+/// nexts, drops of holds and works, of callers who have room for them and for the rows that they may give. A hold for which memory is refused is
+/// answered so in its entry.
 ///
 /// A clause for each thing that is said on every disk, in words of their own, one for the refusals, and `headline` for an honest disk.
 pub fn run_over<R: Threads + Wait + Sync, D: Disk + Send + Drop, G: Gate + Sync>(

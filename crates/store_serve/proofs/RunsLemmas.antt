@@ -126,7 +126,8 @@ saw_all {D} state lines old mid new begins runs seat was = record {
 }
 
 -- the calls of the lines, and then the leaves
-pub runs_all : {D : Type 0} (state : D → DiskState) (lines : List Line) (old mid new : CoreState D) → IsFresh [] old → StandsSince state old old → IsCore old.held (state old.disk) → Runs state lines old mid → LeftBy state callers mid new
+pub runs_all : {D : Type 0} (state : D → DiskState) (lines : List Line) (old mid new : CoreState D) → IsFresh [] old → StandsSince state old old →
+    IsCore old.held (state old.disk) → Runs state lines old mid → LeftBy state callers mid new
     → RunsAll state lines 0 0 old new
 runs_all {D} state lines old mid new fresh begins keeps runs leaves = record {
   of_script = of_script lines new.held.book.book.entries asked_end;
@@ -173,7 +174,8 @@ module _ {D : Type 0} (state : D → DiskState) (timed : (d : D) → IsTimed (st
     (o : Opened state room first old) (did : DidLines state closing old mid s t k h) (leaves : LeftBy state callers mid new) where
   is_run : RunsAll state (lines_in new.held.book.book.entries) 0 0 old new
   is_run = subst (λ (b : Book). RunsAll state (lines_in b.entries) 0 0 old new) (sym leaves.book)
-      (runs_all state (lines_in mid.held.book.book.entries) old mid new (is_fresh [] (no_entries room) (state old.disk).faults old o.opened o.rests (no_lines room)) o.begins o.keeps did.runs leaves)
+      (runs_all state (lines_in mid.held.book.book.entries) old mid new
+      (is_fresh [] (no_entries room) (state old.disk).faults old o.opened o.rests (no_lines room)) o.begins o.keeps did.runs leaves)
 
   takes_all : TakesLines new.held.book.book.entries closing room s t
   takes_all = subst (λ (b : Book). TakesLines b.entries closing room s t) (sym leaves.book)

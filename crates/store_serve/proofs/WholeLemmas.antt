@@ -1,11 +1,35 @@
 -- A session whose source has lines alone, each with its end, for which there is room, ends at no line.
 use Rattle.std.proofs.lemmas.Bool.Decides.{nat_tests}
 use Rattle.std.proofs.lemmas.Grind.{common_steps}
-use Rattle.std.proofs.Common.{◌≡◌, ◌∙◌, ℕ, ◌<◌, ◌≤◌, inl, inr, List, [], ◌∷◌, ◌++◌, Option, Some, None, IfSome, length, refl, sym, ap, subst, arith, length-append}
+use Rattle.std.specs.Prelude.{Bool, true, false, if◌then◌else◌}
+use Rattle.std.proofs.Common.{
+  ◌≡◌,
+  ◌∙◌,
+  ℕ,
+  ◌<◌,
+  ◌≤◌,
+  inl,
+  inr,
+  List,
+  [],
+  ◌∷◌,
+  ◌++◌,
+  Option,
+  Some,
+  None,
+  IfSome,
+  length,
+  refl,
+  sym,
+  ap,
+  subst,
+  arith,
+  length-append,
+}
 use Rattle.std.specs.List.{All, AllByRecursion}
 use Rattle.std.proofs.lemmas.List.Elements.{All-head}
 use Rattle.blsm_model.specs.Book.{room_after, rows_given}
-use Rattle.blsm_model.specs.Histories.{Object, IsAnswer, answer_to_get, answer_to_next, answer_to_release, object_after}
+use Rattle.blsm_model.specs.Histories.{Object, IsAnswer, answer_to_get, answer_to_next, answer_to_release, is_met, looked_at, object_after}
 use Rattle.blsm_model.specs.Legal.{FollowsOn, IsLegal, Limits, MayReply}
 use Rattle.blsm_model.specs.Scripts.{rows_of}
 use Rattle.blsm_model.specs.Values.{value_at}
@@ -15,7 +39,7 @@ use Rattle.blsm_model.specs.declared.history.Reply.{Reply}
 use Rattle.blsm_model.specs.declared.history.Reply.TheVariants as reply
 use Rattle.blsm_model.specs.declared.key.Key.{Key}
 use Rattle.blsm_model.specs.declared.op.Op.{Op}
-use Rattle.blsm_model.specs.declared.op.Op.TheVariants.{Put, Add, Tail, Del, Get, Hold, Next, Release, Work}
+use Rattle.blsm_model.specs.declared.op.Op.TheVariants.{Put, Add, Tail, Del, New, Swap, Get, Hold, Next, Release, Work}
 use Rattle.blsm_model.specs.declared.room.Room.{Room}
 use Rattle.blsm_model.specs.declared.row.Row.{Row}
 use Rattle.blsm_model.specs.declared.row.Value.{Value}
@@ -47,11 +71,19 @@ drop_gives : (held : Option (List Row)) (rows : List Row) → reply.Rows rows �
 drop_gives None rows is = cc
 drop_gives (Some held) rows is = cc
 
+write_gives : (met : Bool) (found : Option Value) (rows : List Row) → reply.Rows rows ≡ (if met then reply.Done else reply.Kept found) → ⊥
+write_gives true found rows is = cc
+write_gives false found rows is = cc
+
 rows_asked_for : (object : Object) (seat : ℕ) (op : Op) (rows : List Row) → IsAnswer object seat op (reply.Rows rows) → length rows ≤ rows_of op
 rows_asked_for object seat (Put key value) rows is = absurd cc
 rows_asked_for object seat (Add key count) rows is = absurd cc
 rows_asked_for object seat (Tail key tail) rows is = absurd cc
 rows_asked_for object seat (Del key) rows is = absurd cc
+rows_asked_for object seat (New key value) rows is =
+    absurd (write_gives (is_met (New key value) (value_at object.writes)) (looked_at (New key value) (value_at object.writes)) rows is)
+rows_asked_for object seat (Swap key count value) rows is =
+    absurd (write_gives (is_met (Swap key count value) (value_at object.writes)) (looked_at (Swap key count value) (value_at object.writes)) rows is)
 rows_asked_for object seat (Get key) rows is = absurd (get_gives (value_at object.writes key) rows is)
 rows_asked_for object seat (Hold low high) rows is = absurd cc
 rows_asked_for object seat (Next n) rows is = next_gives (object.held seat) n rows is
@@ -63,6 +95,7 @@ asks_for limits opening before seat op (reply.Rows rows) may = rows_asked_for (o
 asks_for limits opening before seat op reply.Done may = omega arith
 asks_for limits opening before seat op (reply.Is value) may = omega arith
 asks_for limits opening before seat op reply.Absent may = omega arith
+asks_for limits opening before seat op (reply.Kept found) may = omega arith
 asks_for limits opening before seat op reply.Held may = omega arith
 asks_for limits opening before seat op reply.NoHold may = omega arith
 asks_for limits opening before seat op (reply.Did turns) may = omega arith

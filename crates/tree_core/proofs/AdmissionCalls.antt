@@ -1,5 +1,5 @@
 -- An admission, as one call of the core.
-use Rattle.std.specs.Prelude.{◌≡◌, ℕ, ◌+◌, ◌<◌, ◌≤◌, ◌^◌, Bool, true, false, List, [], ◌∷◌, None, Some, IsTrue}
+use Rattle.std.specs.Prelude.{◌≡◌, ℕ, ◌+◌, ◌<◌, ◌≤◌, ◌^◌, Bool, true, List, [], ◌∷◌, None, IsTrue}
 use Rattle.std.proofs.lemmas.Grind.{common_steps}
 use Rattle.std.proofs.lemmas.Bool.Decides.{nat_tests}
 use Rattle.std.proofs.Common.{◌∙◌, cond, refl, sym, subst, arith}
@@ -7,12 +7,13 @@ use Rattle.refusal.specs.Count.{HasRisen}
 use Rattle.blsm_model.specs.Book.{HasRoom}
 use Rattle.blsm_model.specs.Format.{least_weight, most_weight}
 use Rattle.blsm_model.specs.Geometry.{charge_limit, file_length}
-use Rattle.blsm_model.specs.Histories.{is_done, writes_of}
+use Rattle.blsm_model.specs.Histories.{is_met, writes_of}
+use Rattle.tree_machine.specs.Lists.{value_in}
 use Rattle.blsm_model.specs.Legal.{is_write, total_weight, is_del}
 use Rattle.blsm_model.specs.Sizes.{Sizes}
 use Rattle.blsm_model.specs.Values.{key_of}
-use Rattle.blsm_model.specs.declared.history.Reply.TheVariants.{Done, FaultLost, FaultUnsure, Full, Stopped}
-use Rattle.blsm_model.specs.declared.history.Why.{Why}
+use Rattle.blsm_model.specs.declared.history.Reply.{Reply}
+use Rattle.blsm_model.specs.declared.history.Reply.TheVariants.{Done, FaultLost, FaultUnsure, Full}
 use Rattle.blsm_model.specs.declared.history.Why.TheVariants.{Faulted}
 use Rattle.blsm_model.specs.declared.key.Key.{Key}
 use Rattle.blsm_model.specs.declared.op.Op.{Op}
@@ -23,7 +24,6 @@ use Rattle.disk_trait.specs.Effects.{Affects}
 use Rattle.disk_trait.proofs.EffectLemmas.{affects_start}
 use Rattle.disk_trait.specs.Moments.{IsTimed}
 use Rattle.gear_sched.specs.Gears.{first_debt, second_debt}
-use Rattle.paced_tree.specs.Made.{IsReplied}
 use Rattle.pacing.specs.Pace.{Pace}
 use Rattle.record_delta.specs.Records.{record_of}
 use Rattle.scan_view.specs.Pins.{beside_pins}
@@ -38,21 +38,19 @@ use Rattle.core_moves.specs.Held.{charge_in}
 use Rattle.core_moves.specs.Moves.{with_book}
 use Rattle.core_moves.specs.declared.held.Held.{Held}
 use Rattle.core_pace.specs.Events.{MayWrite}
-use Rattle.tree_core.specs.Answers.{reply_to_write}
-use Rattle.tree_core.specs.Calls.{Admits}
-use Rattle.tree_core.specs.Causes.{AdmitsBecause, HasBegun, calls_to_admit, swaps_due_in}
-use Rattle.tree_core.specs.Clock.{EndsAdmitted, EndsAppended}
+use Rattle.tree_core.specs.Calls.{AdmitsMet, BesideHolds, GoesOnAs}
+use Rattle.tree_core.specs.Causes.{calls_to_admit, swaps_due_in}
+use Rattle.tree_core.specs.Clock.{EndsAppended}
 use Rattle.tree_core.specs.Core.{CoreState, HoldsPace, IsCore}
 use Rattle.tree_core.specs.Standing.{AnyRows, StandsFor}
-use Rattle.tree_core.specs.Steps.{IsStep, may_in}
+use Rattle.tree_core.specs.Steps.{may_in}
 use Rattle.tree_core.specs.Taking.{Takes, TakesOver}
 use Rattle.tree_core.specs.declared.admission.Taking.{Taking}
 use Rattle.tree_core.specs.declared.admission.Taking.TheVariants.{Taken, Failed}
-use Rattle.tree_core.specs.declared.answers.Admission.{Admission}
 use Rattle.tree_core.specs.declared.answers.Admission.TheVariants as admission
 use Rattle.tree_core.proofs.AdmissionFollows.{failed_follows, quiet_follows, taken_follows}
 use Rattle.tree_core.proofs.AdmissionLemmas.{failed_keeps, failed_moves, refused_moves, room_as, taken_keeps, taken_moves}
-use Rattle.tree_core.proofs.AdmissionSteps.{IsAsked, failed_steps, full_steps, stopped_steps, taken_steps}
+use Rattle.tree_core.proofs.AdmissionSteps.{IsAsked, failed_steps, full_steps, taken_steps}
 use Rattle.tree_core.proofs.BegunLemmas.{begun_by}
 use Rattle.tree_core.proofs.KeepLemmas.{taking_keeps_pins, no_commits}
 use Rattle.tree_core.proofs.LastLemmas.{goes_on_by}
@@ -63,44 +61,48 @@ pub room_for : (b : BookState) (seat : ℕ) (op : Op) → IsTrue (may_note_in se
 room_for b seat op h1 begun = grind (arith, common_steps, nat_tests)
 
 module _ {D : Type 0} (state : D → DiskState) (seat : ℕ) (op : Op) (old : CoreState D) (core : IsCore old.held (state old.disk)) (timed : IsTimed (state old.disk)) (can : may_in old.held seat (kind.Admit op) ≡ true)
-    (room : may_note_in seat 0 old.held.book ≡ true) (fits : WritesFit (kind.Admit op)) where
+    (room : may_note_in seat 0 old.held.book ≡ true) (fits : WritesFit (kind.Admit op))
+    (met : (opening : List (Key × Value)) (m : Machine) → IsTrue (state old.disk).is_honest → StandsFor AnyRows opening old.held m (state old.disk) →
+    is_met op (value_in m.lists) ≡ true) where
   asked_by : (opening : List (Key × Value)) (m : Machine) → IsTrue (state old.disk).is_honest → StandsFor AnyRows opening old.held m (state old.disk) → may m seat (kind.Admit op) ≡ true → IsAsked opening seat op old.held m (state old.disk)
-  asked_by opening m honest s ok = record { honest = honest; timed = timed; stands = s; may = ok; fits = fits }
+  asked_by opening m honest s ok = record { honest = honest; timed = timed; stands = s; may = ok; fits = fits; met = met opening m honest s }
 
-  -- ---- only an entry is noted
+  -- ---- it is refused for its size
 
-  refuses : (answer : Admission) → ((pace : Pace) → IsReplied (reply_to_write answer) seat op pace pace) → is_done (reply_to_write answer) ≡ false → HasRoom old.held.book.book.room (record { seat = seat; op = op; reply = reply_to_write answer })
-      → AdmitsBecause answer seat op old.held (with_book (noted_in seat op (reply_to_write answer) old.held.book) old.held) (state old.disk) (state old.disk)
-      → HasBegun answer old.held (with_book (noted_in seat op (reply_to_write answer) old.held.book) old.held) → EndsAdmitted answer old.held (state old.disk) (state old.disk)
-      → ((opening : List (Key × Value)) (m : Machine) → IsAsked opening seat op old.held m (state old.disk)
-      → IsStep AnyRows opening seat (kind.Admit op) (Replied (reply_to_write answer)) (with_book (noted_in seat op (reply_to_write answer) old.held.book) old.held) (state old.disk) (state old.disk) m)
-      → Admits state seat op answer old (record old { held = with_book (noted_in seat op (reply_to_write answer) old.held.book) old.held })
-  refuses answer made undone has because begun ends steps =
-      let reply = reply_to_write answer in
-      let b = noted_in seat op reply old.held.book in
-      let goes = goes_on_by {end = 0} {most = 0} state seat (kind.Admit op) (Replied reply) old (record old { held = with_book b old.held }) core timed refl can (record { holds = refl; pins = refl; sizes = refl }) (no_commits old.held (with_book b old.held) refl refl) (affects_start (state old.disk) timed) (quiet_follows seat op reply old.held)
-      (λ pace holds. refused_moves seat op reply old.held pace (state old.disk) b (made pace) undone has refl holds) (λ opening m honest s ok. steps opening m (asked_by opening m honest s ok)) in
-      record {
+  pub admit_full : (charge : ℕ) (b : BookState) → old.held.book.stopped ≡ None → charge ≡ charge_in old.held → charge_limit old.held.runs.sizes
+      (is_del op) < charge_in old.held + total_weight (writes_of op) → b ≡ noted_in seat op (Full charge) old.held.book
+      → AdmitsMet state seat op (admission.Full charge) old (record old { held = with_book b old.held })
+  admit_full charge b ran charge_is past is = subst (λ (x : BookState). AdmitsMet state seat op (admission.Full charge) old
+      (record old { held = with_book x old.held })) (sym is)
+      (subst (λ (n : ℕ). AdmitsMet state seat op (admission.Full n) old
+      (record old { held = with_book (noted_in seat op (Full n) old.held.book) old.held })) (sym charge_is) full)
+    where
+      reply : Reply
+      reply = Full (charge_in old.held)
+
+      then : BookState
+      then = noted_in seat op reply old.held.book
+
+      goes : GoesOnAs state seat (kind.Admit op) (Replied reply) old (record old { held = with_book then old.held }) × BesideHolds state seat
+          (kind.Admit op) (Replied reply) old (record old { held = with_book then old.held })
+      goes = goes_on_by {end = 0} {most = 0} state seat (kind.Admit op) (Replied reply) old (record old { held = with_book then old.held }) core
+          timed refl can (record { holds = refl; pins = refl; sizes = refl }) (no_commits old.held (with_book then old.held) refl refl)
+          (affects_start (state old.disk) timed) (quiet_follows seat op reply old.held)
+          (λ pace holds. refused_moves seat op reply old.held pace (state old.disk) then refl refl
+          (note_has_room old.held.book seat 0 op reply room (omega arith)) refl holds)
+          (λ opening m honest s ok. full_steps opening seat op old.held m (state old.disk) (asked_by opening m honest s ok) ran past)
+
+      full : AdmitsMet state seat op (admission.Full (charge_in old.held)) old (record old { held = with_book then old.held })
+      full = record {
         goes = goes.0;
         beside = goes.1;
-        cause = because;
-        begun = begun;
-        notes = notes_at_once seat op reply old.held.book b refl;
+        cause = (ran, refl, past, refl);
+        begun = tt;
+        notes = notes_at_once seat op reply old.held.book then refl;
         effect = affects_start (state old.disk) timed;
-        ends = ends;
+        ends = tt;
         untouched = λ none. refl;
       }
-
-  pub admit_stopped : (why : Why) (b : BookState) → old.held.book.stopped ≡ Some why → b ≡ noted_in seat op (Stopped why) old.held.book → Admits state seat op (admission.Stopped why) old (record old { held = with_book b old.held })
-  admit_stopped why b stopped is = subst (λ (x : BookState). Admits state seat op (admission.Stopped why) old (record old { held = with_book x old.held })) (sym is)
-      (refuses (admission.Stopped why) (λ pace. refl) refl (note_has_room old.held.book seat 0 op (Stopped why) room (omega arith)) (stopped, refl) tt tt (λ opening m asked. stopped_steps opening seat op old.held m (state old.disk) asked why stopped))
-
-  pub admit_full : (charge : ℕ) (b : BookState) → old.held.book.stopped ≡ None → charge ≡ charge_in old.held → charge_limit old.held.runs.sizes (is_del op) < charge_in old.held + total_weight (writes_of op) → b ≡ noted_in seat op (Full charge) old.held.book
-      → Admits state seat op (admission.Full charge) old (record old { held = with_book b old.held })
-  admit_full charge b ran charge_is past is = subst (λ (x : BookState). Admits state seat op (admission.Full charge) old (record old { held = with_book x old.held })) (sym is)
-      (subst (λ (n : ℕ). Admits state seat op (admission.Full n) old (record old { held = with_book (noted_in seat op (Full n) old.held.book) old.held })) (sym charge_is)
-      (refuses (admission.Full (charge_in old.held)) (λ pace. refl) refl (note_has_room old.held.book seat 0 op (Full (charge_in old.held)) room (omega arith)) (ran, refl, past, refl) tt tt
-      (λ opening m asked. full_steps opening seat op old.held m (state old.disk) asked ran past)))
 
   -- ---- the write is taken, or a call of the disk fails
 
@@ -110,10 +112,12 @@ module _ {D : Type 0} (state : D → DiskState) (seat : ℕ) (op : Op) (old : Co
     abbrev LeavesOver : Taking → Type 0
     LeavesOver taking =
         (opening : List (Key × Value)) (m : Machine) → IsTrue (state old.disk).is_honest → StandsFor AnyRows opening old.held m (state old.disk) → old.held.book.stopped ≡ None → may m seat (kind.Admit op) ≡ true → WritesFit (kind.Admit op)
-        → TakesOver taking opening seat op m new (state old.disk) (state disk)
+        → is_met op (value_in m.lists) ≡ true → TakesOver taking opening seat op m new (state old.disk) (state disk)
 
-    pub admit_taken : is_write op ≡ true → Takes Taken seat (key_of write) (record_of write) old.held new (state disk) → (state disk).faults ≡ (state old.disk).faults → EndsAppended (swaps_due_in old.held) (state old.disk) (state disk) → LeavesOver Taken → b ≡ noted_in seat op Done new.book
-        → Admits state seat op admission.Admitted old (record { disk = disk; held = with_book b new; holds = old.holds })
+    pub admit_taken : is_write op ≡ true → Takes Taken seat (key_of write) (record_of write) old.held new (state disk) → (state disk).faults ≡
+        (state old.disk).faults → EndsAppended 0 (swaps_due_in old.held) (state old.disk) (state disk) → LeavesOver Taken → b ≡ noted_in seat op Done
+        new.book
+        → AdmitsMet state seat op admission.Admitted old (record { disk = disk; held = with_book b new; holds = old.holds })
     admit_taken writing takes calm ends lists is =
         let keeps = taken_keeps seat (key_of write) (record_of write) old.held new (state disk) takes in
         let pins = taking_keeps_pins Taken seat (key_of write) (record_of write) old.held new (state disk) takes in
@@ -122,9 +126,10 @@ module _ {D : Type 0} (state : D → DiskState) (seat : ℕ) (op : Op) (old : Co
         let live = (moved.holds.live (keeps.stopped ∙ ran)).paced in
         let goes = goes_on_by state seat (kind.Admit op) (Replied Done) old (record { disk = disk; held = with_book (noted_in seat op Done new.book) new; holds = old.holds }) core later refl can (record { holds = refl; pins = pins.pins; sizes = pins.sizes }) pins.commits effect (taken_follows seat op (key_of write) (record_of write) old.held new (state disk) takes) moves
         (λ opening m honest s ok.
-        let left = lists opening m honest s ran ok fits in
+        let left = lists opening m honest s ran ok fits (met opening m honest s) in
         taken_steps opening seat op old.held m (state old.disk) (asked_by opening m honest s ok) ran may_write.room new (state disk) moved.next left.0 (keeps.stopped ∙ ran) live.numbers live.one.gears left.1) in
-        subst (λ (x : BookState). Admits state seat op admission.Admitted old (record { disk = disk; held = with_book x new; holds = old.holds })) (sym is)
+        subst (λ (x : BookState). AdmitsMet state seat op admission.Admitted old (record { disk = disk; held = with_book x new; holds = old.holds }))
+        (sym is)
         (record {
           goes = goes.0;
           beside = goes.1;
@@ -137,7 +142,8 @@ module _ {D : Type 0} (state : D → DiskState) (seat : ℕ) (op : Op) (old : Co
         })
 
     pub admit_failed : (begun : Bool) → Takes (Failed begun) seat (key_of write) (record_of write) old.held new (state disk) → HasRisen (state old.disk).faults (state disk).faults → (state disk).faults < 2 ^ 64 → LeavesOver (Failed begun)
-        → b ≡ noted_in seat op (cond begun FaultUnsure FaultLost) (stopped_in (Faulted (state disk).faults) new.book) → Admits state seat op (admission.Fault begun) old (record { disk = disk; held = with_book b new; holds = old.holds })
+        → b ≡ noted_in seat op (cond begun FaultUnsure FaultLost) (stopped_in (Faulted (state disk).faults) new.book) → AdmitsMet state seat op
+        (admission.Fault begun) old (record { disk = disk; held = with_book b new; holds = old.holds })
     admit_failed begun takes risen few lists is =
         let why = Faulted (state disk).faults in
         let reply = cond begun FaultUnsure FaultLost in
@@ -145,8 +151,10 @@ module _ {D : Type 0} (state : D → DiskState) (seat : ℕ) (op : Op) (old : Co
         let pins = taking_keeps_pins (Failed begun) seat (key_of write) (record_of write) old.held new (state disk) takes in
         let goes = goes_on_by state seat (kind.Admit op) (Replied reply) old (record { disk = disk; held = with_book (noted_in seat op reply (stopped_in why new.book)) new; holds = old.holds }) core later refl can (record { holds = refl; pins = pins.pins; sizes = pins.sizes }) pins.commits effect (failed_follows begun seat op reply why (key_of write) (record_of write) old.held new (state disk) takes)
         (λ pace holds. failed_moves begun seat op write why old.held new pace (state disk) writes (holds.live ran).paced (room_for old.held.book seat op room) takes)
-        (λ opening m honest s ok. failed_steps opening seat op old.held m (state old.disk) (asked_by opening m honest s ok) ran may_write.room (state disk) effect.goes_on.faults few risen new begun later (lists opening m honest s ran ok fits)) in
-        subst (λ (x : BookState). Admits state seat op (admission.Fault begun) old (record { disk = disk; held = with_book x new; holds = old.holds })) (sym is)
+        (λ opening m honest s ok. failed_steps opening seat op old.held m (state old.disk) (asked_by opening m honest s ok) ran may_write.room
+        (state disk) effect.goes_on.faults few risen new begun later (lists opening m honest s ran ok fits (met opening m honest s))) in
+        subst (λ (x : BookState). AdmitsMet state seat op (admission.Fault begun) old
+        (record { disk = disk; held = with_book x new; holds = old.holds })) (sym is)
         (record {
           goes = goes.0;
           beside = goes.1;

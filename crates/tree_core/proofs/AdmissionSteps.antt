@@ -18,8 +18,8 @@ use Rattle.blsm_model.specs.declared.history.Entry.{Entry}
 use Rattle.blsm_model.specs.declared.history.Why.{Why}
 use Rattle.blsm_model.specs.declared.history.Why.TheVariants.{Faulted}
 use Rattle.blsm_model.specs.declared.history.Reply.{Reply}
-use Rattle.blsm_model.specs.declared.history.Reply.TheVariants.{Done, Full, FaultLost, FaultUnsure, Stopped}
-use Rattle.blsm_model.specs.Histories.{is_done, writes_of}
+use Rattle.blsm_model.specs.declared.history.Reply.TheVariants.{Done, Full, FaultLost, FaultUnsure}
+use Rattle.blsm_model.specs.Histories.{is_done, is_met, writes_of}
 use Rattle.blsm_model.specs.Images.{is_unsure}
 use Rattle.blsm_model.specs.Legal.{total_weight, is_del}
 use Rattle.blsm_model.specs.Values.{added_count, key_of, text_written}
@@ -37,12 +37,29 @@ use Rattle.tree_machine.specs.declared.step.Kind.{Kind}
 use Rattle.tree_machine.specs.declared.step.Kind.TheVariants as kind
 use Rattle.tree_machine.specs.Machine.{Machine, charge, deep_done, pass_done}
 use Rattle.tree_machine.specs.Moves.{note, stop, with_peak}
-use Rattle.tree_machine.specs.Outcomes.{IsPossible, calls, is_broken}
+use Rattle.tree_machine.specs.Lists.{value_in}
+use Rattle.tree_machine.specs.Outcomes.{IsPossible, calls_behind_look, is_broken}
 use Rattle.tree_machine.specs.Plays.{may}
 use Rattle.tree_machine.specs.Stands.{FitsFormat, WritesFit}
 use Rattle.tree_machine.proofs.GrowLemmas.{taken_book}
 use Rattle.tree_machine.proofs.LightLemmas.{fits_format}
-use Rattle.tree_machine.specs.Steps.{Outcome, Well, FailedAfter, Stepped, Replied, admit, admit_fitting, deep_swapped, one_if, ready_for, replied, swaps_due, taken_once, unless_stopped}
+use Rattle.tree_machine.specs.Steps.{
+  Outcome,
+  Well,
+  FailedAfter,
+  Stepped,
+  Replied,
+  admit,
+  admit_fitting,
+  deep_swapped,
+  one_if,
+  ready_for,
+  replied,
+  swaps_due,
+  taken_once,
+}
+use Rattle.tree_machine.proofs.FoldLemmas.{both}
+use Rattle.tree_machine.proofs.LookLemmas.{looked_admits, met_failed, met_well}
 use Rattle.tree_machine.specs.Layers.{IsSound}
 use Rattle.tree_machine.proofs.ToldLemmas.{none_is_some}
 use Rattle.tree_machine.proofs.CarryLemmas.{deep_swapped_carries, ready_carries}
@@ -129,13 +146,14 @@ append_lost seat op w faults m = grind (arith, common_steps, nat_tests)
 
 -- ---- the step
 
--- an admission that may be made
+-- an admission that may be made, of a write whose condition holds
 pub record IsAsked (opening : List (Key × Value)) (seat : ℕ) (op : Op) (held : Held) (m : Machine) (d : DiskState) : Type 0 where
   pub honest : IsTrue d.is_honest
   pub timed : IsTimed d
   pub stands : StandsFor AnyRows opening held m d
   pub may : IsTrue (may m seat (kind.Admit op))
   pub fits : WritesFit (kind.Admit op)
+  pub met : is_met op (value_in m.lists) ≡ true
 
 module _ (opening : List (Key × Value)) (seat : ℕ) (op : Op) (held : Held) (m : Machine) (d : DiskState) (is : IsAsked opening seat op held m d) where
   abbrev w : ℕ
@@ -185,11 +203,6 @@ module _ (opening : List (Key × Value)) (seat : ℕ) (op : Op) (held : Held) (m
       (record { same = record { lists = refl; merges = refl; gears = refl; spring = refl; catalogue = refl }; counts = record { charge = refl; peak = refl; quanta = refl }; book = ap (noted_in seat op reply) is.stands.book; stopped = refl; noted = inr (entry opening seat op m reply, refl, quiet_entry_counts_none (entry opening seat op m reply) (inr (undone, sure))) })
       (λ tree table file of. of) (λ none. tt)
 
-  -- a store that is stopped only notes that it is
-  pub stopped_steps : (why : Why) → held.book.stopped ≡ Some why → IsStep AnyRows opening seat asked (Replied (Stopped why)) (with_book (noted_in seat op (Stopped why) held.book) held) d d m
-  stopped_steps why stop = notes_alone (Stopped why)
-      (ap (λ (o : Option Why). unless_stopped o seat op m (cond (nat_lt limit (charge m + w)) (replied seat op (Full (charge m)) m) (admit_fitting m seat op w Well))) (stop_is ∙ stop)) refl refl
-
   -- ---- while it runs
 
   abbrev noted : Reply → Held
@@ -210,7 +223,7 @@ module _ (opening : List (Key × Value)) (seat : ℕ) (op : Op) (held : Held) (m
 
     full_here : limit < charge m + w → IsStep AnyRows opening seat asked (Replied (Full (charge m))) (noted (Full (charge m))) d d m
     full_here past = notes_alone (Full (charge m))
-        (ap (λ (o : Option Why). unless_stopped o seat op m (cond (nat_lt limit (charge m + w)) (replied seat op (Full (charge m)) m) (admit_fitting m seat op w Well))) runs
+        (looked_admits m seat op Well None runs (met_well m op is.met)
         ∙ ap (λ (b : Bool). cond b (replied seat op (Full (charge m)) m) (admit_fitting m seat op w Well)) (lt-ltb limit (charge m + w) past)) refl refl
 
     -- a write that is refused for its size
@@ -225,8 +238,10 @@ module _ (opening : List (Key × Value)) (seat : ℕ) (op : Op) (held : Held) (m
       room_here : charge m + w ≤ limit
       room_here = subst (λ (n : ℕ). n + w ≤ limit) (sym is.stands.charge_is) (subst (λ (z : Sizes). charge_in held + w ≤ charge_limit z (is_del op)) (sym is.stands.sizes) room)
 
-      calls_here : IsTrue (not (is_some m.stopped) && calls m seat asked)
-      calls_here = grind (arith, common_steps, nat_tests, not_past)
+      calls_here : IsTrue (not (is_some m.stopped) && calls_behind_look m seat asked)
+      calls_here =
+          ap (λ (o : Option Why). not (is_some o) && calls_behind_look m seat asked) runs
+          ∙ both (is_met op (value_in m.lists)) (not (nat_lt limit (charge m + w))) is.met (ap not (not_past limit (charge m + w) room_here))
 
       -- a call failed, after so many swaps, and the store stops
       module _ (after : DiskState) (order : d.faults ≤ after.faults) (small : after.faults < 2 ^ 64) (risen : HasRisen d.faults after.faults) (left : Held) where
@@ -244,7 +259,7 @@ module _ (opening : List (Key × Value)) (seat : ℕ) (op : Op) (held : Held) (m
             → IsStep AnyRows opening seat asked (Replied reply) (stopped reply) d after m
         fails_by reply commits later same few left_tells sizes book counts each reads committed images =
             step_by (FailedAfter commits after.faults) reply (note seat op reply (stop why later)) (stopped reply) after
-            (admission_fits m seat op (FailedAfter commits after.faults) runs room_here ∙ same)
+            (admission_fits m seat op (FailedAfter commits after.faults) runs (met_failed m op commits after.faults is.met) room_here ∙ same)
             (calls_here, few, rose d.faults after.faults order small risen, refl) refl (stopped_tells seat op reply why left later left_tells)
             (λ (still : Some why ≡ None). absurd (none-some why (sym still)))
             (λ some. record {
@@ -314,7 +329,7 @@ module _ (opening : List (Key × Value)) (seat : ℕ) (op : Op) (held : Held) (m
           then = with_book (noted_in seat op Done new.book) new
 
           same : admit m seat op Well ≡ replied seat op Done wrote
-          same = admission_fits m seat op Well runs room_here
+          same = admission_fits m seat op Well runs (met_well m op is.met) room_here
 
           sound : IsSound next
           sound = subst (λ (st : Stepped). IsSound st.state) same taken.goes.paced.stands.sound

@@ -19,7 +19,7 @@ use Rattle.core_moves.specs.declared.held.Held.{Held}
 use Rattle.core_moves.specs.Held.{IsPassDone, IsDeepDone}
 use Rattle.core_moves.specs.Moves.{SettlesDeep, SettlesPass, begun_in, with_book}
 use Rattle.core_lists.proofs.TestLemmas.{tests_agree_with_lists}
-use Rattle.tree_core.specs.declared.answers.Admission.TheVariants as admission
+use Rattle.tree_core.specs.Ruling as ruling
 use Rattle.tree_core.specs.Causes.{HasBegun, is_deep_due, is_pass_due, one_where, swaps_due_in}
 use Rattle.tree_core.specs.declared.admission.Taking.TheVariants as taking
 use Rattle.tree_core.specs.Core.{IsCore}
@@ -59,7 +59,7 @@ pub lost_before : (old new : Held) → ((new ≡ old) × IsDeepDone old) ⊎ (Se
 lost_before old new lost = grind (arith, common_steps, nat_tests)
 
 pub begun_by : (begun : Bool) (seat : ℕ) (key : Key) (rec : Rec) (old new : Held) (b : BookState) (after : DiskState) → Takes (taking.Failed begun) seat key rec old new after
-    → HasBegun (admission.Fault begun) old (with_book b new)
+    → HasBegun (ruling.Fault begun) old (with_book b new)
 begun_by true seat key rec old new b after r = begun_append (weight key rec) old new r
 begun_by false seat key rec old new b after lost = lost_before old new lost
 

@@ -3,18 +3,22 @@ use Rattle.std.specs.Prelude.{◌≢◌, ◌≤◌, nat_lt, not, ◌==◌, repli
 use Rattle.std.proofs.lemmas.Grind.{common_steps}
 use Rattle.std.proofs.lemmas.Bool.Decides.{nat_tests}
 use Rattle.std.specs.declared.result.Result.{Result}
-use Rattle.std.proofs.Common.{◌≡◌, ◌∙◌, ⊎_elim, ℕ, ◌+◌, Bool, true, false, cond, List, Option, None, Some, refl, ap, sym, subst, arith}
+use Rattle.std.proofs.Common.{◌≡◌, ◌∙◌, ⊎_elim, ℕ, Bool, true, false, cond, List, Option, None, Some, refl, ap, sym, subst, arith}
+use Rattle.std.proofs.lemmas.Bool.{true≢false}
 use Rattle.std.proofs.lemmas.Option.{none-some}
+use Rattle.gear_sched.specs.Gears.{plan_for, first_debt, second_debt}
+use Rattle.gear_sched.specs.declared.Plan.{Plan}
+use Rattle.gear_sched.specs.declared.Plan.TheVariants.{Snow, Deep, Nothing}
 use Rattle.blsm_model.specs.Format.{callers}
-use Rattle.blsm_model.specs.Geometry.{charge_limit}
-use Rattle.blsm_model.specs.Histories.{writes_of}
-use Rattle.blsm_model.specs.Legal.{total_weight, is_del}
+use Rattle.blsm_model.specs.Histories.{answer_to_look, writes_of}
+use Rattle.blsm_model.specs.Legal.{total_weight}
 use Rattle.blsm_model.specs.Sizes.{Sizes}
 use Rattle.blsm_model.specs.declared.key.Key.{Key}
 use Rattle.blsm_model.specs.declared.row.Row.{Row}
 use Rattle.blsm_model.specs.declared.row.Value.{Value}
 use Rattle.blsm_model.specs.declared.op.Op.{Op}
 use Rattle.blsm_model.specs.declared.op.Write.{Write}
+use Rattle.blsm_model.specs.declared.history.Reply.{Reply}
 use Rattle.blsm_model.specs.declared.history.Why.{Why}
 use Rattle.disk_trait.specs.Disk.{DiskState}
 use Rattle.disk_trait.specs.Effects.{Affects}
@@ -33,11 +37,46 @@ use Rattle.scan_view.proofs.StayLemmas.{held_beside}
 use Rattle.seat_book.specs.State.{BookState}
 use Rattle.tree_machine.specs.declared.step.Kind.{Kind}
 use Rattle.tree_machine.specs.declared.step.Kind.TheVariants as kind
-use Rattle.tree_machine.specs.Lists.{memory_weight}
-use Rattle.tree_machine.specs.Machine.{Machine, charge, deep_done}
-use Rattle.tree_machine.specs.Moves.{swap_deep}
+use Rattle.tree_machine.specs.Lists.{contents_in, memory_weight}
+use Rattle.tree_machine.specs.Machine.{Machine, deep_done, is_closed}
+use Rattle.tree_machine.specs.Moves.{deep_quantum, pass_quantum, swap_deep}
 use Rattle.tree_machine.specs.Plays.{stepped_as}
-use Rattle.tree_machine.specs.Steps.{Answer, Broken as AtPage, Choice, FailedAfter, NoRoom, Outcome, Well, Stepped, admit, admit_fitting, choice, deep_swapped, do_turn, pay, ready_for, swaps_due, taken_once, unless_stopped, work_turning, worker_turning}
+use Rattle.tree_machine.specs.Steps.{
+  Answer,
+  Broken as AtPage,
+  Choice,
+  DeepQuantum,
+  PassQuantum,
+  FailedAfter,
+  FailedLooking,
+  NoRoom,
+  Outcome,
+  Well,
+  Stepped,
+  admit,
+  admit_met,
+  admit_fitting,
+  is_full,
+  refused_first,
+  unless_refused,
+  choice,
+  chosen,
+  deep_swapped,
+  do_pay,
+  do_turn,
+  forgive,
+  pay,
+  pay_planned,
+  pay_running,
+  replied,
+  reply_unless,
+  ready_for,
+  swaps_due,
+  taken_once,
+  unless_stopped,
+  work_turning,
+  worker_turning,
+}
 use Rattle.tree_machine.proofs.FrameLemmas.{step_stays}
 use Rattle.tree_runs.specs.Runs.{page_share}
 use Rattle.core_moves.specs.declared.held.Held.{Held}
@@ -93,11 +132,8 @@ taking_keeps seat ws m = grind (arith, common_steps, nat_tests)
 admission_keeps : (m : Machine) (seat : ℕ) (op : Op) (outcome : Outcome) → Keeps m (admit m seat op outcome).state
 admission_keeps m seat op outcome =
     unless m.stopped seat op m _
-    (either_stepped (nat_lt (charge_limit m.gears.sizes (is_del op)) (charge m + w)) m _ _ (record { holds = refl }) (by outcome))
+    (refused (refused_first m op outcome))
   where
-    w : ℕ
-    w = total_weight (writes_of op)
-
     done : Keeps m (taken_once seat (writes_of op) (ready_for (total_weight (writes_of op)) m))
     done = both m (ready_for (total_weight (writes_of op)) m) _ (ready_keeps (total_weight (writes_of op)) m) (taking_keeps seat (writes_of op) (ready_for (total_weight (writes_of op)) m))
 
@@ -106,25 +142,64 @@ admission_keeps m seat op outcome =
         either_stepped (nat_lt commits (swaps_due m)) m _ _
         (record { holds = (either (commits == 0) m m (deep_swapped m) (itself m) (deep_swap_keeps m)).holds })
         (record { holds = (ready_keeps (total_weight (writes_of op)) m).holds })
+    by (FailedLooking faults) = record { holds = done.holds }
     by Well = record { holds = done.holds }
     by (AtPage page) = record { holds = done.holds }
     by NoRoom = record { holds = done.holds }
 
+    refused : (o : Option Reply) → Keeps m (unless_refused o seat op m (admit_met m seat op outcome)).state
+    refused (Some reply) = record { holds = refl }
+    refused None = either_stepped (is_full m op) m _ _ (record { holds = refl }) (by outcome)
+
+chosen_holds : (c : Choice) (seat : ℕ) (m : Machine) → (chosen c seat m).holds ≡ m.holds
+chosen_holds c seat m = grind (arith, common_steps, nat_tests)
+
 payment_keeps : (m : Machine) (seat : ℕ) (outcome : Outcome) → Keeps m (pay m seat outcome).state
-payment_keeps m seat outcome = grind (arith, common_steps, nat_tests)
+payment_keeps m seat outcome = by m.stopped
+  where
+    owing : (quantum : Machine → Machine) → (quantum (forgive seat m)).holds ≡ m.holds → (e : Outcome) → Keeps m
+        (do_pay (forgive seat m) quantum seat e).state
+    owing quantum same (FailedAfter commits faults) = record { holds = refl }
+    owing quantum same (AtPage page) = record { holds = refl }
+    owing quantum same _ = record { holds = same }
+
+    planned : (plan : Plan) → Keeps m (pay_planned plan (forgive seat m) seat outcome).state
+    planned Snow = owing (pass_quantum seat) (chosen_holds PassQuantum seat (forgive seat m)) outcome
+    planned Deep = owing (deep_quantum seat) (chosen_holds DeepQuantum seat (forgive seat m)) outcome
+    planned Nothing = record { holds = refl }
+
+    by : (o : Option Why) → Keeps m (pay_running o m seat outcome).state
+    by (Some cause) = record { holds = refl }
+    by None = planned (plan_for (first_debt (forgive seat m).gears seat) (second_debt (forgive seat m).gears seat))
 
 turn_keeps : (c : Choice) (o : Outcome) (seat : ℕ) (m : Machine) → Keeps m (do_turn c o seat m).state
-turn_keeps c o seat m = grind (arith, common_steps, nat_tests)
+turn_keeps c (FailedAfter commits faults) seat m = record { holds = refl }
+turn_keeps c (AtPage page) seat m = record { holds = refl }
+turn_keeps c (FailedLooking faults) seat m = record { holds = chosen_holds c seat m }
+turn_keeps c Well seat m = record { holds = chosen_holds c seat m }
+turn_keeps c NoRoom seat m = record { holds = chosen_holds c seat m }
 
 work_keeps : (o : Option Why) (m : Machine) (seat : ℕ) (outcome : Outcome) → Keeps m (work_turning o m seat outcome).state
 work_keeps (Some why) m seat outcome = itself m
 work_keeps None m seat outcome = turn_keeps (choice (not (memory_weight m.lists == 0)) (not (entries_weight m.lists.c1 == 0)) m) outcome seat m
 
 worker_keeps : (o : Option Why) (closed : Bool) (m : Machine) (seat : ℕ) (outcome : Outcome) → Keeps m (worker_turning o closed m seat outcome).state
-worker_keeps o closed m seat outcome = grind (arith, common_steps, nat_tests)
+worker_keeps (Some why) closed m seat outcome = itself m
+worker_keeps None true m seat outcome = itself m
+worker_keeps None false m seat outcome = turn_keeps (choice (nat_lt m.gears.sizes.low m.spring) false m) outcome seat m
 
 pub step_keeps_holds : (m : Machine) (seat : ℕ) (k : Kind) (outcome : Outcome) → is_held k ≡ false → (stepped_as m seat k outcome).state.holds ≡ m.holds
-step_keeps_holds m seat k outcome h1 = grind (arith, common_steps, nat_tests, admission_keeps, payment_keeps, unless, work_keeps, worker_keeps)
+step_keeps_holds m seat (kind.Admit op) outcome none = (admission_keeps m seat op outcome).holds
+step_keeps_holds m seat kind.Pay outcome none = (payment_keeps m seat outcome).holds
+step_keeps_holds m seat (kind.Look op) outcome none = (unless m.stopped seat op m
+    (replied seat op (reply_unless outcome (answer_to_look op (contents_in m.lists))) m) (record { holds = refl })).holds
+step_keeps_holds m seat (kind.Hold low high) outcome none = absurd (true≢false none)
+step_keeps_holds m seat (kind.Next n) outcome none = absurd (true≢false none)
+step_keeps_holds m seat kind.Release outcome none = absurd (true≢false none)
+step_keeps_holds m seat kind.WorkTurn outcome none = (work_keeps m.stopped m seat outcome).holds
+step_keeps_holds m seat (kind.WorkEnd n) outcome none = refl
+step_keeps_holds m seat kind.WorkerTurn outcome none = (worker_keeps m.stopped (is_closed m) m seat outcome).holds
+step_keeps_holds m seat kind.Leave outcome none = refl
 
 -- ---- the core
 

@@ -27,7 +27,12 @@ mod ClockLemmas
 mod NotingLemmas
 mod TurnCalls
 mod PaymentCalls
+mod AfterReads
+mod FirstLemmas
+mod RefusalSteps
+mod RefusalCalls
 mod AdmissionCalls
+mod AdmissionJoins
 mod HoldSteps
 mod HoldStepsByCall
 mod HoldCalls

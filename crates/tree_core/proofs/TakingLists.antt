@@ -12,7 +12,8 @@ use Rattle.blsm_model.specs.declared.history.Entry.{Entry}
 use Rattle.blsm_model.specs.declared.history.Reply.{Reply}
 use Rattle.blsm_model.specs.declared.history.Reply.TheVariants.{Done, FaultUnsure}
 use Rattle.blsm_model.specs.Geometry.{charge_limit}
-use Rattle.blsm_model.specs.Histories.{writes_of}
+use Rattle.blsm_model.specs.Histories.{is_met, writes_of}
+use Rattle.tree_machine.specs.Lists.{value_in}
 use Rattle.blsm_model.specs.Legal.{total_weight, is_del}
 use Rattle.blsm_model.specs.Values.{key_of}
 use Rattle.disk_trait.specs.Disk.{DiskState}
@@ -250,11 +251,12 @@ begun_by r w n settled ready begun mid last ok settles turns leaves same is_begu
   lists = lists;
 }
 
--- the seat may write, and there is room
+-- the seat may write, the write's condition holds, and there is room
 pub record MayTake (seat : ℕ) (op : Op) (write : Write) (old : Held) (m : Machine) : Type 0 where
   pub may : IsTrue (may m seat (kind.Admit op))
   pub fits : WritesFit (kind.Admit op)
   pub writes : writes_of op ≡ write ∷ []
+  pub met : is_met op (value_in m.lists) ≡ true
   pub room : charge_in old + total_weight (writes_of op) ≤ charge_limit old.runs.sizes (is_del op)
 
 module _ (opening : List (Key × Value)) (old : Held) (m : Machine) (d : DiskState) (is : Begins opening old m d) (settled : Held) (mid : DiskState) (has : HasSettled old settled d mid)
@@ -326,6 +328,7 @@ module _ (opening : List (Key × Value)) (old : Held) (m : Machine) (d : DiskSta
     may = takes.may;
     fits = takes.fits;
     writes = takes.writes;
+    met = takes.met;
     room = subst (λ (n : ℕ). n + w ≤ charge_limit m.gears.sizes (is_del op)) (sym is.stands.charge_is)
         (subst (λ (s : Sizes). charge_in old + w ≤ charge_limit s (is_del op)) (sym is.stands.sizes) takes.room);
     holds = at_begun.holds;

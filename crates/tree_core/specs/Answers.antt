@@ -13,8 +13,8 @@ use Rattle.blsm_model.specs.declared.history.Reply.TheVariants as reply
 use Rattle.tree_machine.specs.Machine as machine
 use Rattle.tree_machine.specs.Steps as steps
 use Rattle.tree_machine.specs.Steps.{Answer, Turn}
-use Rattle.tree_core.specs.declared.answers.Admission.{Admission}
-use Rattle.tree_core.specs.declared.answers.Admission.TheVariants as admission
+use Rattle.tree_core.specs.Ruling.{Ruling}
+use Rattle.tree_core.specs.Ruling as ruling
 use Rattle.tree_core.specs.declared.answers.Payment.{Payment}
 use Rattle.tree_core.specs.declared.answers.Payment.TheVariants as payment
 use Rattle.tree_core.specs.declared.answers.Holding.{Holding}
@@ -26,11 +26,14 @@ use Rattle.tree_core.specs.declared.answers.Release.TheVariants as release
 use Rattle.tree_core.specs.declared.answers.Lookup.{Lookup}
 use Rattle.tree_core.specs.declared.answers.Lookup.TheVariants as lookup
 
-abbrev pub reply_to_write : Admission → Reply
-reply_to_write admission.Admitted = reply.Done
-reply_to_write (admission.Full charge) = reply.Full charge
-reply_to_write (admission.Fault begun) = if begun then reply.FaultUnsure else reply.FaultLost
-reply_to_write (admission.Stopped why) = reply.Stopped why
+abbrev pub reply_to_write : Ruling → Reply
+reply_to_write ruling.Admitted = reply.Done
+reply_to_write (ruling.Kept found) = reply.Kept found
+reply_to_write (ruling.Full charge) = reply.Full charge
+reply_to_write ruling.ReadFault = reply.Fault
+reply_to_write (ruling.Damaged page) = reply.Damaged page
+reply_to_write (ruling.Fault begun) = if begun then reply.FaultUnsure else reply.FaultLost
+reply_to_write (ruling.Stopped why) = reply.Stopped why
 
 abbrev pub answer_to_pay : Payment → Answer
 answer_to_pay payment.Paid = steps.Paid

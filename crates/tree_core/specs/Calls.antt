@@ -1,7 +1,8 @@
 -- What the core's contracts say of one call, and of the calls since a start, one after another.
-use Rattle.std.specs.Prelude.{◌≡◌, ◌+◌, ◌/◌, ◌≤◌, ℕ, List, [], ◌∷◌, None, IsTrue, false, true, IsSome}
+use Rattle.std.specs.Prelude.{◌≡◌, ◌+◌, ◌/◌, ◌≤◌, ℕ, List, [], ◌∷◌, Option, None, Some, IsTrue, false, true, IsSome}
 use Rattle.blsm_model.specs.Facts.{Follows}
 use Rattle.blsm_model.specs.Geometry.{file_length}
+use Rattle.blsm_model.specs.Histories.{is_met}
 use Rattle.blsm_model.specs.declared.history.Reply.{Reply}
 use Rattle.blsm_model.specs.declared.key.Key.{Key}
 use Rattle.blsm_model.specs.declared.op.Op.{Op}
@@ -14,6 +15,7 @@ use Rattle.pacing.specs.Pace.{Pace}
 use Rattle.scan_view.specs.Holds.{hold_of, pages_behind}
 use Rattle.scan_view.specs.Pins.{beside_pins}
 use Rattle.seat_book.specs.State.{ended_in, left_in, noted_in, work_in}
+use Rattle.tree_machine.specs.Lists.{value_in}
 use Rattle.tree_machine.specs.Machine.{Machine, Turned}
 use Rattle.tree_machine.specs.Steps.{Answer, Left, Replied, Turn, work_reply}
 use Rattle.tree_machine.specs.declared.step.Kind.{Kind}
@@ -23,14 +25,39 @@ use Rattle.tree_runs.specs.Lookups.{HidesOlder}
 use Rattle.tree_runs.specs.Runs.{page_share}
 use Rattle.core_moves.specs.Moves.{with_book}
 use Rattle.tree_core.specs.Answers.{answer_to_pay, newest_in, reply_to_drop, reply_to_get, reply_to_hold, reply_to_next, reply_to_write}
-use Rattle.tree_core.specs.Causes.{AdmitsBecause, CallsNone, CountsFilters, DropsBecause, FindsBecause, HasBegun, HoldsBecause, LooksNone, PassesPages, PaysBecause, PaysNone, ScansBecause, ScansNone, TurnsBecause, TurnsNone, calls_to_admit, IsLookOn}
+use Rattle.tree_core.specs.Causes.{
+  AdmitsBecause,
+  CallsAtMost,
+  CallsNone,
+  CountsFilters,
+  CountsFirst,
+  DropsBecause,
+  FindsBecause,
+  HasBegun,
+  HasLooked,
+  HoldsBecause,
+  IsFull,
+  LooksNone,
+  MetBecause,
+  PassesPages,
+  PaysBecause,
+  PaysNone,
+  ScansBecause,
+  ScansNone,
+  TurnsBecause,
+  TurnsNone,
+  calls_to_admit,
+  pages_first,
+  IsLookOn,
+}
 use Rattle.core_pace.specs.Turns.{move_in}
-use Rattle.tree_core.specs.Clock.{EndsAdmitted, LeavesDisk}
+use Rattle.tree_core.specs.Clock.{EndsAdmitted, EndsMet, LeavesDisk}
 use Rattle.tree_core.specs.Core.{CoreState, HoldsPace, facts_of_held}
 use Rattle.tree_core.specs.Holds.{KeepsHolds, LeavesOthers, StandsWhole}
 use Rattle.tree_core.specs.Notes.{CountsPayment, CountsTurn, HasLeft, HelpsOnce, Lessens, NotesNone, NotesOne, OwesNothing, Settles, CountsCommits, rotations}
 use Rattle.tree_core.specs.Standing.{AnyRows, StandsFor}
 use Rattle.tree_core.specs.Steps.{IsStep, IsWholeStep, MovesPace, StandsSince, may_in}
+use Rattle.tree_core.specs.Ruling.{Ruling, ruled_by}
 use Rattle.tree_core.specs.declared.answers.Admission.{Admission}
 use Rattle.tree_core.specs.declared.answers.Holding.{Holding}
 use Rattle.tree_core.specs.declared.answers.Lookup.{Lookup}
@@ -56,15 +83,39 @@ pub record BesideHolds {D : Type 0} (state : D → DiskState) (seat : ℕ) (k : 
   pub step : (opening : List (Key × Value)) (m : Machine) → IsTrue (state old.disk).is_honest → StandsFor AnyRows opening old.held m (state old.disk)
       → IsStep (λ rows. rows ≡ m.holds) opening seat k answer new.held (state old.disk) (state new.disk) m
 
-pub record Admits {D : Type 0} (state : D → DiskState) (seat : ℕ) (op : Op) (answer : Admission) (old new : CoreState D) : Type 0 where
+pub record Admits {D : Type 0} (state : D → DiskState) (seat : ℕ) (op : Op) (answer : Ruling) (old new : CoreState D) : Type 0 where
   pub goes : GoesOnAs state seat (kind.Admit op) (Replied (reply_to_write answer)) old new
   pub beside : BesideHolds state seat (kind.Admit op) (Replied (reply_to_write answer)) old new
   pub cause : AdmitsBecause answer seat op old.held new.held (state old.disk) (state new.disk)
   pub begun : HasBegun answer old.held new.held
   pub notes : NotesOne seat op (reply_to_write answer) old.held.book new.held.book
+  pub effect : Affects (beside_pins old.held.runs.sizes old.held.runs.space.pins) (file_length old.held.runs.sizes)
+      (pages_first op + calls_to_admit old.held) (state old.disk) (state new.disk)
+  -- its lookup makes as many calls at most as filters say yes, all of them reads, and none where the memory table's record hides what is older
+  pub asks : (n : ℕ) → CountsFirst op old.held n → CallsAtMost state answer old.held n old.disk new.disk
+  pub ends : EndsAdmitted answer op old.held (state old.disk) (state new.disk)
+  pub untouched : CallsNone op answer → new.disk ≡ old.disk
+
+-- A write that looked first: it is refused by what it found, with all that its call says, or its condition holds, and the core is as before but for
+-- a disk that was read.
+abbrev pub LooksFirst : {D : Type 0} → (D → DiskState) → ℕ → Op → Option Admission → CoreState D → CoreState D → Type 0
+LooksFirst state seat op (Some answer) old new = (found : Option Value) × Admits state seat op (ruled_by answer found) old new
+LooksFirst state seat op None old new =
+    (new ≡ record old { disk = new.disk }) × ((state new.disk).faults ≡ (state old.disk).faults) × HasLooked op old.held (state old.disk)
+    × ((n : ℕ) → CountsFirst op old.held n → OnlyReads (file_length old.held.runs.sizes) n (state old.disk) (state new.disk))
+    × ((opening : List (Key × Value)) (m : Machine) → IsTrue (state new.disk).is_honest → StandsFor AnyRows opening new.held m (state new.disk) →
+    is_met op (value_in m.lists) ≡ true)
+
+-- And what is done once its condition holds.
+pub record AdmitsMet {D : Type 0} (state : D → DiskState) (seat : ℕ) (op : Op) (answer : Admission) (old new : CoreState D) : Type 0 where
+  pub goes : GoesOnAs state seat (kind.Admit op) (Replied (reply_to_write (ruled_by answer None))) old new
+  pub beside : BesideHolds state seat (kind.Admit op) (Replied (reply_to_write (ruled_by answer None))) old new
+  pub cause : MetBecause answer seat op old.held new.held (state old.disk) (state new.disk)
+  pub begun : HasBegun (ruled_by answer None) old.held new.held
+  pub notes : NotesOne seat op (reply_to_write (ruled_by answer None)) old.held.book new.held.book
   pub effect : Affects (beside_pins old.held.runs.sizes old.held.runs.space.pins) (file_length old.held.runs.sizes) (calls_to_admit old.held) (state old.disk) (state new.disk)
-  pub ends : EndsAdmitted answer old.held (state old.disk) (state new.disk)
-  pub untouched : CallsNone answer → new.disk ≡ old.disk
+  pub ends : EndsMet answer old.held (state old.disk) (state new.disk)
+  pub untouched : IsFull answer → new.disk ≡ old.disk
 
 pub record Pays {D : Type 0} (state : D → DiskState) (seat : ℕ) (answer : Payment) (old new : CoreState D) : Type 0 where
   pub goes : GoesOnAs state seat kind.Pay (answer_to_pay answer) old new
@@ -83,7 +134,8 @@ RepliesBecause state seat (op.Hold low high) reply old new = (answer : Holding) 
 RepliesBecause state seat (op.Next n) reply old new = (answer : Scanned) × (reply ≡ reply_to_next answer) × ScansBecause answer seat n old new (state old.disk) (state new.disk)
 RepliesBecause state seat op.Release reply old new = (answer : Release) × (reply ≡ reply_to_drop answer) × DropsBecause answer seat old new
 RepliesBecause state seat (op.Work n) reply old new = reply ≡ work_reply (work_in seat old.held.book) old.held.book.stopped
-RepliesBecause state seat write reply old new = (answer : Admission) × (reply ≡ reply_to_write answer) × AdmitsBecause answer seat write old.held new.held (state old.disk) (state new.disk)
+RepliesBecause state seat write reply old new = (answer : Ruling) × (reply ≡ reply_to_write answer) × AdmitsBecause answer seat write old.held
+    new.held (state old.disk) (state new.disk)
 
 pub record Gets {D : Type 0} (state : D → DiskState) (seat : ℕ) (key : Key) (answer : Lookup) (old new : CoreState D) : Type 0 where
   pub goes : GoesOnAs state seat (kind.Look (op.Get key)) (Replied (reply_to_get answer)) old new
@@ -173,7 +225,7 @@ pub record Leaves {D : Type 0} (state : D → DiskState) (seat : ℕ) (old new :
 
 -- one call by a seat, whatever it answered
 abbrev pub IsCall : {D : Type 0} → (D → DiskState) → ℕ → Kind → CoreState D → CoreState D → Type 0
-IsCall state seat (kind.Admit op) old new = (answer : Admission) × Admits state seat op answer old new
+IsCall state seat (kind.Admit op) old new = (answer : Ruling) × Admits state seat op answer old new
 IsCall state seat kind.Pay old new = (answer : Payment) × Pays state seat answer old new
 IsCall state seat (kind.Look op) old new = (reply : Reply) × Looks state seat op reply old new
 IsCall state seat (kind.Hold low high) old new = (answer : Holding) × HoldsRange state seat low high answer old new

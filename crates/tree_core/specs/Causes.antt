@@ -1,16 +1,40 @@
 -- Why a call answers what it does, on every disk.
-use Rattle.std.specs.Prelude.{◌≡◌, ⊤, ℕ, ◌+◌, ◌*◌, ◌<◌, ◌≤◌, Bool, true, false, ◌&&◌, ◌==◌, IsTrue, is_some, List, Option, None, Some}
+use Rattle.std.specs.Prelude.{
+  ◌≡◌,
+  ◌⊎◌,
+  ⊤,
+  ℕ,
+  ◌+◌,
+  ◌*◌,
+  ◌^◌,
+  ◌<◌,
+  ◌≤◌,
+  if◌then◌else◌,
+  Bool,
+  true,
+  false,
+  ◌&&◌,
+  ◌==◌,
+  IsTrue,
+  is_some,
+  List,
+  Option,
+  None,
+  Some,
+}
 use Rattle.refusal.specs.Count.{HasRisen}
 use Rattle.blsm_model.specs.declared.op.Op.{Op}
+use Rattle.blsm_model.specs.declared.op.Op.TheVariants.{New, Swap}
 use Rattle.blsm_model.specs.declared.history.Why.TheVariants as why
 use Rattle.blsm_model.specs.declared.history.Reply.TheVariants as reply
-use Rattle.blsm_model.specs.Geometry.{charge_limit}
-use Rattle.blsm_model.specs.Histories.{writes_of}
+use Rattle.blsm_model.specs.Geometry.{charge_limit, file_length}
+use Rattle.blsm_model.specs.Histories.{is_met, is_met_by, looked_at, looks_first, writes_of}
 use Rattle.blsm_model.specs.Legal.{total_weight, is_del}
 use Rattle.blsm_model.specs.declared.key.Key.{Key}
 use Rattle.blsm_model.specs.declared.row.Row.{Row}
 use Rattle.blsm_model.specs.declared.row.Value.{Value}
-use Rattle.disk_trait.specs.Disk.{DiskState}
+use Rattle.disk_trait.specs.Disk.{DiskState, GoesOn}
+use Rattle.disk_trait.specs.Reads.{OnlyReads}
 use Rattle.record_delta.specs.declared.record.Rec.{Rec}
 use Rattle.record_delta.specs.Records.{settled}
 use Rattle.page_space.specs.PageSet.{none_of}
@@ -26,7 +50,7 @@ use Rattle.seat_book.specs.State.{is_closed_in, noted_in}
 use Rattle.tree_runs.specs.Runs.{RunsState, filter_of, left_for_pass, left_for_deep}
 use Rattle.tree_runs.specs.Damage.{DeepMeetsDamage, PassMeetsDamage}
 use Rattle.tree_runs.specs.Holding.{IsHeldFrom, PinsComponents}
-use Rattle.tree_runs.specs.Lookups.{AreToldBy, CountsYes, IsDamageBelow, from_newest}
+use Rattle.tree_runs.specs.Lookups.{AreToldBy, CountsYes, HidesOlder, IsDamageBelow, from_newest}
 use Rattle.core_moves.specs.declared.held.Held.{Held}
 use Rattle.core_moves.specs.Held.{charge_in}
 use Rattle.core_moves.specs.Moves.{with_book, with_debts_forgiven}
@@ -34,6 +58,10 @@ use Rattle.core_pace.specs.Events.{plan_in}
 use Rattle.core_pace.specs.Turns.{move_in}
 use Rattle.tree_core.specs.declared.answers.Admission.{Admission}
 use Rattle.tree_core.specs.declared.answers.Admission.TheVariants as admission
+use Rattle.tree_core.specs.Ruling.{Ruling}
+use Rattle.tree_core.specs.declared.admission.Tried.{Tried}
+use Rattle.tree_core.specs.declared.admission.Tried.TheVariants as tried
+use Rattle.tree_core.specs.Ruling as ruling
 use Rattle.tree_core.specs.declared.answers.Lookup.{Lookup}
 use Rattle.tree_core.specs.declared.answers.Lookup.TheVariants as lookup
 use Rattle.tree_core.specs.declared.answers.Holding.{Holding}
@@ -79,20 +107,120 @@ pub record FoundDamaged (plan : Plan) (page : ℕ) (old new : Held) (before afte
   pub stopped : new.book.stopped ≡ Some (why.BadPage page)
   pub ahead : IsTrue before.tells_bytes → IsDamageAhead plan new.runs page after.bytes
 
--- A write is full exactly by the charge; a store that is stopped only notes that it is.
-abbrev pub AdmitsBecause : Admission → ℕ → Op → Held → Held → DiskState → DiskState → Type 0
-AdmitsBecause admission.Admitted seat op old new before after = RanOn old new before after × (charge_in old + total_weight (writes_of op) ≤ charge_limit old.runs.sizes (is_del op))
-AdmitsBecause (admission.Full charge) seat op old new before after =
+-- So many at least of the components may have the key, as their filters say: 0 is enough where each of them says no, and 3 is always.
+pub record CountsFilters (key : Key) (held : Held) (n : ℕ) : Type 0 where
+  pub c1 : ℕ
+  pub c1x : ℕ
+  pub c2 : ℕ
+  pub first : CountsYes (filter_of held.runs held.runs.tags.c1) key c1
+  pub second : CountsYes (filter_of held.runs held.runs.tags.c1x) key c1x
+  pub third : CountsYes (filter_of held.runs held.runs.tags.c2) key c2
+  pub all : n ≡ c1 + c1x + c2
+
+-- in this file so much is told of the key by the pages that are asked for it, below the memory table's record
+abbrev pub IsToldOf : Key → Held → List ℕ → Option Value → Type 0
+IsToldOf key held file value =
+    (found : Option Rec) × AreToldBy held.runs.sizes key file (from_newest held.runs.catalogue held.runs.guides held.runs.tags) (newest_in key held)
+    found × (value ≡ settled found)
+
+-- ---- what a lookup finds that comes before a write
+
+-- in this file the pages that are asked say this of the key that it looks at
+abbrev pub IsToldFirst : Op → Held → List ℕ → Option Value → Type 0
+IsToldFirst (New key value) held file found = IsToldOf key held file found
+IsToldFirst (Swap key count value) held file found = IsToldOf key held file found
+IsToldFirst _ held file found = found ≡ None
+
+-- and this is the page that is asked for it and isn't valid
+abbrev pub IsDamageFirst : Op → Held → List ℕ → ℕ → Type 0
+IsDamageFirst (New key value) held file page = IsDamageBelow held.runs.sizes key file
+    (from_newest held.runs.catalogue held.runs.guides held.runs.tags) (newest_in key held) page
+IsDamageFirst (Swap key count value) held file page = IsDamageBelow held.runs.sizes key file
+    (from_newest held.runs.catalogue held.runs.guides held.runs.tags) (newest_in key held) page
+IsDamageFirst _ held file page = ⊥
+
+-- It found this value, by which its condition holds. On an honest disk that is what the pages say that were asked.
+pub record HasLooked (op : Op) (old : Held) (before : DiskState) : Type 0 where
+  pub found : Option Value
+  pub met : is_met_by op found ≡ true
+  pub told : IsTrue before.is_honest → IsToldFirst op old before.bytes found
+
+-- So many at least of the components may have the key that it looks at, as their filters say; none are asked where the memory table's record hides
+-- what is older, or where it doesn't look.
+abbrev pub CountsFirst : Op → Held → ℕ → Type 0
+CountsFirst (New key value) held n = CountsFilters key held n ⊎ HidesOlder (newest_in key held)
+CountsFirst (Swap key count value) held n = CountsFilters key held n ⊎ HidesOlder (newest_in key held)
+CountsFirst _ held n = ⊤
+
+-- this is the key that it looks at
+abbrev pub IsAbout : Op → Key → Type 0
+IsAbout (New key value) at = key ≡ at
+IsAbout (Swap key count value) at = key ≡ at
+IsAbout _ at = ⊥
+
+-- what a value that was found comes to
+abbrev pub tried_by : Op → Option Value → Tried
+tried_by op found = if is_met_by op found then tried.Met else tried.Kept found
+
+-- what it came to
+abbrev pub Tries : Tried → Op → Held → DiskState → DiskState → Type 0
+Tries tried.Met op held before after = (after.faults ≡ before.faults) × HasLooked op held before
+Tries (tried.Kept found) op held before after = (after.faults ≡ before.faults) × (is_met_by op found ≡ false) ×
+    (IsTrue before.is_honest → IsToldFirst op held before.bytes found)
+Tries tried.Fault op held before after = HasRisen before.faults after.faults × (after.faults < 2 ^ 64)
+Tries (tried.Damaged page) op held before after = (after.faults ≡ before.faults) × (IsTrue before.is_honest → IsDamageFirst op held before.bytes page)
+
+-- and this it came to over a map that has this value of each key, where no page is damaged
+abbrev pub Finds : Tried → Op → (Key → Option Value) → Type 0
+Finds tried.Met op has = is_met op has ≡ true
+Finds (tried.Kept found) op has = (is_met op has ≡ false) × (found ≡ looked_at op has)
+Finds tried.Fault op has = ⊤
+Finds (tried.Damaged page) op has = ⊥
+
+-- A write that is kept or full, or whose lookup failed, leaves all but the entry: it is kept by what was found, and full exactly by the charge; and a
+-- store that is stopped only notes that it is.
+abbrev pub AdmitsBecause : Ruling → ℕ → Op → Held → Held → DiskState → DiskState → Type 0
+AdmitsBecause ruling.Admitted seat op old new before after =
+    RanOn old new before after × (charge_in old + total_weight (writes_of op) ≤ charge_limit old.runs.sizes (is_del op)) × HasLooked op old before
+AdmitsBecause (ruling.Kept found) seat op old new before after =
+    (old.book.stopped ≡ None) × (after.faults ≡ before.faults) × (is_met_by op found ≡ false) ×
+    (IsTrue before.is_honest → IsToldFirst op old before.bytes found)
+    × (new ≡ with_book (noted_in seat op (reply.Kept found) old.book) old)
+AdmitsBecause (ruling.Full charge) seat op old new before after =
+    (old.book.stopped ≡ None) × (charge ≡ charge_in old) × (charge_limit old.runs.sizes (is_del op) < charge_in old + total_weight (writes_of op))
+    × (new ≡ with_book (noted_in seat op (reply.Full charge) old.book) old) × (after.faults ≡ before.faults) × HasLooked op old before
+AdmitsBecause ruling.ReadFault seat op old new before after =
+    (old.book.stopped ≡ None) × (looks_first op ≡ true) × HasRisen before.faults after.faults ×
+    (new ≡ with_book (noted_in seat op reply.Fault old.book) old)
+AdmitsBecause (ruling.Damaged page) seat op old new before after =
+    (old.book.stopped ≡ None) × (after.faults ≡ before.faults) × (IsTrue before.is_honest → IsDamageFirst op old before.bytes page) ×
+    (looks_first op ≡ true)
+    × (new ≡ with_book (noted_in seat op (reply.Damaged page) old.book) old)
+AdmitsBecause (ruling.Fault begun) seat op old new before after =
+    HasFailed old new before after × (charge_in old + total_weight (writes_of op) ≤ charge_limit old.runs.sizes (is_del op)) × HasLooked op old before
+AdmitsBecause (ruling.Stopped why) seat op old new before after = (old.book.stopped ≡ Some why) ×
+    (new ≡ with_book (noted_in seat op (reply.Stopped why) old.book) old)
+
+-- once its condition holds
+abbrev pub MetBecause : Admission → ℕ → Op → Held → Held → DiskState → DiskState → Type 0
+MetBecause admission.Admitted seat op old new before after = RanOn old new before after ×
+    (charge_in old + total_weight (writes_of op) ≤ charge_limit old.runs.sizes (is_del op))
+MetBecause (admission.Full charge) seat op old new before after =
     (old.book.stopped ≡ None) × (charge ≡ charge_in old) × (charge_limit old.runs.sizes (is_del op) < charge_in old + total_weight (writes_of op))
     × (new ≡ with_book (noted_in seat op (reply.Full charge) old.book) old)
-AdmitsBecause (admission.Fault begun) seat op old new before after = HasFailed old new before after × (charge_in old + total_weight (writes_of op) ≤ charge_limit old.runs.sizes (is_del op))
-AdmitsBecause (admission.Stopped why) seat op old new before after = (old.book.stopped ≡ Some why) × (new ≡ with_book (noted_in seat op (reply.Stopped why) old.book) old)
+MetBecause (admission.Fault begun) seat op old new before after = HasFailed old new before after ×
+    (charge_in old + total_weight (writes_of op) ≤ charge_limit old.runs.sizes (is_del op))
+MetBecause _ seat op old new before after = ⊥
 
--- the disk isn't called where a write is refused, or the store was stopped before
-abbrev pub CallsNone : Admission → Type 0
-CallsNone (admission.Full charge) = ⊤
-CallsNone (admission.Stopped why) = ⊤
-CallsNone _ = ⊥
+abbrev pub IsFull : Admission → Type 0
+IsFull (admission.Full charge) = ⊤
+IsFull _ = ⊥
+
+-- the disk isn't called where the store was stopped before, nor where a write is full that doesn't look first
+abbrev pub CallsNone : Op → Ruling → Type 0
+CallsNone op (ruling.Full charge) = looks_first op ≡ false
+CallsNone op (ruling.Stopped why) = ⊤
+CallsNone op _ = ⊥
 
 -- the swaps that an admission begins with: of the deep merge where it is done, and of the pass where it is
 abbrev pub one_where : Bool → ℕ
@@ -108,14 +236,31 @@ is_pass_due held = is_some held.runs.pass && (left_for_pass held.runs.pass held.
 abbrev pub swaps_due_in : Held → ℕ
 swaps_due_in held = one_where (is_deep_due held) + one_where (is_pass_due held)
 
--- how many calls of the disk it makes at most: nine for each of these swaps, and four for its append
+-- how many calls of the disk an admission makes at most behind its lookup: nine for each of the swaps that are due, and four for its append
 abbrev pub calls_to_admit : Held → ℕ
 calls_to_admit held = 4 + 9 * swaps_due_in held
 
+-- and with it
+abbrev pub pages_first : Op → ℕ
+pages_first op = if looks_first op then 3 else 0
+
+-- So many reads at most led to a disk, from which as many calls at most go on as an admission makes.
+pub record ReadsBefore {D : Type 0} (state : D → DiskState) (old : Held) (n : ℕ) (before after : D) : Type 0 where
+  pub read : D
+  pub reads : OnlyReads (file_length old.runs.sizes) n (state before) (state read)
+  pub goes_on : GoesOn (state read) (state after)
+  pub calls : (state after).clock ≤ (state read).clock + calls_to_admit old
+
+-- One that isn't taken makes so many calls at most as its lookup does, all of them reads; any other the admission's behind them.
+abbrev pub CallsAtMost : {D : Type 0} → (D → DiskState) → Ruling → Held → ℕ → D → D → Type 0
+CallsAtMost state ruling.Admitted old n before after = ReadsBefore state old n before after
+CallsAtMost state (ruling.Fault begun) old n before after = ReadsBefore state old n before after
+CallsAtMost state _ old n before after = OnlyReads (file_length old.runs.sizes) n (state before) (state after)
+
 -- The append of a write that failed had begun exactly where each of them was committed.
-abbrev pub HasBegun : Admission → Held → Held → Type 0
-HasBegun (admission.Fault true) old new = new.runs.catalogue.version ≡ old.runs.catalogue.version + swaps_due_in old
-HasBegun (admission.Fault false) old new = new.runs.catalogue.version < old.runs.catalogue.version + swaps_due_in old
+abbrev pub HasBegun : Ruling → Held → Held → Type 0
+HasBegun (ruling.Fault true) old new = new.runs.catalogue.version ≡ old.runs.catalogue.version + swaps_due_in old
+HasBegun (ruling.Fault false) old new = new.runs.catalogue.version < old.runs.catalogue.version + swaps_due_in old
 HasBegun _ old new = ⊤
 
 -- A payment is settled exactly where nothing is owed once what may be forgiven is.
@@ -153,25 +298,10 @@ IsFound (lookup.Is value) = ⊤
 IsFound lookup.Absent = ⊤
 IsFound _ = ⊥
 
--- So many at least of the components may have the key, as their filters say: 0 is enough where each of them says no, and 3 is always.
-pub record CountsFilters (key : Key) (held : Held) (n : ℕ) : Type 0 where
-  pub c1 : ℕ
-  pub c1x : ℕ
-  pub c2 : ℕ
-  pub first : CountsYes (filter_of held.runs held.runs.tags.c1) key c1
-  pub second : CountsYes (filter_of held.runs held.runs.tags.c1x) key c1x
-  pub third : CountsYes (filter_of held.runs held.runs.tags.c2) key c2
-  pub all : n ≡ c1 + c1x + c2
-
 -- nor is the disk called by a lookup of a store that is stopped
 abbrev pub LooksNone : Lookup → Type 0
 LooksNone (lookup.Stopped why) = ⊤
 LooksNone _ = ⊥
-
--- in this file so much is told of the key by the pages that are asked for it, below the memory table's record
-abbrev pub IsToldOf : Key → Held → List ℕ → Option Value → Type 0
-IsToldOf key held file value =
-    (found : Option Rec) × AreToldBy held.runs.sizes key file (from_newest held.runs.catalogue held.runs.guides held.runs.tags) (newest_in key held) found × (value ≡ settled found)
 
 -- What a lookup's answer is due to. On an honest disk, whatever the components read as, a value is what the pages say that are asked, and the first
 -- of these that is damaged is named.

@@ -4,6 +4,7 @@ pub mod Standing
 pub mod Holds
 pub mod HoldMoves
 pub mod Scanned
+pub mod Ruling
 pub mod Answers
 pub mod Causes
 pub mod Clock

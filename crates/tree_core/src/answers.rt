@@ -7,8 +7,14 @@ use blsm_model::{Value, Why};
 pub enum Admission {
     /// The write is in the tree and its log.
     Admitted,
+    /// The condition of a new or a swap doesn't hold. The history has the value that shows it, if its key has one.
+    Kept,
     /// The write is refused for its size, at this charge in bytes.
     Full(u64),
+    /// A call of the disk failed in the lookup of a new or a swap. Nothing was written, and the tree runs on.
+    ReadFault,
+    /// This page was found damaged in the lookup of a new or a swap. Nothing was written, and the tree runs on.
+    Damaged(u32),
     /// A call of the disk failed, and the tree is stopped. The write is lost, or where it had begun to be appended unsure.
     Fault {
         /// Whether the append had begun.

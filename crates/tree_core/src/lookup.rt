@@ -52,7 +52,7 @@ fn reply_of(lookup: &Lookup) -> ShortReply
 
 // What the tables and the components have of the key: one page of each component is read at most, none where its filter says no, and none below
 // a base or a tombstone.
-fn look_up<D: Disk>(held: &Held, disk: &mut D, key: &Key) -> Lookup
+pub(crate) fn look_up<D: Disk>(held: &Held, disk: &mut D, key: &Key) -> Lookup
     requires on { held.now.book.stopped ≡ None → IsOn held.now (D.state disk.old) }
     ensures cause { FindsBecause result key.now held.now (D.state disk.old) (D.state disk.new) }
     ensures value { (tree : Tree) → IsTrue (D.state disk.old).is_honest → HoldsTree held.now.runs.sizes tree (D.state disk.old).bytes → tree.catalogue ≡ held.now.runs.catalogue

@@ -15,8 +15,8 @@ use std::marker::Model;
 
 /// The whole store: the disk, what it has in memory, and the callers' holds. Seats are numbered from 0: callers below 16, and then eight workers.
 ///
-/// A step whose call of the disk fails, or that finds a damaged page, stops the store, but for a lookup; each later call answers the cause
-/// and changes nothing but the book.
+/// A step whose call of the disk fails, or that finds a damaged page, stops the store, but for a next and a lookup, also one that comes before
+/// a write; each later call answers the cause and changes nothing but the book.
 #[derive(Drop)]
 pub struct Core<D: Disk + Drop> {
     pub(crate) disk: D,

@@ -13,24 +13,68 @@ use Rattle.blsm_model.specs.declared.op.Op.{Op}
 use Rattle.blsm_model.specs.declared.history.Why.{Why}
 use Rattle.blsm_model.specs.declared.history.Why.TheVariants.{Faulted}
 use Rattle.blsm_model.specs.declared.history.Reply.{Reply}
-use Rattle.blsm_model.specs.declared.history.Reply.TheVariants.{Done, Full, FaultLost, FaultUnsure}
+use Rattle.blsm_model.specs.declared.history.Reply.TheVariants.{Damaged, Done, Fault, Full, FaultLost, FaultUnsure, Kept}
 use Rattle.blsm_model.specs.declared.history.Entry.{Entry}
 use Rattle.blsm_model.specs.Sizes.{Sizes}
 use Rattle.blsm_model.specs.Geometry.{limits_of, charge_limit}
 use Rattle.blsm_model.specs.Values.{key_of, value_at, weight_of}
-use Rattle.blsm_model.specs.Histories.{after, object_after, counted, counted_writes, written, writes_of, is_refusal}
-use Rattle.blsm_model.specs.Legal.{MayReply, NamesNoOther, limit_for, is_running, is_write, total_weight, is_del}
+use Rattle.blsm_model.specs.Book.{Book}
+use Rattle.blsm_model.specs.Histories.{
+  IsAnswer,
+  after,
+  object_after,
+  counted,
+  counted_writes,
+  is_met,
+  looked_at,
+  looks_first,
+  written,
+  writes_of,
+  is_refusal,
+}
+use Rattle.blsm_model.specs.Legal.{MayReply, NamesNoOther, limit_for, is_running, is_stopped, is_stopping, is_write, total_weight, is_del}
+use Rattle.blsm_model.proofs.HistoryLemmas.{writes-object_after}
 use Rattle.blsm_model.proofs.HoldLemmas.{held-refusal, held-still}
-use Rattle.blsm_model.proofs.OpLemmas.{writes_one, write_is_done, write_leaves_rows}
+use Rattle.blsm_model.proofs.OpLemmas.{
+  first_may_fail,
+  looked_same,
+  met_same,
+  no_condition,
+  writes_one,
+  write_is_done,
+  write_is_kept,
+  write_is_no_work,
+  write_leaves_rows,
+}
 use Rattle.record_delta.specs.declared.record.Rec.{Rec}
 use Rattle.record_delta.specs.Records.{weight, record_of}
 use Rattle.record_delta.specs.Entries.{AreSorted, entries_weight, with_record}
-use Rattle.tree_machine.specs.Lists.{Lists, memory_weight}
+use Rattle.tree_machine.specs.Lists.{Lists, memory_weight, value_in}
 use Rattle.tree_machine.specs.Layers.{IsPassCounted, IsDeepCounted, HasWay}
 use Rattle.tree_machine.specs.Merges.{Merge}
 use Rattle.tree_machine.specs.Machine.{Machine, in_pass, charge, memory_charge}
 use Rattle.tree_machine.specs.Moves.{goes_to_a, with_write, take_write, with_peak, note, stop}
-use Rattle.tree_machine.specs.Steps.{Outcome, Well, FailedAfter, Broken, NoRoom, replied, deep_swapped, swaps_due, ready_for, taken_once, admit, admit_fitting}
+use Rattle.tree_machine.specs.Steps.{
+  Outcome,
+  Well,
+  FailedAfter,
+  FailedLooking,
+  Broken,
+  NoRoom,
+  Stepped,
+  replied,
+  deep_swapped,
+  swaps_due,
+  ready_for,
+  taken_once,
+  told_by_look,
+  refused_first,
+  unless_refused,
+  admit,
+  admit_met,
+  admit_fitting,
+  is_full,
+}
 use Rattle.tree_machine.specs.Stands.{FitsFormat, Stands}
 use Rattle.tree_machine.proofs.CarryLemmas.{carries_itself, deep_swapped_carries, ready_carries}
 use Rattle.tree_machine.proofs.LightLemmas.{light_write}
@@ -162,12 +206,13 @@ written_stands opening m seat op w stands none fits counts still may =
     (running_told opening (taken m seat w) seat op Done
     (record { legal = stands.told.legal; running = stands.told.running; one_why = stands.told.one_why; works = stands.told.works }) none may refl refl)
 
--- ---- admission
+-- ---- a write that fits
 
--- a write that fits
-fitting_stands : (opening : List (Key × Value)) (m : Machine) (seat : ℕ) (op : Op) (weight : ℕ) (outcome : Outcome) → Stands opening m → HasWay m → m.stopped ≡ None
-    → is_write op ≡ true → AllByRecursion FitsFormat (writes_of op) → Stands opening (admit_fitting m seat op weight outcome).state
-fitting_stands opening m seat op weight outcome stands way none is_one fit = by outcome
+-- its condition holds in the map after the history
+fitting_stands : (opening : List (Key × Value)) (m : Machine) (seat : ℕ) (op : Op) (weight : ℕ) (outcome : Outcome) → Stands opening m → HasWay m
+    → m.stopped ≡ None → is_write op ≡ true → is_met op (value_at (object_after opening m.book.entries).writes) ≡ true
+    → AllByRecursion FitsFormat (writes_of op) → Stands opening (admit_fitting m seat op weight outcome).state
+fitting_stands opening m seat op weight outcome stands way none is_one met fit = by outcome
   where
     failed : (n : Machine) (reply : Reply) (faults : ℕ) → Carries m n → is_refusal reply ≡ true → counted (entry_of seat op reply) ≡ [] → NamesNoOther (Faulted faults) reply
         → ((before : List Entry) → is_running before ≡ true → MayReply (limits_of n.gears.sizes n.counts.charge) opening before seat op reply)
@@ -193,12 +238,15 @@ fitting_stands opening m seat op weight outcome stands way none is_one fit = by 
         let still_none : (ready_for weight m).stopped ≡ None = carries.stopped ∙ none in
         let object = object_after opening (ready_for weight m).book.entries in
         let one = writes_one op is_one in
+        let still_met = subst (λ (b : Book). is_met op (value_at (object_after opening b.entries).writes) ≡ true) (sym carries.book) met in
         subst (λ ws. Stands opening (note seat op Done (with_peak (taken_once seat ws (ready_for weight m))))) (sym one.1)
         (written_stands opening (ready_for weight m) seat op one.0 ready still_none (subst (λ ws. AllByRecursion FitsFormat ws) one.1 fit).0 one.1
-        (λ s. held-still object (entry_of seat op Done) s (write_leaves_rows op is_one)) (ready.told.running still_none, write_is_done object seat op is_one))
+        (λ s. held-still object (entry_of seat op Done) s (write_leaves_rows op is_one))
+        (ready.told.running still_none, write_is_done object seat op is_one still_met))
 
     by : (o : Outcome) → Stands opening (admit_fitting m seat op weight o).state
     by (FailedAfter commits faults) = after_failure commits faults (nat_lt commits (swaps_due m))
+    by (FailedLooking faults) = done
     by Well = done
     by (Broken page) = done
     by NoRoom = done
@@ -206,16 +254,14 @@ fitting_stands opening m seat op weight outcome stands way none is_one fit = by 
 limit_is : (sizes : Sizes) (at_opening : ℕ) (op : Op) → limit_for (limits_of sizes at_opening) op ≡ charge_limit sizes (is_del op)
 limit_is sizes at_opening op = grind (arith, common_steps, nat_tests)
 
-pub admit_stands : (opening : List (Key × Value)) (m : Machine) (seat : ℕ) (op : Op) (outcome : Outcome) → Stands opening m → HasWay m → is_write op ≡ true
-    → AllByRecursion FitsFormat (writes_of op) → Stands opening (admit m seat op outcome).state
-admit_stands opening m seat op outcome stands way is_one fit =
-    unless_stands opening m seat op
-    (cond (nat_lt (charge_limit m.gears.sizes (is_del op)) (charge m + total_weight (writes_of op))) (replied seat op (Full (charge m)) m) (admit_fitting m seat op (total_weight (writes_of op)) outcome))
-    stands (λ none. by none (nat_lt (charge_limit m.gears.sizes (is_del op)) (charge m + total_weight (writes_of op))) refl)
+met_stands : (opening : List (Key × Value)) (m : Machine) (seat : ℕ) (op : Op) (outcome : Outcome) → Stands opening m → HasWay m → m.stopped ≡ None
+    → is_write op ≡ true → is_met op (value_at (object_after opening m.book.entries).writes) ≡ true → AllByRecursion FitsFormat (writes_of op)
+    → Stands opening (admit_met m seat op outcome).state
+met_stands opening m seat op outcome stands way none is_one met fit = by (is_full m op) refl
   where
-    by : m.stopped ≡ None → (b : Bool) → nat_lt (charge_limit m.gears.sizes (is_del op)) (charge m + total_weight (writes_of op)) ≡ b
+    by : (b : Bool) → is_full m op ≡ b
         → Stands opening (cond b (replied seat op (Full (charge m)) m) (admit_fitting m seat op (total_weight (writes_of op)) outcome)).state
-    by none true is =
+    by true is =
         note_stands opening m seat op (Full (charge m))
         (quiet_ready opening m (entry_of seat op (Full (charge m))) stands refl (λ s. held-refusal (object_after opening m.book.entries) (entry_of seat op (Full (charge m))) s refl))
         (running_told opening m seat op (Full (charge m)) stands.told none (
@@ -226,5 +272,67 @@ admit_stands opening m seat op outcome stands way is_one fit =
                 (ltb-true (charge_limit m.gears.sizes (is_del op)) (charge m + total_weight (writes_of op)) is);
             made = stands.weighs;
           },
+          met,
         ) refl refl)
-    by none false is = fitting_stands opening m seat op (total_weight (writes_of op)) outcome stands way none is_one fit
+    by false is = fitting_stands opening m seat op (total_weight (writes_of op)) outcome stands way none is_one met fit
+
+-- ---- a write that looks first
+
+-- the lists have of a key what the sequential map has
+lists_are_map : (opening : List (Key × Value)) (m : Machine) → Stands opening m → (key : Key) → value_in m.lists key ≡ value_at
+    (object_after opening m.book.entries).writes key
+lists_are_map opening m stands key = stands.values key ∙ ap (λ ws. value_at ws key) (sym (writes-object_after opening m.book.entries))
+
+-- so what it looked at may refuse it
+refused_stands : (opening : List (Key × Value)) (m : Machine) (seat : ℕ) (op : Op) (outcome : Outcome) (otherwise : Stepped) → Stands opening m →
+    m.stopped ≡ None
+    → is_write op ≡ true → (is_met op (value_at (object_after opening m.book.entries).writes) ≡ true → Stands opening otherwise.state)
+    → Stands opening (unless_refused (refused_first m op outcome) seat op m otherwise).state
+refused_stands opening m seat op outcome otherwise stands none is_one goes = by (looks_first op) refl outcome
+  where
+    noted : (reply : Reply) → counted (entry_of seat op reply) ≡ [] → MayReply (limits_of m.gears.sizes m.counts.charge) opening m.book.entries seat
+        op reply
+        → is_stopping op reply ≡ false → is_stopped reply ≡ false → Stands opening (note seat op reply m)
+    noted reply uncounted may stopping stopped =
+        note_stands opening m seat op reply
+        (quiet_ready opening m (entry_of seat op reply) stands uncounted
+        (λ s. held-still (object_after opening m.book.entries) (entry_of seat op reply) s (write_leaves_rows op is_one)))
+        (running_told opening m seat op reply stands.told none may stopping stopped)
+
+    same_met : is_met op (value_in m.lists) ≡ is_met op (value_at (object_after opening m.book.entries).writes)
+    same_met = met_same op (value_in m.lists) (value_at (object_after opening m.book.entries).writes) (lists_are_map opening m stands)
+
+    same_found : looked_at op (value_in m.lists) ≡ looked_at op (value_at (object_after opening m.book.entries).writes)
+    same_found = looked_same op (value_in m.lists) (value_at (object_after opening m.book.entries).writes) (lists_are_map opening m stands)
+
+    kept : (met : Bool) → is_met op (value_in m.lists) ≡ met
+        → Stands opening (unless_refused (cond met None (Some (Kept (looked_at op (value_in m.lists))))) seat op m otherwise).state
+    kept true is = goes (sym same_met ∙ is)
+    kept false is =
+        noted (Kept (looked_at op (value_in m.lists))) refl (
+          stands.told.running none,
+          subst (λ found. IsAnswer (object_after opening m.book.entries) seat op (Kept found)) (sym same_found)
+              (write_is_kept (object_after opening m.book.entries) seat op is_one (sym same_met ∙ is)),
+        ) refl refl
+
+    by : (first : Bool) → looks_first op ≡ first → (e : Outcome)
+        → Stands opening (unless_refused (cond first (told_by_look e (is_met op (value_in m.lists)) (looked_at op (value_in m.lists))) None) seat op
+        m otherwise).state
+    by false is e = goes (no_condition op (value_at (object_after opening m.book.entries).writes) is)
+    by true is (FailedLooking faults) = noted Fault refl (first_may_fail m.book.entries op is (stands.told.running none))
+        (write_is_no_work op is_one) refl
+    by true is (Broken page) = noted (Damaged page) refl (first_may_fail m.book.entries op is (stands.told.running none))
+        (write_is_no_work op is_one) refl
+    by true is (FailedAfter commits faults) = kept (is_met op (value_in m.lists)) refl
+    by true is Well = kept (is_met op (value_in m.lists)) refl
+    by true is NoRoom = kept (is_met op (value_in m.lists)) refl
+
+-- ---- admission
+
+pub admit_stands : (opening : List (Key × Value)) (m : Machine) (seat : ℕ) (op : Op) (outcome : Outcome) → Stands opening m → HasWay m → is_write op
+    ≡ true
+    → AllByRecursion FitsFormat (writes_of op) → Stands opening (admit m seat op outcome).state
+admit_stands opening m seat op outcome stands way is_one fit =
+    unless_stands opening m seat op (unless_refused (refused_first m op outcome) seat op m (admit_met m seat op outcome)) stands
+    (λ none. refused_stands opening m seat op outcome (admit_met m seat op outcome) stands none is_one
+    (λ met. met_stands opening m seat op outcome stands way none is_one met fit))

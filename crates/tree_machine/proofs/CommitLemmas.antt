@@ -1,5 +1,5 @@
 -- The version rises by no more than the swaps and the rotations.
-use Rattle.std.proofs.Common.{ℕ, ◌+◌, Bool, cond, true, false, List, Option, None, arith}
+use Rattle.std.proofs.Common.{ℕ, Bool, cond, true, false, List, Option, Some, None, arith}
 use Rattle.std.proofs.lemmas.Grind.{common_steps}
 use Rattle.std.proofs.lemmas.Bool.Decides.{nat_tests}
 use Rattle.std.specs.Prelude.{◌==◌, nat_lt}
@@ -9,16 +9,43 @@ use Rattle.blsm_model.specs.declared.op.Op.{Op}
 use Rattle.blsm_model.specs.declared.op.Op.TheVariants.{Hold, Next, Release}
 use Rattle.blsm_model.specs.declared.history.Why.{Why}
 use Rattle.blsm_model.specs.declared.history.Why.TheVariants.{Faulted}
+use Rattle.blsm_model.specs.declared.history.Reply.{Reply}
 use Rattle.blsm_model.specs.declared.history.Reply.TheVariants.{Full, FaultLost, FaultUnsure}
-use Rattle.blsm_model.specs.Geometry.{charge_limit}
 use Rattle.blsm_model.specs.Histories.{writes_of, answer_to_release, answer_to_look}
-use Rattle.blsm_model.specs.Legal.{total_weight, is_del}
+use Rattle.blsm_model.specs.Legal.{total_weight}
 use Rattle.tree_machine.specs.declared.step.Kind.{Kind}
 use Rattle.tree_machine.specs.declared.step.Kind.TheVariants as kind
 use Rattle.tree_machine.specs.Lists.{contents_in}
 use Rattle.tree_machine.specs.Machine.{Machine, charge, held_by}
 use Rattle.tree_machine.specs.Moves.{with_peak, stop}
-use Rattle.tree_machine.specs.Steps.{Outcome, Well, FailedAfter, Broken, NoRoom, Stepped, replied, unless_stopped, swaps_due, admit, admit_fitting, deep_swapped, ready_for, taken_once, reply_unless, do_hold, do_next, holding, pay, work_turn, worker_turn}
+use Rattle.tree_machine.specs.Steps.{
+  Outcome,
+  Well,
+  FailedAfter,
+  FailedLooking,
+  Broken,
+  NoRoom,
+  Stepped,
+  replied,
+  unless_stopped,
+  unless_refused,
+  refused_first,
+  swaps_due,
+  admit,
+  admit_met,
+  admit_fitting,
+  is_full,
+  deep_swapped,
+  ready_for,
+  taken_once,
+  reply_unless,
+  do_hold,
+  do_next,
+  holding,
+  pay,
+  work_turn,
+  worker_turn,
+}
 use Rattle.tree_machine.specs.Plays.{stepped_as}
 use Rattle.tree_machine.specs.Layers.{IsSound}
 use Rattle.tree_machine.proofs.Terms.{IsVersion}
@@ -38,9 +65,8 @@ unless_commits first seat op m o otherwise h1 h2 = grind (arith, common_steps, n
 
 admit_commits : (first : ℕ) (m : Machine) (seat : ℕ) (op : Op) (outcome : Outcome) → IsSound m → IsVersion first m → IsVersion first (admit m seat op outcome).state
 admit_commits first m seat op outcome sound v =
-    unless_commits first seat op m m.stopped
-    (cond (nat_lt (charge_limit m.gears.sizes (is_del op)) (charge m + total_weight (writes_of op))) (replied seat op (Full (charge m)) m) (admit_fitting m seat op (total_weight (writes_of op)) outcome)) v
-    (full (nat_lt (charge_limit m.gears.sizes (is_del op)) (charge m + total_weight (writes_of op))))
+    unless_commits first seat op m m.stopped (unless_refused (refused_first m op outcome) seat op m (admit_met m seat op outcome)) v
+    (refused (refused_first m op outcome))
   where
     ready : IsVersion first (ready_for (total_weight (writes_of op)) m)
     ready = ready_commits first (total_weight (writes_of op)) m sound v
@@ -59,12 +85,17 @@ admit_commits first m seat op outcome sound v =
     fitting : (e : Outcome) → IsVersion first (admit_fitting m seat op (total_weight (writes_of op)) e).state
     fitting (FailedAfter commits faults) = failed commits faults (nat_lt commits (swaps_due m))
     fitting Well = done
+    fitting (FailedLooking faults) = done
     fitting (Broken page) = done
     fitting NoRoom = done
 
     full : (b : Bool) → IsVersion first (cond b (replied seat op (Full (charge m)) m) (admit_fitting m seat op (total_weight (writes_of op)) outcome)).state
     full true = v
     full false = fitting outcome
+
+    refused : (o : Option Reply) → IsVersion first (unless_refused o seat op m (admit_met m seat op outcome)).state
+    refused (Some reply) = v
+    refused None = full (is_full m op)
 
 -- ---- payments and turns
 

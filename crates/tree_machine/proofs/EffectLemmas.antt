@@ -1,5 +1,5 @@
 -- What a step leaves as it was, and which merge a quantum moves.
-use Rattle.std.proofs.Common.{◌≡◌, ◌⊎◌, inl, refl, ap, ℕ, ◌+◌, Bool, cond, true, false, not, List, [], Option, Some, None}
+use Rattle.std.proofs.Common.{◌≡◌, ◌⊎◌, inl, refl, ap, ℕ, Bool, cond, true, false, not, List, Option, Some, None}
 use Rattle.std.proofs.lemmas.Grind.{common_steps}
 use Rattle.std.proofs.lemmas.Bool.Decides.{nat_tests}
 use Rattle.std.proofs.Common.{arith}
@@ -11,18 +11,55 @@ use Rattle.blsm_model.specs.declared.op.Op.TheVariants.{Hold, Next, Release}
 use Rattle.blsm_model.specs.declared.history.Why.{Why}
 use Rattle.blsm_model.specs.declared.history.Why.TheVariants as why
 use Rattle.blsm_model.specs.declared.history.Why.TheVariants.{Faulted}
+use Rattle.blsm_model.specs.declared.history.Reply.{Reply}
 use Rattle.blsm_model.specs.declared.history.Reply.TheVariants.{Done, Full, FaultLost, FaultUnsure, Stopped}
-use Rattle.blsm_model.specs.Geometry.{charge_limit}
 use Rattle.blsm_model.specs.Histories.{writes_of, answer_to_release, answer_to_look}
-use Rattle.blsm_model.specs.Legal.{total_weight, is_del}
+use Rattle.blsm_model.specs.Legal.{total_weight}
 use Rattle.blsm_model.specs.declared.op.Write.{Write}
 use Rattle.record_delta.specs.Entries.{entries_weight}
 use Rattle.tree_machine.specs.declared.step.Kind.{Kind}
 use Rattle.tree_machine.specs.declared.step.Kind.TheVariants as kind
 use Rattle.tree_machine.specs.Lists.{memory_weight, contents_in}
-use Rattle.tree_machine.specs.Machine.{Machine, pass_done, deep_done, charge, held_by}
+use Rattle.tree_machine.specs.Machine.{Machine, pass_done, deep_done, charge, held_by, is_closed}
 use Rattle.tree_machine.specs.Moves.{with_peak, note, stop}
-use Rattle.tree_machine.specs.Steps.{Outcome, Well, FailedAfter, Broken, NoRoom, Stepped, choice, chosen, replied, unless_stopped, swaps_due, admit, admit_fitting, deep_swapped, ready_for, taken_once, reply_unless, hold, do_hold, next_rows, do_next, drop_hold, holding, pay, do_turn, work_turning, work_turn, worker_turn, work_end, leave}
+use Rattle.tree_machine.specs.Steps.{
+  Outcome,
+  Well,
+  FailedAfter,
+  FailedLooking,
+  Broken,
+  NoRoom,
+  Stepped,
+  choice,
+  chosen,
+  replied,
+  unless_stopped,
+  unless_refused,
+  refused_first,
+  swaps_due,
+  admit,
+  admit_met,
+  admit_fitting,
+  is_full,
+  deep_swapped,
+  ready_for,
+  taken_once,
+  reply_unless,
+  hold,
+  do_hold,
+  next_rows,
+  do_next,
+  drop_hold,
+  holding,
+  pay,
+  do_turn,
+  work_turning,
+  worker_turning,
+  work_turn,
+  worker_turn,
+  work_end,
+  leave,
+}
 use Rattle.tree_machine.specs.Plays.{stepped_as}
 use Rattle.tree_machine.specs.Layers.{IsSound, HasWay}
 use Rattle.tree_machine.specs.Effects.{LeavesAll, LeaveAll}
@@ -33,8 +70,18 @@ use Rattle.tree_machine.proofs.Terms.{MergeStands, Rests, TakesQuantum}
 unless_leaves : (m : Machine) (seat : ℕ) (op : Op) (o : Option Why) (otherwise : Stepped) → LeavesAll m seat op otherwise → LeavesAll m seat op (unless_stopped o seat op m otherwise)
 unless_leaves m seat op o otherwise h1 = grind (arith, common_steps, nat_tests)
 
+refused_leaves : (m : Machine) (seat : ℕ) (op : Op) (o : Option Reply) (otherwise : Stepped) → LeavesAll m seat op otherwise → LeavesAll m seat op
+    (unless_refused o seat op m otherwise)
+refused_leaves m seat op (Some reply) otherwise leaves = λ bare. refl
+refused_leaves m seat op None otherwise leaves = leaves
+
+met_leaves : (m : Machine) (seat : ℕ) (op : Op) (outcome : Outcome) → LeavesAll m seat op (admit_met m seat op outcome)
+met_leaves m seat op outcome = grind (arith, common_steps, nat_tests)
+
 admit_leaves : (m : Machine) (seat : ℕ) (op : Op) (outcome : Outcome) → LeavesAll m seat op (admit m seat op outcome)
-admit_leaves m seat op outcome = grind (arith, common_steps, nat_tests, unless_leaves)
+admit_leaves m seat op outcome =
+    unless_leaves m seat op m.stopped (unless_refused (refused_first m op outcome) seat op m (admit_met m seat op outcome))
+    (refused_leaves m seat op (refused_first m op outcome) (admit_met m seat op outcome) (met_leaves m seat op outcome))
 
 hold_leaves : (m : Machine) (seat : ℕ) (low high : Key) (outcome : Outcome) → LeavesAll m seat (Hold low high) (hold m seat low high outcome)
 hold_leaves m seat low high outcome = grind (arith, common_steps, nat_tests)
@@ -103,6 +150,7 @@ admit_works m seat op outcome sound way = unless m.stopped
     fitting : (e : Outcome) → Rests m (admit_fitting m seat op (total_weight (writes_of op)) e).state
     fitting (FailedAfter commits faults) = failed commits faults (nat_lt commits (swaps_due m))
     fitting Well = done
+    fitting (FailedLooking faults) = done
     fitting (Broken page) = done
     fitting NoRoom = done
 
@@ -110,10 +158,14 @@ admit_works m seat op outcome sound way = unless m.stopped
     full true = record { quanta = refl; pass = inl refl; deep = inl refl }
     full false = fitting outcome
 
-    unless : (o : Option Why)
-        → Works seat m (unless_stopped o seat op m (cond (nat_lt (charge_limit m.gears.sizes (is_del op)) (charge m + total_weight (writes_of op))) (replied seat op (Full (charge m)) m) (admit_fitting m seat op (total_weight (writes_of op)) outcome))).state
+    refused : (o : Option Reply) → Works seat m (unless_refused o seat op m (admit_met m seat op outcome)).state
+    refused (Some reply) = quiet seat m (note seat op reply m) refl refl
+    refused None = inl (full (is_full m op))
+
+    unless : (o : Option Why) → Works seat m (unless_stopped o seat op m
+        (unless_refused (refused_first m op outcome) seat op m (admit_met m seat op outcome))).state
     unless (Some cause) = quiet seat m (note seat op (Stopped cause) m) refl refl
-    unless None = inl (full (nat_lt (charge_limit m.gears.sizes (is_del op)) (charge m + total_weight (writes_of op))))
+    unless None = refused (refused_first m op outcome)
 
 -- ---- a payment
 
@@ -129,6 +181,7 @@ turn_works : (may_begin may_rotate : Bool) (m : Machine) (seat : ℕ) (outcome :
 turn_works may_begin may_rotate m seat (FailedAfter commits faults) sound way = quiet seat m (stop (why.Faulted faults) m) refl refl
 turn_works may_begin may_rotate m seat (Broken page) sound way = quiet seat m (stop (why.BadPage page) m) refl refl
 turn_works may_begin may_rotate m seat Well sound way = chosen_works may_begin may_rotate seat m sound way
+turn_works may_begin may_rotate m seat (FailedLooking faults) sound way = chosen_works may_begin may_rotate seat m sound way
 turn_works may_begin may_rotate m seat NoRoom sound way = chosen_works may_begin may_rotate seat m sound way
 
 work_turn_works : (m : Machine) (seat : ℕ) (outcome : Outcome) → IsSound m → HasWay m → Works seat m (work_turn m seat outcome).state
@@ -139,7 +192,14 @@ work_turn_works m seat outcome sound way = works_on seat m (work_turning m.stopp
     by None = turn_works (not (memory_weight m.lists == 0)) (not (entries_weight m.lists.c1 == 0)) m seat outcome sound way
 
 worker_turn_works : (m : Machine) (seat : ℕ) (outcome : Outcome) → IsSound m → HasWay m → Works seat m (worker_turn m seat outcome).state
-worker_turn_works m seat outcome sound way = grind (arith, common_steps, nat_tests)
+worker_turn_works m seat outcome sound way =
+    works_on seat m (worker_turning m.stopped (is_closed m) m seat outcome).state (worker_turn m seat outcome).state refl refl refl
+    (by m.stopped (is_closed m))
+  where
+    by : (o : Option Why) (closed : Bool) → Works seat m (worker_turning o closed m seat outcome).state
+    by (Some cause) closed = quiet seat m m refl refl
+    by None true = quiet seat m m refl refl
+    by None false = turn_works (nat_lt m.gears.sizes.low m.spring) false m seat outcome sound way
 
 -- ---- any step
 

@@ -15,11 +15,10 @@ use Rattle.blsm_model.specs.declared.op.Op.TheVariants.{Hold, Release}
 use Rattle.blsm_model.specs.declared.history.Reply.TheVariants.{Done, Held, Full, FaultLost, FaultUnsure}
 use Rattle.blsm_model.specs.Format.{callers}
 use Rattle.blsm_model.specs.Histories.{writes_of, answer_to_release, answer_to_look}
-use Rattle.blsm_model.specs.Legal.{total_weight, is_del}
+use Rattle.blsm_model.specs.Legal.{total_weight}
 use Rattle.tree_machine.specs.declared.step.Kind.{Kind}
 use Rattle.tree_machine.specs.declared.step.Kind.TheVariants as kind
 use Rattle.blsm_model.specs.declared.history.Reply.{Reply}
-use Rattle.blsm_model.specs.Geometry.{charge_limit}
 use Rattle.record_delta.specs.Entries.{entries_weight}
 use Rattle.tree_machine.specs.Lists.{memory_weight, rows_in, contents_in}
 use Rattle.gear_sched.specs.Gears.{plan_for, first_debt, second_debt}
@@ -27,7 +26,60 @@ use Rattle.gear_sched.specs.declared.Plan.{Plan}
 use Rattle.gear_sched.specs.declared.Plan.TheVariants.{Snow, Deep, Nothing}
 use Rattle.tree_machine.specs.Machine.{Machine, WorkSoFar, is_worked, is_closed, all_true, charge, held_by, work_of, turn_more}
 use Rattle.tree_machine.specs.Moves.{begin_pass, rotate_alone, swap_pass, swap_deep, pass_quantum, deep_quantum, with_peak, note, stop}
-use Rattle.tree_machine.specs.Steps.{Choice, SwapDeep, SwapPass, DeepQuantum, PassQuantum, Begin, Rotate, Rest, chosen, deep_swapped, pass_swapped, swapped, pass_begun_for, ready_for, taken_once, forgive, count_for_write, holding, work_noted, Outcome, Well, FailedAfter, Broken, NoRoom, Stepped, replied, unless_stopped, swaps_due, admit, admit_fitting, do_pay, pay_planned, pay, pay_running, reply_unless, hold, do_hold, next_rows, choice, do_turn, work_turning, worker_turning, with_turn, work_turn, worker_turn, work_end, leave}
+use Rattle.tree_machine.specs.Steps.{
+  Choice,
+  SwapDeep,
+  SwapPass,
+  DeepQuantum,
+  PassQuantum,
+  Begin,
+  Rotate,
+  Rest,
+  chosen,
+  deep_swapped,
+  pass_swapped,
+  swapped,
+  pass_begun_for,
+  ready_for,
+  taken_once,
+  forgive,
+  count_for_write,
+  holding,
+  work_noted,
+  Outcome,
+  Well,
+  FailedAfter,
+  FailedLooking,
+  Broken,
+  NoRoom,
+  Stepped,
+  replied,
+  unless_stopped,
+  unless_refused,
+  refused_first,
+  swaps_due,
+  admit,
+  admit_met,
+  admit_fitting,
+  is_full,
+  do_pay,
+  pay_planned,
+  pay,
+  pay_running,
+  reply_unless,
+  hold,
+  do_hold,
+  next_rows,
+  choice,
+  do_turn,
+  work_turning,
+  worker_turning,
+  with_turn,
+  work_turn,
+  worker_turn,
+  work_end,
+  leave,
+}
 use Rattle.tree_machine.specs.Plays.{stepped_as, may, is_help}
 use Rattle.tree_machine.proofs.FoldLemmas.{both_hold, both}
 use Rattle.blsm_model.specs.Facts.{Follows}
@@ -155,9 +207,8 @@ taken_apart seat ws m = grind (arith, common_steps, nat_tests)
 
 admit_apart : (m : Machine) (seat : ℕ) (op : Op) (outcome : Outcome) → Apart seat 0 m (admit m seat op outcome).state
 admit_apart m seat op outcome =
-    unless_apart seat op m
-    (cond (nat_lt (charge_limit m.gears.sizes (is_del op)) (charge m + total_weight (writes_of op))) (replied seat op (Full (charge m)) m) (admit_fitting m seat op (total_weight (writes_of op)) outcome))
-    (λ none. by none (nat_lt (charge_limit m.gears.sizes (is_del op)) (charge m + total_weight (writes_of op))))
+    unless_apart seat op m (unless_refused (refused_first m op outcome) seat op m (admit_met m seat op outcome))
+    (λ none. refused none (refused_first m op outcome))
   where
     lost : m.stopped ≡ None → (faults : ℕ) (b : Bool) → Apart seat 0 m (stop (Faulted faults) (cond b m (deep_swapped m)))
     lost h1 faults b = grind (arith, common_steps, nat_tests)
@@ -175,6 +226,7 @@ admit_apart m seat op outcome =
     fitting : m.stopped ≡ None → (o : Outcome) → Apart seat 0 m (admit_fitting m seat op (total_weight (writes_of op)) o).state
     fitting none (FailedAfter commits faults) = failed none commits faults (nat_lt commits (swaps_due m))
     fitting none Well = done
+    fitting none (FailedLooking faults) = done
     fitting none (Broken page) = done
     fitting none NoRoom = done
 
@@ -182,12 +234,18 @@ admit_apart m seat op outcome =
     by none true = note_apart seat op (Full (charge m)) m
     by none false = fitting none outcome
 
+    refused : m.stopped ≡ None → (o : Option Reply) → Apart seat 0 m (unless_refused o seat op m (admit_met m seat op outcome)).state
+    refused none (Some reply) = note_apart seat op reply m
+    refused none None = by none (is_full m op)
+
 pay_apart : (m : Machine) (seat : ℕ) (outcome : Outcome) → Apart seat 1 m (pay m seat outcome).state
 pay_apart m seat outcome = by m.stopped refl
   where
     owing : (quantum : Machine → Machine) → Apart seat 1 (forgive seat m) (quantum (forgive seat m)) → m.stopped ≡ None → (o : Outcome) → Apart seat 1 m (do_pay (forgive seat m) quantum seat o).state
     owing quantum p none (FailedAfter commits faults) = apart_more seat 0 1 (omega arith) (apart_on seat 0 0 (forgive_apart seat m) (stop_apart seat (Faulted faults) (forgive seat m) none))
     owing quantum p none (Broken page) = apart_more seat 0 1 (omega arith) (apart_on seat 0 0 (forgive_apart seat m) (stop_apart seat (why.BadPage page) (forgive seat m) none))
+    owing quantum p none (FailedLooking faults) = apart_on seat 0 1 (forgive_apart seat m)
+        (apart_on seat 1 0 p (count_apart seat (quantum (forgive seat m))))
     owing quantum p none Well = apart_on seat 0 1 (forgive_apart seat m) (apart_on seat 1 0 p (count_apart seat (quantum (forgive seat m))))
     owing quantum p none NoRoom = apart_on seat 0 1 (forgive_apart seat m) (apart_on seat 1 0 p (count_apart seat (quantum (forgive seat m))))
 

@@ -1,11 +1,36 @@
 -- A step notes one entry of its seat, or none.
-use Rattle.std.proofs.Common.{◌≡◌, ◌<◌, ◌⊎◌, ℕ, ◌+◌, ◌-◌, length, arith, inl, inr, Bool, cond, true, false, ◌&&◌, List, [], ◌∷◌, ◌++◌, None, Option, refl, ap, ◌∙◌}
+use Rattle.std.proofs.Common.{
+  ◌≡◌,
+  ◌<◌,
+  ◌⊎◌,
+  ℕ,
+  ◌+◌,
+  length,
+  arith,
+  inl,
+  inr,
+  Bool,
+  cond,
+  true,
+  false,
+  ◌&&◌,
+  List,
+  [],
+  ◌∷◌,
+  ◌++◌,
+  Some,
+  None,
+  Option,
+  refl,
+  ap,
+  ◌∙◌,
+}
 use Rattle.std.proofs.lemmas.Grind.{common_steps}
 use Rattle.std.proofs.lemmas.Bool.Decides.{nat_tests}
 use Rattle.std.specs.Prelude.{◌==◌, nat_lt, nat_le, sum, slice_index}
 use Rattle.std.proofs.lemmas.Bool.{ltb-true}
 use Rattle.blsm_model.specs.Format.{most_rows}
-use Rattle.blsm_model.specs.Legal.{is_write, is_del, is_look}
+use Rattle.blsm_model.specs.Legal.{is_write, is_look}
 use Rattle.blsm_model.specs.declared.room.Room.{Room}
 use Rattle.blsm_model.specs.declared.history.Entry.{Entry}
 use Rattle.tree_machine.specs.Plays.{has_room, is_between, may_note, is_even, is_finished, may}
@@ -18,7 +43,6 @@ use Rattle.blsm_model.specs.declared.history.Why.TheVariants.{Faulted}
 use Rattle.blsm_model.specs.declared.history.Reply.{Reply}
 use Rattle.blsm_model.specs.declared.history.Reply.TheVariants.{Done, Full, FaultLost, FaultUnsure}
 use Rattle.blsm_model.specs.Book.{Book, room_after}
-use Rattle.blsm_model.specs.Geometry.{charge_limit}
 use Rattle.blsm_model.specs.Histories.{writes_of, answer_to_release, answer_to_look}
 use Rattle.blsm_model.specs.Legal.{total_weight}
 use Rattle.tree_machine.specs.declared.step.Kind.{Kind}
@@ -26,8 +50,47 @@ use Rattle.tree_machine.specs.declared.step.Kind.TheVariants as kind
 use Rattle.tree_machine.specs.Lists.{contents_in}
 use Rattle.tree_machine.specs.Machine.{Machine, is_caller, is_closed, charge, held_by, work_of}
 use Rattle.tree_machine.specs.Moves.{pass_quantum, deep_quantum, with_peak, note, stop}
-use Rattle.tree_machine.specs.Steps.{Choice, deep_swapped, ready_for, taken_once, holding, Outcome, Well, FailedAfter, Broken, NoRoom, Stepped, replied, unless_stopped, swaps_due, admit, admit_fitting, pay, reply_unless, do_hold, do_next, do_turn, work_turning, worker_turning, work_reply}
+use Rattle.tree_machine.specs.Steps.{
+  Choice,
+  deep_swapped,
+  ready_for,
+  taken_once,
+  holding,
+  Outcome,
+  Well,
+  FailedAfter,
+  FailedLooking,
+  Broken,
+  NoRoom,
+  Stepped,
+  replied,
+  unless_stopped,
+  unless_refused,
+  refused_first,
+  swaps_due,
+  admit,
+  admit_met,
+  admit_fitting,
+  is_full,
+  forgive,
+  pay,
+  pay_planned,
+  pay_running,
+  do_pay,
+  choice,
+  reply_unless,
+  do_hold,
+  do_next,
+  do_turn,
+  work_turning,
+  worker_turning,
+  work_reply,
+}
 use Rattle.tree_machine.specs.Plays.{stepped_as}
+use Rattle.blsm_model.specs.declared.history.Why.{Why}
+use Rattle.gear_sched.specs.Gears.{plan_for, first_debt, second_debt}
+use Rattle.gear_sched.specs.declared.Plan.{Plan}
+use Rattle.gear_sched.specs.declared.Plan.TheVariants.{Snow, Deep, Nothing}
 use Rattle.blsm_model.specs.Facts.{Notes}
 use Rattle.blsm_model.specs.declared.op.Write.{Write}
 
@@ -69,9 +132,8 @@ taken_book seat ws m = grind (arith, common_steps, nat_tests)
 
 admit_grows : (m : Machine) (seat : ℕ) (op : Op) (outcome : Outcome) → Grows seat m (admit m seat op outcome).state
 admit_grows m seat op outcome =
-    unless_grows seat op m
-    (cond (nat_lt (charge_limit m.gears.sizes (is_del op)) (charge m + total_weight (writes_of op))) (replied seat op (Full (charge m)) m) (admit_fitting m seat op (total_weight (writes_of op)) outcome))
-    (by (nat_lt (charge_limit m.gears.sizes (is_del op)) (charge m + total_weight (writes_of op))))
+    unless_grows seat op m (unless_refused (refused_first m op outcome) seat op m (admit_met m seat op outcome))
+    (refused (refused_first m op outcome))
   where
     lost : (faults : ℕ) (b : Bool) → (stop (Faulted faults) (cond b m (deep_swapped m))).book ≡ m.book
     lost faults b = grind (arith, common_steps, nat_tests)
@@ -88,6 +150,7 @@ admit_grows m seat op outcome =
     fitting : (o : Outcome) → Grows seat m (admit_fitting m seat op (total_weight (writes_of op)) o).state
     fitting (FailedAfter commits faults) = failed commits faults (nat_lt commits (swaps_due m))
     fitting Well = done
+    fitting (FailedLooking faults) = done
     fitting (Broken page) = done
     fitting NoRoom = done
 
@@ -95,8 +158,27 @@ admit_grows m seat op outcome =
     by true = noted_grows seat op (Full (charge m)) m m refl
     by false = fitting outcome
 
+    refused : (o : Option Reply) → Grows seat m (unless_refused o seat op m (admit_met m seat op outcome)).state
+    refused (Some reply) = noted_grows seat op reply m m refl
+    refused None = by (is_full m op)
+
 pub pay_keeps : (m : Machine) (seat : ℕ) (outcome : Outcome) → Keeps m (pay m seat outcome).state
-pay_keeps m seat outcome = grind (arith, common_steps, nat_tests)
+pay_keeps m seat outcome = by m.stopped
+  where
+    owing : (quantum : Machine → Machine) → (quantum (forgive seat m)).book ≡ m.book → (e : Outcome) → Keeps m
+        (do_pay (forgive seat m) quantum seat e).state
+    owing quantum same (FailedAfter commits faults) = (refl, refl)
+    owing quantum same (Broken page) = (refl, refl)
+    owing quantum same _ = (ap (λ (b : Book). b.entries) same, ap (λ (b : Book). b.room) same)
+
+    planned : (plan : Plan) → Keeps m (pay_planned plan (forgive seat m) seat outcome).state
+    planned Snow = owing (pass_quantum seat) (pass_quantum_book seat (forgive seat m)) outcome
+    planned Deep = owing (deep_quantum seat) (deep_quantum_book seat (forgive seat m)) outcome
+    planned Nothing = (refl, refl)
+
+    by : (o : Option Why) → Keeps m (pay_running o m seat outcome).state
+    by (Some cause) = (refl, refl)
+    by None = planned (plan_for (first_debt (forgive seat m).gears seat) (second_debt (forgive seat m).gears seat))
 
 hold_grows : (m : Machine) (seat : ℕ) (low high : Key) (outcome : Outcome) → Grows seat m (do_hold m seat low high outcome).state
 hold_grows m seat low high outcome = grind (arith, common_steps, nat_tests)
@@ -111,7 +193,12 @@ work_book : (m : Machine) (seat : ℕ) (outcome : Outcome) → (work_turning m.s
 work_book m seat outcome = grind (arith, common_steps, nat_tests, turn_book)
 
 worker_book : (m : Machine) (seat : ℕ) (outcome : Outcome) → (worker_turning m.stopped (is_closed m) m seat outcome).state.book ≡ m.book
-worker_book m seat outcome = grind (arith, common_steps, nat_tests)
+worker_book m seat outcome = by m.stopped (is_closed m)
+  where
+    by : (o : Option Why) (closed : Bool) → (worker_turning o closed m seat outcome).state.book ≡ m.book
+    by (Some cause) closed = refl
+    by None true = refl
+    by None false = turn_book (choice (nat_lt m.gears.sizes.low m.spring) false m) outcome seat m
 
 pub step_grows : (m : Machine) (seat : ℕ) (k : Kind) (outcome : Outcome) → Grows seat m (stepped_as m seat k outcome).state
 step_grows m seat (kind.Admit op) outcome = admit_grows m seat op outcome

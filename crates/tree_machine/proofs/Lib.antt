@@ -3,6 +3,7 @@ mod ExampleWords
 mod RunExamples
 mod FaultExamples
 mod EdgeExamples
+mod ConditionExamples
 pub mod FoldLemmas
 pub mod CursorLemmas
 pub mod MergeLemmas
@@ -13,6 +14,7 @@ pub mod CarryLemmas
 pub mod MapLemmas
 pub mod ToldLemmas
 pub mod StandLemmas
+pub mod LookLemmas
 pub mod AdmitLemmas
 pub mod TurnLemmas
 pub mod StepLemmas

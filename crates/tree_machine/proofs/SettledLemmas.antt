@@ -1,5 +1,5 @@
 -- C2 keeps bases only, and C1' isn't empty while a deep merge runs.
-use Rattle.std.proofs.Common.{◌≡◌, ◌≢◌, ◌<◌, refl, sym, subst, ℕ, ◌+◌, Bool, cond, true, false, not, ◌&&◌, ◌||◌, List, [], ◌∷◌, Option, Some, None, arith}
+use Rattle.std.proofs.Common.{◌≡◌, ◌<◌, refl, sym, subst, ℕ, ◌+◌, Bool, cond, true, false, not, ◌&&◌, ◌||◌, List, [], ◌∷◌, Option, Some, None, arith}
 use Rattle.std.proofs.lemmas.Grind.{common_steps}
 use Rattle.std.proofs.lemmas.Bool.Decides.{nat_tests}
 use Rattle.std.specs.Prelude.{◌==◌, nat_lt}
@@ -12,9 +12,9 @@ use Rattle.blsm_model.specs.declared.history.Reply.{Reply}
 use Rattle.blsm_model.specs.declared.history.Why.{Why}
 use Rattle.blsm_model.specs.declared.history.Why.TheVariants.{Faulted}
 use Rattle.blsm_model.specs.declared.history.Reply.TheVariants.{Done, Full, FaultLost, FaultUnsure}
-use Rattle.blsm_model.specs.Geometry.{c1_mark, charge_limit}
+use Rattle.blsm_model.specs.Geometry.{c1_mark}
 use Rattle.blsm_model.specs.Histories.{writes_of, answer_to_release, answer_to_look}
-use Rattle.blsm_model.specs.Legal.{total_weight, is_del}
+use Rattle.blsm_model.specs.Legal.{total_weight}
 use Rattle.record_delta.specs.Entries.{Entries, settled_entries}
 use Rattle.gear_sched.specs.Gears.{plan_for, first_debt, second_debt, deep_is_behind}
 use Rattle.gear_sched.specs.declared.Plan.{Plan}
@@ -24,7 +24,50 @@ use Rattle.tree_machine.specs.Lists.{contents_in}
 use Rattle.tree_machine.specs.Merges.{is_empty}
 use Rattle.tree_machine.specs.Machine.{Machine, in_pass, in_deep, pass_done, deep_done, is_closed, charge, held_by}
 use Rattle.tree_machine.specs.Moves.{begin_pass, swap_pass, swap_deep, with_peak, note, stop}
-use Rattle.tree_machine.specs.Steps.{Outcome, Well, FailedAfter, Broken, NoRoom, Stepped, SwapDeep, SwapPass, DeepQuantum, PassQuantum, Begin, Rotate, Rest, choice, chosen, replied, unless_stopped, swaps_due, admit, admit_fitting, deep_swapped, swapped, ready_for, taken_once, reply_unless, do_hold, do_next, holding, forgive, pay, pay_running, pay_planned, do_pay, do_turn, worker_turning, work_turn, worker_turn}
+use Rattle.tree_machine.specs.Steps.{
+  Outcome,
+  Well,
+  FailedAfter,
+  FailedLooking,
+  Broken,
+  NoRoom,
+  Stepped,
+  SwapDeep,
+  SwapPass,
+  DeepQuantum,
+  PassQuantum,
+  Begin,
+  Rotate,
+  Rest,
+  choice,
+  chosen,
+  replied,
+  unless_stopped,
+  unless_refused,
+  refused_first,
+  swaps_due,
+  admit,
+  admit_met,
+  admit_fitting,
+  is_full,
+  deep_swapped,
+  swapped,
+  ready_for,
+  taken_once,
+  reply_unless,
+  do_hold,
+  do_next,
+  holding,
+  forgive,
+  pay,
+  pay_running,
+  pay_planned,
+  do_pay,
+  do_turn,
+  worker_turning,
+  work_turn,
+  worker_turn,
+}
 use Rattle.tree_machine.specs.Plays.{stepped_as}
 use Rattle.tree_machine.specs.Layers.{IsSound, AreBases, AreSettled}
 use Rattle.tree_machine.proofs.WeightLemmas.{deep_output}
@@ -74,9 +117,8 @@ unless_settles seat op m o otherwise h1 h2 = grind (arith, common_steps, nat_tes
 
 admit_settles : (m : Machine) (seat : ℕ) (op : Op) (outcome : Outcome) → IsSound m → 0 < c1_mark m.gears.sizes → AreSettled m → AreSettled (admit m seat op outcome).state
 admit_settles m seat op outcome sound mark s =
-    unless_settles seat op m m.stopped
-    (cond (nat_lt (charge_limit m.gears.sizes (is_del op)) (charge m + total_weight (writes_of op))) (replied seat op (Full (charge m)) m) (admit_fitting m seat op (total_weight (writes_of op)) outcome)) s
-    (full (nat_lt (charge_limit m.gears.sizes (is_del op)) (charge m + total_weight (writes_of op))))
+    unless_settles seat op m m.stopped (unless_refused (refused_first m op outcome) seat op m (admit_met m seat op outcome)) s
+    (refused (refused_first m op outcome))
   where
     ready : AreSettled (ready_for (total_weight (writes_of op)) m)
     ready = ready_settles (total_weight (writes_of op)) m sound mark s
@@ -96,12 +138,17 @@ admit_settles m seat op outcome sound mark s =
     fitting : (e : Outcome) → AreSettled (admit_fitting m seat op (total_weight (writes_of op)) e).state
     fitting (FailedAfter commits faults) = failed commits faults (nat_lt commits (swaps_due m))
     fitting Well = done
+    fitting (FailedLooking faults) = done
     fitting (Broken page) = done
     fitting NoRoom = done
 
     full : (b : Bool) → AreSettled (cond b (replied seat op (Full (charge m)) m) (admit_fitting m seat op (total_weight (writes_of op)) outcome)).state
     full true = noted seat op (Full (charge m)) m s
     full false = fitting outcome
+
+    refused : (o : Option Reply) → AreSettled (unless_refused o seat op m (admit_met m seat op outcome)).state
+    refused (Some reply) = noted seat op reply m s
+    refused None = full (is_full m op)
 
 -- ---- payments and turns
 

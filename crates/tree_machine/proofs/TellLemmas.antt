@@ -3,21 +3,22 @@ use Rattle.std.proofs.Common.{◌≡◌, ◌⊎◌, inl, inr, refl, ap, sym, sub
 use Rattle.std.proofs.lemmas.Grind.{common_steps}
 use Rattle.std.proofs.lemmas.Bool.Decides.{nat_tests}
 use Rattle.std.specs.Prelude.{◌==◌, nat_lt, unwrap_or, slice_set, slice_index_or, IsTrue}
+use Rattle.std.proofs.lemmas.Bool.{false≢true}
 use Rattle.std.specs.List.{AllByRecursion}
 use Rattle.blsm_model.specs.declared.key.Key.{Key}
 use Rattle.blsm_model.specs.declared.row.Row.{Row}
+use Rattle.blsm_model.specs.declared.row.Value.{Value}
 use Rattle.blsm_model.specs.declared.op.Op.{Op}
 use Rattle.blsm_model.specs.declared.op.Op.TheVariants.{Hold, Next, Release}
 use Rattle.blsm_model.specs.declared.history.Why.{Why}
 use Rattle.blsm_model.specs.declared.history.Why.TheVariants as why
 use Rattle.blsm_model.specs.declared.history.Reply.{Reply}
-use Rattle.blsm_model.specs.declared.history.Reply.TheVariants.{Done, Full, FaultLost, FaultUnsure, Stopped}
+use Rattle.blsm_model.specs.declared.history.Reply.TheVariants.{Damaged, Done, Fault, Full, FaultLost, FaultUnsure, Kept, Stopped}
 use Rattle.blsm_model.specs.declared.history.Entry.{Entry}
 use Rattle.blsm_model.specs.Book.{Book}
 use Rattle.blsm_model.specs.declared.op.Write.{Write}
-use Rattle.blsm_model.specs.Geometry.{charge_limit}
-use Rattle.blsm_model.specs.Histories.{writes_of, answer_to_release, answer_to_look, is_refusal}
-use Rattle.blsm_model.specs.Legal.{total_weight, is_del, may_look}
+use Rattle.blsm_model.specs.Histories.{writes_of, answer_to_release, answer_to_look, is_met, is_refusal, looked_at, looks_first}
+use Rattle.blsm_model.specs.Legal.{total_weight, may_look}
 use Rattle.record_delta.specs.Entries.{entries_weight}
 use Rattle.gear_sched.specs.Gears.{plan_for, first_debt, second_debt}
 use Rattle.gear_sched.specs.declared.Plan.{Plan}
@@ -25,10 +26,55 @@ use Rattle.gear_sched.specs.declared.Plan.TheVariants.{Snow, Deep, Nothing}
 use Rattle.tree_machine.specs.declared.step.Kind.{Kind}
 use Rattle.tree_machine.specs.declared.step.Kind.TheVariants as kind
 use Rattle.tree_machine.specs.declared.step.Step.{Step}
-use Rattle.tree_machine.specs.Lists.{memory_weight, contents_in}
+use Rattle.tree_machine.specs.Lists.{memory_weight, contents_in, value_in}
 use Rattle.tree_machine.specs.Machine.{Machine, WorkSoFar, no_work, is_closed, charge, held_by, work_of}
 use Rattle.tree_machine.specs.Moves.{pass_quantum, deep_quantum, with_peak, note, stop}
-use Rattle.tree_machine.specs.Steps.{Outcome, Well, FailedAfter, Broken, NoRoom, Stepped, Choice, DeepQuantum, PassQuantum, choice, chosen, ended_as, replied, unless_stopped, swaps_due, one_if, admit, admit_fitting, deep_swapped, ready_for, taken_once, reply_unless, do_hold, do_next, holding, forgive, pay, pay_running, pay_planned, do_pay, do_turn, work_turning, worker_turning, with_turn, work_turn, worker_turn, work_end, leave}
+use Rattle.tree_machine.specs.Steps.{
+  Outcome,
+  Well,
+  FailedAfter,
+  FailedLooking,
+  Broken,
+  NoRoom,
+  Stepped,
+  Choice,
+  DeepQuantum,
+  PassQuantum,
+  choice,
+  chosen,
+  ended_as,
+  replied,
+  unless_stopped,
+  unless_refused,
+  refused_first,
+  told_by_look,
+  swaps_due,
+  one_if,
+  admit,
+  admit_met,
+  admit_fitting,
+  is_full,
+  deep_swapped,
+  ready_for,
+  taken_once,
+  reply_unless,
+  do_hold,
+  do_next,
+  holding,
+  forgive,
+  pay,
+  pay_running,
+  pay_planned,
+  do_pay,
+  do_turn,
+  work_turning,
+  worker_turning,
+  with_turn,
+  work_turn,
+  worker_turn,
+  work_end,
+  leave,
+}
 use Rattle.tree_machine.specs.Plays.{may_step, stepped, stepped_as, played, played_one}
 use Rattle.tree_machine.specs.Outcomes.{Rose, last_count, IsPossible, AreTold, is_failed_lookup, faults_told, is_damaged, is_by_page, is_broken, NoneBroken}
 use Rattle.tree_machine.proofs.ToldLemmas.{some_or_none}
@@ -38,6 +84,7 @@ use Rattle.tree_machine.proofs.Terms.{is_bad_page, FindsNone, IsReachedBy}
 
 abbrev is_failed : Outcome → Bool
 is_failed (FailedAfter commits faults) = true
+is_failed (FailedLooking faults) = true
 is_failed _ = false
 
 -- the cause of a stop is the outcome's
@@ -89,11 +136,40 @@ unless_tells : (m : Machine) (seat : ℕ) (outcome : Outcome) (op : Op) (otherwi
     → Tells m seat outcome (unless_stopped m.stopped seat op m otherwise).state
 unless_tells m seat outcome op otherwise no_lookup runs = grind (arith, common_steps, nat_tests)
 
+-- what a lookup tells that comes first, its outcome does
+refused_tells : (m : Machine) (seat : ℕ) (op : Op) (outcome : Outcome) (otherwise : Stepped) →
+    (m.stopped ≡ None → Tells m seat outcome otherwise.state) → m.stopped ≡ None
+    → Tells m seat outcome (unless_refused (refused_first m op outcome) seat op m otherwise).state
+refused_tells m seat op outcome otherwise runs none = by (looks_first op) outcome runs
+  where
+    kept : (e : Outcome) (met : Bool) (found : Option Value) → (m.stopped ≡ None → Tells m seat e otherwise.state) → Tells m seat e
+        (unless_refused (cond met None (Some (Kept found))) seat op m otherwise).state
+    kept e true found runs = runs none
+    kept e false found runs = plain m seat e op (Kept found) m refl refl refl refl
+
+    by : (first : Bool) (e : Outcome) → (m.stopped ≡ None → Tells m seat e otherwise.state)
+        → Tells m seat e (unless_refused (cond first (told_by_look e (is_met op (value_in m.lists)) (looked_at op (value_in m.lists))) None) seat op
+        m otherwise).state
+    by false e runs = runs none
+    by true (FailedLooking faults) runs = inl (record {
+      stopped = refl;
+      entries = inr
+          (record { seat = seat; op = op; reply = Fault }, λ failed. refl, λ damaged. absurd (false≢true damaged), refl);
+    })
+    by true (Broken page) runs = inl (record {
+      stopped = refl;
+      entries = inr
+          (record { seat = seat; op = op; reply = Damaged page }, λ failed. absurd (false≢true failed), λ damaged. inl refl, refl);
+    })
+    by true (FailedAfter commits faults) runs = kept (FailedAfter commits faults) (is_met op (value_in m.lists)) (looked_at op (value_in m.lists))
+        runs
+    by true Well runs = kept Well (is_met op (value_in m.lists)) (looked_at op (value_in m.lists)) runs
+    by true NoRoom runs = kept NoRoom (is_met op (value_in m.lists)) (looked_at op (value_in m.lists)) runs
+
 admit_tells : (m : Machine) (seat : ℕ) (op : Op) (outcome : Outcome) → Tells m seat outcome (admit m seat op outcome).state
 admit_tells m seat op outcome =
-    unless_tells m seat outcome op (cond (nat_lt (charge_limit m.gears.sizes (is_del op)) (charge m + total_weight (writes_of op))) (replied seat op (Full (charge m)) m) (admit_fitting m seat op (total_weight (writes_of op)) outcome))
-    (λ cause. refl)
-    (λ none. by none (nat_lt (charge_limit m.gears.sizes (is_del op)) (charge m + total_weight (writes_of op))))
+    unless_tells m seat outcome op (unless_refused (refused_first m op outcome) seat op m (admit_met m seat op outcome))
+    (λ cause. refl) (λ none. refused_tells m seat op outcome (admit_met m seat op outcome) (λ runs. by runs (is_full m op)) none)
   where
     lost : (faults : ℕ) (c : Bool) → (stop (why.Faulted faults) (cond c m (deep_swapped m))).book.entries ≡ m.book.entries
     lost faults c = grind (arith, common_steps, nat_tests)
@@ -120,6 +196,7 @@ admit_tells m seat op outcome =
 
     fitting : m.stopped ≡ None → (e : Outcome) → Tells m seat e (admit_fitting m seat op (total_weight (writes_of op)) e).state
     fitting none (FailedAfter commits faults) = inr (failed none commits faults (nat_lt commits (swaps_due m)))
+    fitting none (FailedLooking faults) = done (FailedLooking faults)
     fitting none Well = done Well
     fitting none (Broken page) = done (Broken page)
     fitting none NoRoom = done NoRoom
@@ -167,7 +244,14 @@ work_turn_tells : (m : Machine) (seat : ℕ) (outcome : Outcome) → Tells m sea
 work_turn_tells m seat outcome = grind (arith, common_steps, nat_tests, tells_on, still, turn_tells)
 
 worker_turn_tells : (m : Machine) (seat : ℕ) (outcome : Outcome) → Tells m seat outcome (worker_turn m seat outcome).state
-worker_turn_tells m seat outcome = grind (arith, common_steps, nat_tests)
+worker_turn_tells m seat outcome =
+    tells_on m seat outcome (worker_turning m.stopped (is_closed m) m seat outcome).state (worker_turn m seat outcome).state refl refl
+    (by m.stopped refl (is_closed m))
+  where
+    by : (o : Option Why) → m.stopped ≡ o → (closed : Bool) → Tells m seat outcome (worker_turning o closed m seat outcome).state
+    by (Some cause) is closed = still m seat outcome m refl refl
+    by None is true = still m seat outcome m refl refl
+    by None is false = turn_tells (choice (nat_lt m.gears.sizes.low m.spring) false m) m seat outcome is
 
 -- a command that doesn't only look is no lookup that failed
 pub no_look : (op : Op) (reply : Reply) → may_look op ≡ false → is_failed_lookup op reply ≡ false
@@ -271,8 +355,8 @@ unless_work m seat op o otherwise h1 = grind (arith, common_steps, nat_tests)
 
 admit_work : (m : Machine) (seat : ℕ) (op : Op) (outcome : Outcome) → (admit m seat op outcome).state.seats.work ≡ m.seats.work
 admit_work m seat op outcome =
-    unless_work m seat op m.stopped (cond (nat_lt (charge_limit m.gears.sizes (is_del op)) (charge m + total_weight (writes_of op))) (replied seat op (Full (charge m)) m) (admit_fitting m seat op (total_weight (writes_of op)) outcome))
-    (full (nat_lt (charge_limit m.gears.sizes (is_del op)) (charge m + total_weight (writes_of op))))
+    unless_work m seat op m.stopped (unless_refused (refused_first m op outcome) seat op m (admit_met m seat op outcome))
+    (refused (refused_first m op outcome))
   where
     taken : (ws : List Write) (n : Machine) → (taken_once seat ws n).seats.work ≡ n.seats.work
     taken ws n = grind (arith, common_steps, nat_tests)
@@ -290,6 +374,7 @@ admit_work m seat op outcome =
 
     fitting : (e : Outcome) → (admit_fitting m seat op (total_weight (writes_of op)) e).state.seats.work ≡ m.seats.work
     fitting (FailedAfter commits faults) = failed commits faults (nat_lt commits (swaps_due m))
+    fitting (FailedLooking faults) = done
     fitting Well = done
     fitting (Broken page) = done
     fitting NoRoom = done
@@ -297,6 +382,10 @@ admit_work m seat op outcome =
     full : (b : Bool) → (cond b (replied seat op (Full (charge m)) m) (admit_fitting m seat op (total_weight (writes_of op)) outcome)).state.seats.work ≡ m.seats.work
     full true = refl
     full false = fitting outcome
+
+    refused : (o : Option Reply) → (unless_refused o seat op m (admit_met m seat op outcome)).state.seats.work ≡ m.seats.work
+    refused (Some reply) = refl
+    refused None = full (is_full m op)
 
 pay_work : (m : Machine) (seat : ℕ) (outcome : Outcome) → (pay m seat outcome).state.seats.work ≡ m.seats.work
 pay_work m seat outcome = grind (arith, common_steps, nat_tests)
@@ -319,8 +408,10 @@ works_sound m seat kind.WorkTurn outcome whole were s =
 works_sound m seat (kind.WorkEnd n) outcome whole were s = work_set m.seats.work seat no_work refl were s
 works_sound m seat kind.WorkerTurn outcome whole were s = ap (λ ws. is_bad_page (slice_index_or ws s no_work).last) (turning_work m.stopped (is_closed m)) ∙ were s
   where
-    turning_work : (o : Option Why) (b : Bool) → (worker_turning o b m seat outcome).state.seats.work ≡ m.seats.work
-    turning_work o b = grind (arith, common_steps, nat_tests)
+    turning_work : (o : Option Why) (closed : Bool) → (worker_turning o closed m seat outcome).state.seats.work ≡ m.seats.work
+    turning_work (Some cause) closed = refl
+    turning_work None true = refl
+    turning_work None false = turn_work (choice (nat_lt m.gears.sizes.low m.spring) false m) outcome seat m
 works_sound m seat (kind.Admit op) outcome whole were s = ap (λ ws. is_bad_page (slice_index_or ws s no_work).last) (admit_work m seat op outcome) ∙ were s
 works_sound m seat kind.Pay outcome whole were s = ap (λ ws. is_bad_page (slice_index_or ws s no_work).last) (pay_work m seat outcome) ∙ were s
 works_sound m seat (kind.Look op) outcome whole were s = ap (λ ws. is_bad_page (slice_index_or ws s no_work).last) (unless_work m seat op m.stopped (replied seat op (reply_unless outcome (answer_to_look op (contents_in m.lists))) m) refl) ∙ were s

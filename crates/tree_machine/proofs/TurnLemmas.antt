@@ -19,7 +19,34 @@ use Rattle.tree_machine.specs.Lists.{memory_weight}
 use Rattle.tree_machine.specs.Layers.{HasWay}
 use Rattle.tree_machine.specs.Machine.{Machine, WorkSoFar, work_of, is_closed}
 use Rattle.tree_machine.specs.Moves.{stop, pass_quantum, deep_quantum}
-use Rattle.tree_machine.specs.Steps.{Outcome, Well, FailedAfter, Broken, NoRoom, Choice, choice, chosen, ended_as, forgive, count_for_write, do_pay, pay_planned, pay_forgiven, pay_running, pay, Turning, do_turn, work_turning, worker_turning, with_turn, is_idle, work_noted, work_turn, worker_turn}
+use Rattle.tree_machine.specs.Steps.{
+  Outcome,
+  Well,
+  FailedAfter,
+  FailedLooking,
+  Broken,
+  NoRoom,
+  Choice,
+  choice,
+  chosen,
+  ended_as,
+  forgive,
+  count_for_write,
+  do_pay,
+  pay_planned,
+  pay_forgiven,
+  pay_running,
+  pay,
+  Turning,
+  do_turn,
+  work_turning,
+  worker_turning,
+  with_turn,
+  is_idle,
+  work_noted,
+  work_turn,
+  worker_turn,
+}
 use Rattle.tree_machine.specs.Stands.{AreWorks, Stands, work_at, is_failing}
 use Rattle.tree_machine.proofs.CarryLemmas.{chosen_carries, pass_quantum_carries, deep_quantum_carries}
 use Rattle.tree_machine.proofs.ToldLemmas.{none_is_some, stop_told}
@@ -50,6 +77,8 @@ do_pay_stands : (opening : List (Key × Value)) (m : Machine) (quantum : Machine
     → Carries m (quantum m) → Stands opening (do_pay m quantum seat outcome).state
 do_pay_stands opening m quantum seat (FailedAfter commits faults) stands none c = stop_stands opening m (why.Faulted faults) stands none
 do_pay_stands opening m quantum seat (Broken page) stands none c = stop_stands opening m (why.BadPage page) stands none
+do_pay_stands opening m quantum seat (FailedLooking faults) stands none c = counted_stands opening (quantum m) seat
+    (carries_stands opening m (quantum m) stands c)
 do_pay_stands opening m quantum seat Well stands none c = counted_stands opening (quantum m) seat (carries_stands opening m (quantum m) stands c)
 do_pay_stands opening m quantum seat NoRoom stands none c = counted_stands opening (quantum m) seat (carries_stands opening m (quantum m) stands c)
 
@@ -116,6 +145,12 @@ do_turn_turned opening m c (Broken page) seat stands none carries = record {
   stands = stop_stands opening m (why.BadPage page) stands none;
   work = refl;
   failed = λ is. (none, refl, running_none m.book.entries (stands.told.running none));
+  halted = λ some. absurd (none_is_some m.stopped none some);
+}
+do_turn_turned opening m c (FailedLooking faults) seat stands none carries = record {
+  stands = carries_stands opening m (chosen c seat m) stands carries;
+  work = carries.work;
+  failed = λ is. absurd (false≢true (sym (ended_well c) ∙ is));
   halted = λ some. absurd (none_is_some m.stopped none some);
 }
 do_turn_turned opening m c Well seat stands none carries = record {

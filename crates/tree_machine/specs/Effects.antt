@@ -4,7 +4,7 @@ use Rattle.blsm_model.specs.declared.key.Key.{Key}
 use Rattle.blsm_model.specs.declared.op.Op.{Op}
 use Rattle.blsm_model.specs.declared.op.Op.TheVariants.{Hold, Next, Release}
 use Rattle.blsm_model.specs.declared.history.Reply.{Reply}
-use Rattle.blsm_model.specs.declared.history.Reply.TheVariants.{Done, Is, Absent, NoHold, Full, NoMemory, Fault, Damaged, Stopped}
+use Rattle.blsm_model.specs.declared.history.Reply.TheVariants.{Done, Is, Absent, Kept, NoHold, Full, NoMemory, Fault, Damaged, Stopped}
 use Rattle.record_delta.specs.Entries.{Entries, entries_weight, up_to}
 use Rattle.tree_machine.specs.Merges.{Merge}
 use Rattle.tree_machine.specs.Machine.{Machine}
@@ -17,6 +17,7 @@ use Rattle.tree_machine.specs.Steps.{Outcome, Answer, Replied, Stepped, admit, l
 abbrev pub is_bare : Reply → Bool
 is_bare (Is value) = true
 is_bare Absent = true
+is_bare (Kept found) = true
 is_bare NoHold = true
 is_bare (Full charge) = true
 is_bare NoMemory = true
@@ -33,7 +34,8 @@ reply_of _ = Done
 abbrev pub LeavesAll : Machine → ℕ → Op → Stepped → Type 0
 LeavesAll m seat op made = IsTrue (is_bare (reply_of made.answer)) → made.state ≡ note seat op (reply_of made.answer) m
 
--- Commands that are refused, or that only look, leave all but the entry: also a lookup that failed, which stops nothing.
+-- Commands that are refused or kept, or that only look, leave all but the entry: also a lookup that failed, by itself or before a write, which stops
+-- nothing.
 pub record LeaveAll (m : Machine) (seat : ℕ) (outcome : Outcome) : Type 0 where
   pub admit : (op : Op) → LeavesAll m seat op (admit m seat op outcome)
   pub look : (op : Op) → LeavesAll m seat op (look m seat op outcome)

@@ -1,21 +1,63 @@
 -- Which outcomes a step may have, and what a list of steps tells of the disk's faults and pages.
-use Rattle.std.specs.Prelude.{◌≡◌, ◌⊎◌, ⊤, ℕ, ◌+◌, ◌-◌, ◌<◌, ◌≤◌, ◌^◌, ◌==◌, Bool, true, false, not, ◌&&◌, List, [], ◌∷◌, Option, Some, is_some, sum_by, IsTrue, nat_lt}
+use Rattle.std.specs.Prelude.{
+  ◌≡◌,
+  ◌⊎◌,
+  ⊤,
+  ℕ,
+  ◌+◌,
+  ◌-◌,
+  ◌<◌,
+  ◌≤◌,
+  ◌^◌,
+  ◌==◌,
+  Bool,
+  true,
+  false,
+  not,
+  ◌&&◌,
+  ◌||◌,
+  List,
+  [],
+  ◌∷◌,
+  Option,
+  Some,
+  is_some,
+  sum_by,
+  IsTrue,
+  nat_lt,
+}
 use Rattle.std.specs.List.{AllByRecursion}
 use Rattle.blsm_model.specs.declared.op.Op.{Op}
 use Rattle.blsm_model.specs.declared.history.Reply.{Reply}
 use Rattle.blsm_model.specs.declared.history.Reply.TheVariants.{Fault, Damaged}
 use Rattle.blsm_model.specs.declared.history.Why.{Why}
 use Rattle.blsm_model.specs.declared.history.Why.TheVariants as why
-use Rattle.blsm_model.specs.Geometry.{charge_limit}
-use Rattle.blsm_model.specs.Histories.{writes_of}
-use Rattle.blsm_model.specs.Legal.{total_weight, is_del, may_look}
+use Rattle.blsm_model.specs.Histories.{is_met, looks_first}
+use Rattle.blsm_model.specs.Legal.{may_look}
 use Rattle.record_delta.specs.Entries.{entries_weight}
 use Rattle.tree_machine.specs.declared.step.Kind.{Kind}
 use Rattle.tree_machine.specs.declared.step.Kind.TheVariants as kind
 use Rattle.tree_machine.specs.declared.step.Step.{Step}
-use Rattle.tree_machine.specs.Lists.{memory_weight}
-use Rattle.tree_machine.specs.Machine.{Machine, BadPage, owes, charge, held_by, is_closed}
-use Rattle.tree_machine.specs.Steps.{Outcome, Well, FailedAfter, Broken, NoRoom, Choice, DeepQuantum, PassQuantum, Begin, Rest, choice, forgive, swaps_due, one_if}
+use Rattle.tree_machine.specs.Lists.{memory_weight, value_in}
+use Rattle.tree_machine.specs.Machine.{Machine, owes, held_by, is_closed}
+use Rattle.tree_machine.specs.Steps.{
+  Outcome,
+  Well,
+  FailedAfter,
+  FailedLooking,
+  Broken,
+  NoRoom,
+  Choice,
+  DeepQuantum,
+  PassQuantum,
+  Begin,
+  Rest,
+  choice,
+  forgive,
+  is_full,
+  swaps_due,
+  one_if,
+}
 use Rattle.tree_machine.specs.Plays.{may_step, played_one}
 
 -- ---- which outcomes may be
@@ -39,9 +81,10 @@ reads_pages DeepQuantum = true
 reads_pages PassQuantum = true
 reads_pages _ = false
 
--- A step that calls the disk: not one that is refused as full, a payment of nothing, or a next without a hold.
+-- A step that calls the disk: not a write that is refused as full, unless it looks first, a payment of nothing, or a next without
+-- a hold.
 abbrev pub calls : Machine → ℕ → Kind → Bool
-calls m seat (kind.Admit op) = not (nat_lt (charge_limit m.gears.sizes (is_del op)) (charge m + total_weight (writes_of op)))
+calls m seat (kind.Admit op) = looks_first op || not (is_full m op)
 calls m seat kind.Pay = owes seat (forgive seat m)
 calls m seat (kind.Look op) = true
 calls m seat (kind.Next n) = is_some (held_by seat m)
@@ -49,8 +92,20 @@ calls m seat kind.WorkTurn = calls_disk (work_choice m)
 calls m seat kind.WorkerTurn = not (is_closed m) && calls_disk (worker_choice m)
 calls m seat _ = false
 
+-- One that calls it behind the lookup that comes first, if one does: a write doesn't whose condition doesn't hold, or that is
+-- refused as full.
+abbrev pub calls_behind_look : Machine → ℕ → Kind → Bool
+calls_behind_look m seat (kind.Admit op) = is_met op (value_in m.lists) && not (is_full m op)
+calls_behind_look m seat k = calls m seat k
+
+-- a write that looks first
+abbrev pub looks_before : Kind → Bool
+looks_before (kind.Admit op) = looks_first op
+looks_before _ = false
+
 -- a step that reads pages of the components
 abbrev pub reads : Machine → ℕ → Kind → Bool
+reads m seat (kind.Admit op) = looks_first op
 reads m seat kind.Pay = owes seat (forgive seat m)
 reads m seat (kind.Look op) = true
 reads m seat (kind.Next n) = is_some (held_by seat m)
@@ -78,7 +133,9 @@ Rose old new = (old < new) ⊎ ((old ≡ last_count) × (new ≡ last_count))
 -- whether a step may have this outcome, where the disk's count goes from the one to the other
 abbrev pub IsPossible : Machine → ℕ → Kind → Outcome → ℕ → ℕ → Type 0
 IsPossible m seat k Well old new = ⊤
-IsPossible m seat k (FailedAfter commits faults) old new = IsTrue (not (is_some m.stopped) && calls m seat k) × (commits ≤ commits_before m k) × Rose old new × (faults ≡ new)
+IsPossible m seat k (FailedAfter commits faults) old new =
+    IsTrue (not (is_some m.stopped) && calls_behind_look m seat k) × (commits ≤ commits_before m k) × Rose old new × (faults ≡ new)
+IsPossible m seat k (FailedLooking faults) old new = IsTrue (not (is_some m.stopped) && looks_before k) × Rose old new × (faults ≡ new)
 IsPossible m seat k (Broken page) old new = IsTrue (not (is_some m.stopped) && reads m seat k)
 IsPossible m seat k NoRoom old new = IsTrue (not (is_some m.stopped) && takes_memory k)
 

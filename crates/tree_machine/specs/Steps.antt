@@ -5,20 +5,35 @@ use Rattle.std.specs.List.{before_last}
 use Rattle.blsm_model.specs.Format.{callers}
 use Rattle.blsm_model.specs.declared.key.Key.{Key}
 use Rattle.blsm_model.specs.declared.row.Row.{Row}
+use Rattle.blsm_model.specs.declared.row.Value.{Value}
 use Rattle.blsm_model.specs.declared.op.Write.{Write}
 use Rattle.blsm_model.specs.declared.op.Op.{Op}
 use Rattle.blsm_model.specs.declared.op.Op.TheVariants.{Hold, Next, Release, Work}
 use Rattle.blsm_model.specs.declared.history.Why.{Why}
 use Rattle.blsm_model.specs.declared.history.Why.TheVariants as why
 use Rattle.blsm_model.specs.declared.history.Reply.{Reply}
-use Rattle.blsm_model.specs.declared.history.Reply.TheVariants.{Done, Held, Rows, NoHold, Did, Full, NoMemory, FaultLost, FaultUnsure, Fault, Damaged, Stopped}
+use Rattle.blsm_model.specs.declared.history.Reply.TheVariants.{
+  Done,
+  Kept,
+  Held,
+  Rows,
+  NoHold,
+  Did,
+  Full,
+  NoMemory,
+  FaultLost,
+  FaultUnsure,
+  Fault,
+  Damaged,
+  Stopped,
+}
 use Rattle.blsm_model.specs.declared.history.Entry.{Entry}
 use Rattle.blsm_model.specs.Book.{counted_up}
 use Rattle.blsm_model.specs.Geometry.{charge_limit}
-use Rattle.blsm_model.specs.Histories.{is_done, writes_of, answer_to_look, answer_to_release}
+use Rattle.blsm_model.specs.Histories.{is_done, is_met, looked_at, looks_first, writes_of, answer_to_look, answer_to_release}
 use Rattle.blsm_model.specs.Legal.{is_write, total_weight, is_del}
 use Rattle.record_delta.specs.Entries.{entries_weight}
-use Rattle.tree_machine.specs.Lists.{contents_in, memory_weight, rows_in}
+use Rattle.tree_machine.specs.Lists.{contents_in, memory_weight, rows_in, value_in}
 use Rattle.gear_sched.specs.Gears.{forgiven, deep_is_behind, plan_for, first_debt, second_debt}
 use Rattle.gear_sched.specs.declared.Plan.{Plan}
 use Rattle.gear_sched.specs.declared.Plan.TheVariants.{Snow, Deep, Nothing}
@@ -32,6 +47,8 @@ pub data Outcome : Type 0 where
   Well : Outcome
   -- a call of the disk failed, after this many commits of the step; so many faults the disk counts then
   FailedAfter : (commits faults : ℕ) → Outcome
+  -- the lookup failed that a write makes first, before it does anything else; so many faults the disk counts then
+  FailedLooking : (faults : ℕ) → Outcome
   -- the page was found damaged
   Broken : (page : ℕ) → Outcome
   NoRoom : Outcome
@@ -98,14 +115,38 @@ admit_fitting m seat op weight (FailedAfter commits faults) =
     else replied seat op FaultUnsure (stop (why.Faulted faults) (ready_for weight m))
 admit_fitting m seat op weight _ = replied seat op Done (with_peak (taken_once seat (writes_of op) (ready_for weight m)))
 
--- a write is admitted, or refused as full
+-- the write would bring the charge past its limit
+abbrev pub is_full : Machine → Op → Bool
+is_full m op = nat_lt (charge_limit m.gears.sizes (is_del op)) (charge m + total_weight (writes_of op))
+
+-- a write whose condition holds is admitted, or refused as full
+abbrev pub admit_met : Machine → ℕ → Op → Outcome → Stepped
+admit_met m seat op outcome =
+    if is_full m op
+    then replied seat op (Full (charge m)) m
+    else admit_fitting m seat op (total_weight (writes_of op)) outcome
+
+-- What a lookup that comes first tells in place of that: that it failed or met a damaged page, or the value that shows that
+-- the condition doesn't hold.
+abbrev pub told_by_look : Outcome → Bool → Option Value → Option Reply
+told_by_look (FailedLooking faults) met found = Some Fault
+told_by_look (Broken page) met found = Some (Damaged page)
+told_by_look _ met found = if met then None else Some (Kept found)
+
+-- the reply to a write that looks first, where it is refused by what it looked at
+abbrev pub refused_first : Machine → Op → Outcome → Option Reply
+refused_first m op outcome =
+    if looks_first op then told_by_look outcome (is_met op (value_in m.lists)) (looked_at op (value_in m.lists)) else None
+
+-- one that is refused leaves all but the entry
+abbrev pub unless_refused : Option Reply → ℕ → Op → Machine → Stepped → Stepped
+unless_refused (Some reply) seat op m otherwise = replied seat op reply m
+unless_refused None seat op m otherwise = otherwise
+
+-- a write looks first, if it does, and is then admitted or refused for its size
 abbrev pub admit : Machine → ℕ → Op → Outcome → Stepped
 admit m seat op outcome =
-    let weight = total_weight (writes_of op) in
-    unless_stopped m.stopped seat op m
-    (if nat_lt (charge_limit m.gears.sizes (is_del op)) (charge m + weight)
-    then replied seat op (Full (charge m)) m
-    else admit_fitting m seat op weight outcome)
+    unless_stopped m.stopped seat op m (unless_refused (refused_first m op outcome) seat op m (admit_met m seat op outcome))
 
 -- ---- payment
 

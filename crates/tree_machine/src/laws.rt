@@ -46,7 +46,7 @@ pub fn seats_apart()
     ensures { (m : Machine) (step : Step) (outcome : Outcome) → IsTrue (may_step m step) → (other : ℕ) → other ≢ step.seat → held_by other (stepped m step outcome).state ≡ held_by other m }
 {}
 
-/// Refusals and lookups change nothing but the history, a lookup that failed too.
+/// Refusals, writes that are kept and lookups change nothing but the history, a lookup that failed too, also one that comes before a write.
 pub fn steps_change_little()
     ensures { (m : Machine) (seat : ℕ) (outcome : Outcome) → LeaveAll m seat outcome }
 {}

@@ -1,7 +1,7 @@
 -- The walks over three components, one behind the other.
 use Rattle.std.proofs.lemmas.Bool.Decides.{nat_tests}
 use Rattle.std.proofs.lemmas.Grind.{common_steps}
-use Rattle.std.proofs.Common.{◌≡◌, ◌⊎◌, ◌≢◌, ◌↔◌, ℕ, List, [], ◌++◌, refl, sym, subst, ◌∙◌, arith, ⊎_elim, Bool, true, false, Result, Err}
+use Rattle.std.proofs.Common.{◌≡◌, ◌⊎◌, ◌≢◌, ◌↔◌, ℕ, List, [], ◌++◌, refl, sym, subst, ◌∙◌, arith, Bool, true, false, Result, Err}
 use mathlib.Core.Path.{subst₂}
 use Rattle.std.specs.List.{Contains}
 use Rattle.blsm_model.specs.declared.component.Component.{Component}

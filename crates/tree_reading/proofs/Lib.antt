@@ -4,6 +4,7 @@ mod CallsLemmas
 mod PagesLemmas
 mod DamageLemmas
 mod WalkLemmas
+mod NoteLemmas
 mod AgainLemmas
 mod MapLemmas
 mod ComponentsLemmas

@@ -4,7 +4,6 @@ use Rattle.std.proofs.lemmas.Grind.{common_steps}
 use Rattle.std.proofs.lemmas.Bool.Decides.{nat_tests}
 use Rattle.std.specs.Prelude.{replicate, slice_index_or}
 use Rattle.std.specs.List.{IsDistinct}
-use Rattle.std.proofs.lemmas.Bool.{false≢true}
 use Rattle.page_space.specs.PageSet.{Members, IsIn, none_of}
 use Rattle.page_space.specs.Space.{HasRole, IsFree, IsPinnedBy, KeepsOtherRoles, SpaceState, pages_with, role_count, seat_count, unused}
 use Rattle.tree_reading.specs.Walk.{ChangesOnly, TakesUp}

@@ -1,7 +1,7 @@
 -- What was found of a store is a tree that fits.
 use Rattle.std.proofs.lemmas.Bool.Decides.{nat_tests}
 use Rattle.std.proofs.lemmas.Grind.{common_steps}
-use Rattle.std.proofs.Common.{◌≡◌, ℕ, ◌+◌, ◌-◌, ◌≤◌, List, Bool, IsTrue, take, refl, subst, arith, Result, IfOk}
+use Rattle.std.proofs.Common.{◌≡◌, ◌∙◌, ℕ, ◌+◌, ◌-◌, ◌≤◌, List, Bool, IsTrue, length, take, refl, subst, arith, Result, Ok, Err, IfOk}
 use Rattle.std.specs.Prelude.{min}
 use Rattle.disk_trait.specs.Disk.{DiskState}
 use Rattle.disk_trait.proofs.ReadLemmas.{only_reads_wider}
@@ -9,10 +9,15 @@ use Rattle.blsm_model.specs.Sizes.{Sizes}
 use Rattle.blsm_model.specs.Geometry.{capacity, high_mark}
 use Rattle.record_delta.specs.Entries.{Entries, entries_weight, replayed}
 use Rattle.catalog_swap.specs.declared.catalog.Catalog.{Catalog}
+use Rattle.tree_file.specs.Tree.{Tree}
+use Rattle.tree_runs.specs.Noting.{AreRooms}
+use Rattle.tree_runs.specs.Runs.{AreGuides, GuideState}
 use Rattle.tree_reading.specs.declared.found.Found.{Found}
 use Rattle.tree_reading.specs.declared.lane.LaneEnd.{LaneEnd}
+use Rattle.tree_reading.specs.declared.lanes.Ends.{Ends}
+use Rattle.tree_reading.specs.declared.found.Unreadable.{Unreadable}
 use Rattle.tree_reading.specs.Damage.{HasCatalogue, catalogue_weight}
-use Rattle.tree_reading.specs.Reading.{AreReplayed, AreTagged, HasLooked, HoldsFound, IsFound, at_superblock, within}
+use Rattle.tree_reading.specs.Reading.{AreReplayed, AreTagged, GuidesTree, HasLooked, HoldsFound, IsFound, at_superblock, calls_of_reading, within}
 use Rattle.tree_reading.proofs.LanesLemmas.{within_room}
 
 -- what holds at all is so of each value of Ok
@@ -28,8 +33,8 @@ min_below n a b below = grind (arith, below)
 
 -- on an honest disk it is a tree that fits
 pub fits_found : (found : Found) (honest : Bool) (file : List ℕ) → IsTrue honest → IsFound found honest file → HasCatalogue found.geometry found.catalogue file
-    → AreTagged found.geometry found.catalogue found.space file → HoldsFound found file
-fits_found found honest file sure is has tagged =
+    → AreTagged found.geometry found.catalogue found.space file → GuidesTree found.geometry found.catalogue found.guides file → HoldsFound found file
+fits_found found honest file sure is has tagged guided =
     let r = is.replayed in
     let high = high_mark found.geometry in
     let left = capacity found.geometry - catalogue_weight found.catalogue in
@@ -39,8 +44,10 @@ fits_found found honest file sure is has tagged =
     let below_a : (n : ℕ) → (entries_weight (replayed (take n r.lane_a)) ≤ high) × (entries_weight (replayed (take n r.lane_a)) ≤ left) = λ n. min_below _ high left (r.a_is.within n) in
     let below_b : (n : ℕ) → (entries_weight (replayed r.lane_a) + entries_weight (replayed (take n r.lane_b)) ≤ high) × (entries_weight (replayed r.lane_a) + entries_weight (replayed (take n r.lane_b)) ≤ left) =
     λ n. min_below _ high left (together (min high left) _ _ light (r.b_is.within n)) in
+    let tree : Tree = record { catalogue = found.catalogue; c1 = tagged.c1; c1x = tagged.c1x; c2 = tagged.c2; lane_a = r.lane_a; lane_b = r.lane_b }
+    in
     record {
-      tree = record { catalogue = found.catalogue; c1 = tagged.c1; c1x = tagged.c1x; c2 = tagged.c2; lane_a = r.lane_a; lane_b = r.lane_b };
+      tree = tree;
       holds = record {
         store = has.store;
         newest = has.newest;
@@ -72,6 +79,7 @@ fits_found found honest file sure is has tagged =
       end_b = r.b_is.place_is;
       records_a = r.a_is.records_is;
       records_b = r.b_is.records_is;
+      guided = λ are. guided are tree parts.c1_reads parts.c1x_reads parts.c2_reads;
     }
   where
     together : (room a b : ℕ) → a ≤ room → b ≤ room - a → a + b ≤ room
@@ -87,3 +95,20 @@ replayed_at sizes catalogue a b end_a end_b at_a at_b honest file h1 h2 h3 = gri
 pub replayed_in : (sizes : Sizes) (catalogue : Catalog) (a b : Entries) (end_a end_b : LaneEnd) (honest was : Bool) (bytes file : List ℕ) → AreReplayed sizes catalogue a b end_a end_b honest bytes
     → (IsTrue was → IsTrue honest) → (IsTrue was → bytes ≡ file) → AreReplayed sizes catalogue a b end_a end_b was file
 replayed_in sizes catalogue a b end_a end_b honest was bytes file h1 h2 h3 = grind (arith, common_steps, nat_tests)
+
+-- all pairs that were reserved are there still
+pub guides_still : (sizes : Sizes) (old new : List GuideState) → AreGuides sizes old → length new ≡ length old → AreRooms sizes new → AreGuides sizes
+    new
+guides_still sizes old new are many rooms = record {
+  five = many ∙ are.five;
+  each = λ tag below. rooms.each tag
+      (omega (arith, below, many, are.five));
+}
+
+-- the calls of the lanes behind those of the pages
+pub calls_on : (r : Result Ends Unreadable) (catalogue : Catalog) (old mid new : ℕ) → mid ≤ old +
+    (catalogue.c1.pages + catalogue.c1x.pages + catalogue.c2.pages)
+    → IfOk r (λ ends. new ≤ mid + ((ends.a.records + 1) + (ends.b.records + 1))) → IfOk r
+    (λ ends. new + 4 ≤ old + calls_of_reading catalogue ends.a.records ends.b.records)
+calls_on (Ok ends) catalogue old mid new few more = omega (arith, few, more)
+calls_on (Err why) catalogue old mid new few more = tt

@@ -2,7 +2,7 @@
 use Rattle.std.proofs.Common.{◌≡◌, ◌⊎◌, ◌≢◌, ◌↔◌, ℕ, ◌+◌, ◌-◌, ◌*◌, ◌<◌, ◌≤◌, List, [], ◌∷◌, ◌++◌, length, refl, ap, sym, subst, ◌∙◌, arith, inl, inr, ⊎_elim, Bool, true, false, Option, Some, None, Err, append-nil, append_assoc, length-append}
 use Rattle.std.proofs.lemmas.Grind.{common_steps}
 use Rattle.std.proofs.lemmas.Bool.Decides.{nat_tests}
-use Rattle.std.specs.Prelude.{nat_eq, IsSome, IfSome, IfNone, ◌||◌}
+use Rattle.std.specs.Prelude.{nat_eq, IsSome, IfSome, IfNone}
 use Rattle.std.specs.List.{Contains, IsDistinct, last_or, list_any}
 use Rattle.std.specs.List.Sorted.{IsStrictlySortedBy}
 use Rattle.std.proofs.lemmas.Map.Keys.{IsDistinct-push}
@@ -103,7 +103,7 @@ pub record HasWalked (sizes : Sizes) (run : Component) (only : Bool) (earlier : 
 pub taken_start : (earlier : List ℕ) (role page : ℕ) (space : SpaceState) → TakesUp earlier space → ArePagesTaken earlier role space [] page space
 taken_start earlier role page space h1 = grind (arith, common_steps, nat_tests)
 
-last_push : (o : Option RunPage) (ps : List RunPage) (p : RunPage) → last_or o (ps ++ p ∷ []) ≡ Some p
+pub last_push : (o : Option RunPage) (ps : List RunPage) (p : RunPage) → last_or o (ps ++ p ∷ []) ≡ Some p
 last_push o [] p = refl
 last_push o (q ∷ ps) p = last_push (Some q) ps p
 
@@ -128,7 +128,7 @@ taken_turned earlier role page n old space now ps qs p was parts number free cla
     numbers : numbers_of qs ≡ numbers_of ps ++ n ∷ []
     numbers = ap numbers_of parts ∙ numbers_push ps p ∙ ap (λ k. numbers_of ps ++ k ∷ []) number
 
-still : (behind : List ℕ) (old new : ℕ) → (behind ≡ [] → old ≡ 0) → (behind ≢ [] → new ≡ old) → new ≤ old → new ≡ old
+pub still : (behind : List ℕ) (old new : ℕ) → (behind ≡ [] → old ≡ 0) → (behind ≢ [] → new ≡ old) → new ≤ old → new ≡ old
 still behind old new h1 h2 h3 = grind (arith, common_steps, nat_tests)
 
 -- one advance of the cursor, after its next page was entered

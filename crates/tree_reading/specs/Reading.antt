@@ -10,7 +10,7 @@ use Rattle.blsm_model.specs.Lanes.{a_of, b_of}
 use Rattle.record_delta.specs.Entries.{Entries, replayed}
 use Rattle.page_file.specs.declared.file.Broken.{Broken}
 use Rattle.page_file.specs.declared.file.Broken.TheVariants as broken
-use Rattle.page_file.specs.Component.{RunPage, numbers_of}
+use Rattle.page_file.specs.Component.{RunPage, ReadsAs, numbers_of}
 use Rattle.page_space.specs.Space.{HasRole, SpaceState}
 use Rattle.gated_log.specs.Lane.{HasEntries, blocks}
 use Rattle.gated_log.specs.Lanes.{end_of}
@@ -18,7 +18,8 @@ use Rattle.catalog_swap.specs.declared.catalog.Catalog.{Catalog}
 use Rattle.catalog_swap.specs.Text.{IsCatalog}
 use Rattle.store_file.specs.Layout.{IsStore, superblock_length}
 use Rattle.tree_file.specs.Tree.{Tree, HoldsTree, FitsSizes}
-use Rattle.tree_runs.specs.Runs.{AreRead}
+use Rattle.tree_runs.specs.Holding.{AreGuided}
+use Rattle.tree_runs.specs.Runs.{AreGuides, AreRead, GuideState, first_tags}
 use Rattle.tree_reading.specs.declared.found.Found.{Found}
 use Rattle.tree_reading.specs.declared.found.Unreadable.{Unreadable}
 use Rattle.tree_reading.specs.declared.found.Unreadable.TheVariants.{NotAStore, Damaged, Worn, Fault, NoMemory}
@@ -59,6 +60,13 @@ pub record AreTagged (sizes : Sizes) (catalogue : Catalog) (space : SpaceState) 
   pub c1_tag : (k : ℕ) → HasRole space 0 k ↔ Contains (numbers_of c1) k
   pub c1x_tag : (k : ℕ) → HasRole space 1 k ↔ Contains (numbers_of c1x) k
   pub c2_tag : (k : ℕ) → HasRole space 2 k ↔ Contains (numbers_of c2) k
+
+-- Filters and fences, where there are those of five tags: those of 0, 1 and 2 are of the pages as which the components read.
+abbrev pub GuidesTree : Sizes → Catalog → List GuideState → List ℕ → Type 0
+GuidesTree sizes catalogue guides file =
+    AreGuides sizes guides → (tree : Tree) → ReadsAs sizes catalogue.c1 tree.c1 file → ReadsAs sizes catalogue.c1x tree.c1x file → ReadsAs sizes
+    catalogue.c2 tree.c2 file
+    → AreGuided guides first_tags tree
 
 -- What an answer says of the components: they read, or this is the first page at which they don't. After a fault nobody knows.
 abbrev pub TellsComponents : Sizes → Catalog → SpaceState → List ℕ → Result (Unit {0}) Broken → Type 0
@@ -102,6 +110,7 @@ pub record HoldsFound (found : Found) (file : List ℕ) : Type 0 where
   pub end_b : end_of found.lanes (b_of found.catalogue.lanes) ≡ length (blocks tree.lane_b)
   pub records_a : found.records_a ≡ length tree.lane_a
   pub records_b : found.records_b ≡ length tree.lane_b
+  pub guided : AreGuides found.geometry found.guides → AreGuided found.guides first_tags tree
 
 -- how many calls a reading takes at most: those of its head, one for each page, and those of two lanes
 abbrev pub head_calls : Sizes → ℕ
@@ -109,6 +118,11 @@ head_calls sizes = 4
 
 abbrev pub reading_calls : Sizes → ℕ
 reading_calls sizes = 4 + 6 * page_count sizes + 2 * lane_calls sizes
+
+-- and how many one takes that finds this catalogue and so many records in its lanes: one for each page of a component, for each record, and for
+-- the closed gate behind those of a lane
+abbrev pub calls_of_reading : Catalog → ℕ → ℕ → ℕ
+calls_of_reading catalogue a b = 4 + (catalogue.c1.pages + catalogue.c1x.pages + catalogue.c2.pages) + ((a + 1) + (b + 1))
 
 -- A reading that gave up has only read: the superblock and the length, or within the file of the sizes that these say, with so many calls.
 pub data HasLooked (most : Sizes → ℕ) (old new : DiskState) : Type 0 where

@@ -1,5 +1,5 @@
 -- What a walk over a component's pages does to the free-page map, and what it tells.
-use Rattle.std.specs.Prelude.{◌≡◌, ◌↔◌, ◌⊎◌, ℕ, ◌+◌, ◌<◌, ◌≤◌, Bool, List, [], ◌++◌, length, nat_eq, Option, Result, Ok, Err, ⊤}
+use Rattle.std.specs.Prelude.{◌≡◌, ◌↔◌, ◌⊎◌, ℕ, ◌+◌, ◌-◌, ◌<◌, ◌≤◌, Bool, List, [], ◌++◌, length, nat_eq, Option, Some, None, Result, Ok, Err, ⊤}
 use Rattle.std.specs.List.{Contains, IsDistinct}
 use Rattle.blsm_model.specs.declared.component.Component.{Component}
 use Rattle.blsm_model.specs.Sizes.{Sizes}
@@ -8,7 +8,11 @@ use Rattle.page_file.specs.declared.file.Broken.{Broken}
 use Rattle.page_file.specs.declared.file.Broken.TheVariants.{Fault, Damaged}
 use Rattle.page_file.specs.Component.{RunPage, ReadsAs, entries_of, numbers_of}
 use Rattle.page_space.specs.Space.{Claims, HasRole, IsFree, KeepsOtherRoles, SpaceState}
+use Rattle.bloom_bits.specs.Filter.{HasKeys}
+use Rattle.bloom_bits.specs.Guides.{Guide}
 use Rattle.run_cursor.specs.Cursor.{CursorState}
+use Rattle.tree_runs.specs.declared.guides.PageStart.{PageStart}
+use Rattle.tree_runs.specs.Runs.{GuideState, guide_at}
 use Rattle.tree_reading.specs.Pages.{AreAllowed, BeginsWith, GoesOnBehind, IsDamagedPage}
 
 -- none of these pages is free, each other page is, and they are apart
@@ -74,3 +78,27 @@ TellsBroken sizes run bases_only earlier file Fault = ⊤
 abbrev pub TellsPages : Sizes → Component → Bool → List ℕ → ℕ → SpaceState → SpaceState → List ℕ → Result (Unit {0}) Broken → Type 0
 TellsPages sizes run bases_only earlier role old new file (Ok done) = IsWalked sizes run bases_only earlier role old new file
 TellsPages sizes run bases_only earlier role old new file (Err broken) = TellsBroken sizes run bases_only earlier file broken
+
+-- ---- filters and fences
+
+-- Where the page begins that a cursor over a component reads next, behind the entries that it has given; or it reads none.
+abbrev pub StartsAt : Component → CursorState → Option PageStart → Type 0
+StartsAt run cursor None = cursor.behind ≡ [] → cursor.pages ≡ 0
+StartsAt run cursor (Some start) =
+    (cursor.behind ≡ []) × (0 < cursor.pages) × (start ≡ record {
+      page = cursor.next;
+      entries = run.entries - cursor.entries;
+      weight = run.weight -
+          cursor.weight;
+    })
+
+-- The filter and the fences of this tag have nothing, and there is room for as many fences as the component has pages.
+pub record IsClear (run : Component) (tag : ℕ) (guides : List GuideState) : Type 0 where
+  pub below : tag < length guides
+  pub none : HasKeys (guide_at guides tag).filter []
+  pub no_fences : (guide_at guides tag).fences.list ≡ []
+  pub room : run.pages ≤ (guide_at guides tag).fences.reserved
+
+-- they are those of these pages
+abbrev pub IsGuideAt : ℕ → List GuideState → List RunPage → Type 0
+IsGuideAt tag guides pages = Guide (guide_at guides tag).filter (guide_at guides tag).fences pages

@@ -6,6 +6,7 @@ use gated_log::Lanes;
 use mem_table::Table;
 use page_space::Space;
 use thiserror::Error;
+use tree_runs::GuideRoom;
 
 /// A part of a store's file.
 #[derive(Clone, Copy, PartialEq, Eq, Debug)]
@@ -53,4 +54,6 @@ pub struct Found {
     /// How many records the lanes have.
     pub records_a: u64,
     pub records_b: u64,
+    /// The filters and the fences of C1, C1' and C2, which have the tags 0, 1 and 2, or none.
+    pub guides: GuideRoom,
 }

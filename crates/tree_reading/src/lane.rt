@@ -1,5 +1,5 @@
 //! A lane of the log, replayed to its table.
-ghost use Rattle.std.specs.Prelude.{◌≡◌, ◌≤◌, ◌<◌, ◌+◌, [], Err, length, IsTrue, OnOk, OnErr};
+ghost use Rattle.std.specs.Prelude.{◌≡◌, ◌≤◌, ◌<◌, ◌+◌, [], Err, length, IsTrue, IfOk, OnOk, OnErr};
 ghost use Rattle.disk_trait.specs.Disk.{TellsFaultsBy};
 ghost use Rattle.disk_trait.specs.Reads.{OnlyReads};
 ghost use Rattle.blsm_model.specs.Format.{most_weight};
@@ -63,6 +63,7 @@ pub(crate) fn replay_lane<D: Disk>(
     ensures reserved { table.new.reserved ≡ table.old.reserved }
     ensures faults { TellsFaultsBy (Err LaneBroken.Fault) result (D.state disk.old) (D.state disk.new) }
     ensures effect { OnlyReads (file_length geo.now) (lane_calls geo.now) (D.state disk.old) (D.state disk.new) }
+    ensures calls { IfOk result (λ end. (D.state disk.new).clock ≤ (D.state disk.old).clock + (end.records + 1)) }
 {
     // No region is so long that its entries couldn't be counted.
     let _half = geo.half();

@@ -59,6 +59,7 @@ fn replay_both<D: Disk>(
     ensures faults { TellsFaultsBy (Err LaneBroken.Fault) result (D.state disk.old) (D.state disk.new) }
     ensures effect { OnlyReads (file_length head.now.geometry) (lane_calls head.now.geometry + lane_calls head.now.geometry)
         (D.state disk.old) (D.state disk.new) }
+    ensures calls { IfOk result (λ ends. (D.state disk.new).clock ≤ (D.state disk.old).clock + ((ends.a.records + 1) + (ends.b.records + 1))) }
 {
     let room = room_for(head);
     let lanes = &head.catalogue.lanes;
@@ -90,6 +91,7 @@ pub(crate) fn read_lanes<D: Disk>(
     ensures reserved_b { b.new.reserved ≡ b.old.reserved }
     ensures faults { TellsFaultsBy (Err Unreadable.Fault) result (D.state disk.old) (D.state disk.new) }
     ensures effect { OnlyReads (file_length head.now.geometry) (2 * lane_calls head.now.geometry) (D.state disk.old) (D.state disk.new) }
+    ensures calls { IfOk result (λ ends. (D.state disk.new).clock ≤ (D.state disk.old).clock + ((ends.a.records + 1) + (ends.b.records + 1))) }
 {
     match replay_both(disk, head, a, b) {
         Ok(ends) => Ok(ends),

@@ -17,5 +17,5 @@ mod report;
 pub use first::{a_map_is_read, one_reason};
 pub use found::{Found, Place, Unreadable};
 pub use laws::{a_damage_is_no_tree, what_is_found_is_a_tree};
-pub use reading::read_tree;
+pub use reading::{Purpose, read_tree};
 pub use report::{Report, check_store};

@@ -7,10 +7,12 @@ ghost use Rattle.blsm_model.specs.Geometry.{file_length, high_mark, page_count};
 ghost use Rattle.blsm_model.specs.Lanes.{a_of, b_of, region_length};
 ghost use Rattle.page_space.specs.Space.{IsSpace, unused};
 ghost use Rattle.gated_log.specs.Lanes.{end_of};
-ghost use Rattle.tree_runs.specs.Runs.{AreRead};
+ghost use Rattle.tree_runs.specs.Noting.{AreRooms};
+ghost use Rattle.tree_runs.specs.Runs.{AreGuides, AreRead};
 ghost use Rattle.tree_reading.specs.Damage.{HasCatalogue};
 ghost use Rattle.tree_reading.specs.Lane.{lane_calls};
-ghost use Rattle.tree_reading.specs.Reading.{AreReplayed, AreTagged, HasLooked, HoldsFound, IsFound, IsHead, IsWhy, reading_calls};
+ghost use Rattle.tree_reading.specs.Reading.{AreReplayed, AreTagged, GuidesTree, HasLooked, HoldsFound, IsFound, IsHead, IsWhy};
+ghost use Rattle.tree_reading.specs.Reading.{calls_of_reading, reading_calls};
 
 use crate::components::read_components;
 use crate::found::{Found, Unreadable};
@@ -23,6 +25,16 @@ use mem_table::Table;
 use page_space::Space;
 use refusal::NoMemory;
 use std::alloc::Global;
+use tree_runs::GuideRoom;
+
+/// What a store is read for.
+#[derive(Clone, Copy, PartialEq, Eq, Debug)]
+pub enum Purpose {
+    /// To open it, with filters and fences.
+    Opening,
+    /// To check it, with none.
+    Check,
+}
 
 /// The memory that a reading fills.
 #[derive(Drop)]
@@ -33,20 +45,40 @@ pub struct Room {
     pub a: Table,
     /// Table B.
     pub b: Table,
+    /// Filters and fences, if it is to be opened.
+    pub guides: GuideRoom,
+}
+
+// Filters and fences for a store of this geometry that is to be opened, or none.
+fn reserve_guides(
+    alloc: Global,
+    geometry: &Geometry,
+    purpose: Purpose,
+) -> Result<GuideRoom, NoMemory>
+    ensures rooms { IfOk result (AreRooms geometry.now) }
+    ensures guides { purpose ≡ Purpose.Opening → IfOk result (AreGuides geometry.now) }
+{
+    match purpose {
+        Purpose::Opening => GuideRoom::reserve(alloc, geometry),
+        Purpose::Check => Ok(GuideRoom::none(alloc)),
+    }
 }
 
 // Memory for what a store of this geometry has, with nothing in it. The record that passes the high mark is folded in before it is seen to.
-fn reserve(alloc: Global, geometry: &Geometry) -> Result<Room, NoMemory>
+fn reserve(alloc: Global, geometry: &Geometry, purpose: Purpose) -> Result<Room, NoMemory>
     ensures space { IfOk result (λ room. room.space ≡ unused (page_count geometry.now)) }
     ensures shape { IfOk result (λ room. IsSpace room.space) }
     ensures a { IfOk result (λ room. room.a ≡ record { entries = []; reserved = high_mark geometry.now + most_weight; arrived = [] }) }
     ensures b { IfOk result (λ room. room.b ≡ record { entries = []; reserved = high_mark geometry.now + most_weight; arrived = [] }) }
+    ensures rooms { IfOk result (λ room. AreRooms geometry.now room.guides) }
+    ensures guides { purpose ≡ Purpose.Opening → IfOk result (λ room. AreGuides geometry.now room.guides) }
 {
     let most = geometry.high_mark() + Op::MAX_WEIGHT;
     Ok(Room {
         space: Space::reserve(alloc, geometry.pages() as u32)?,
         a: Table::reserve(alloc, most)?,
         b: Table::reserve(alloc, most)?,
+        guides: reserve_guides(alloc, geometry, purpose)?,
     })
 }
 
@@ -55,6 +87,7 @@ fn read_parts<D: Disk>(disk: &mut D, head: &Head, room: &mut Room) -> Result<End
     requires right { IsHead head.now.geometry head.now.catalogue }
     requires unused { room.old.space ≡ unused (page_count head.now.geometry) }
     requires shape { IsSpace room.old.space }
+    requires rooms { AreRooms head.now.geometry room.old.guides }
     requires empty_a { room.old.a ≡ record { entries = []; reserved = high_mark head.now.geometry + most_weight; arrived = [] } }
     requires empty_b { room.old.b ≡ record { entries = []; reserved = high_mark head.now.geometry + most_weight; arrived = [] } }
     requires length { IsTrue (D.state disk.old).tells_bytes → length (D.state disk.old).bytes ≡ file_length head.now.geometry }
@@ -64,13 +97,19 @@ fn read_parts<D: Disk>(disk: &mut D, head: &Head, room: &mut Room) -> Result<End
     ensures replayed { IfOk result (λ ends. AreReplayed head.now.geometry head.now.catalogue room.new.a.entries room.new.b.entries ends.a ends.b
         (D.state disk.old).is_honest (D.state disk.old).bytes) }
     ensures reserved { IfOk result (λ ends. (room.new.a.reserved ≡ room.old.a.reserved) × (room.new.b.reserved ≡ room.old.b.reserved)) }
+    ensures guides { length room.new.guides ≡ length room.old.guides }
+    ensures rooms { AreRooms head.now.geometry room.new.guides }
+    ensures guided { IsTrue (D.state disk.old).is_honest
+        → IfOk result (λ ends. GuidesTree head.now.geometry head.now.catalogue room.new.guides (D.state disk.old).bytes) }
+    ensures calls { IfOk result (λ ends. (D.state disk.new).clock + 4
+        ≤ (D.state disk.old).clock + calls_of_reading head.now.catalogue ends.a.records ends.b.records) }
     ensures refused { IsTrue (D.state disk.old).is_honest → HasCatalogue head.now.geometry head.now.catalogue (D.state disk.old).bytes
         → IfErr result (λ why. IsWhy why (D.state disk.old).bytes) }
     ensures faults { TellsFaultsBy (Err Unreadable.Fault) result (D.state disk.old) (D.state disk.new) }
     ensures effect { OnlyReads (file_length head.now.geometry) (6 * page_count head.now.geometry + 2 * lane_calls head.now.geometry)
         (D.state disk.old) (D.state disk.new) }
 {
-    read_components(disk, head, &mut room.space)?;
+    read_components(disk, head, &mut room.space, &mut room.guides)?;
     read_lanes(disk, head, &mut room.a, &mut room.b)
 }
 
@@ -92,11 +131,15 @@ fn lanes_of(head: &Head, a: u64, b: u64) -> Lanes
 }
 
 /// Reads the store on a disk: superblock and length, slots, version, pages of C1, C1' and C2, lane A, lane B, in this order. It writes
-/// nothing and calls no sync.
+/// nothing and calls no sync. To open the store it fills filters and fences of C1, C1' and C2 as it reads their pages.
 ///
 /// `NotAStore`, `Damaged` and `Worn` come exactly where the file is no store, isn't of the written form, or has a version above 2^62;
 /// `Damaged` names the first such place. `Fault` comes only where the disk's count of faults rose.
-pub fn read_tree<D: Disk>(alloc: Global, disk: &mut D) -> Result<Found, Unreadable>
+pub fn read_tree<D: Disk>(
+    alloc: Global,
+    disk: &mut D,
+    purpose: Purpose,
+) -> Result<Found, Unreadable>
     ensures found { IfOk result (λ found. IsFound found (D.state disk.old).is_honest (D.state disk.old).bytes) }
     ensures holds { IsTrue (D.state disk.old).is_honest → IfOk result (λ found. HoldsFound found (D.state disk.old).bytes) }
     ensures refused { IsTrue (D.state disk.old).is_honest → IfErr result (λ why. IsWhy why (D.state disk.old).bytes) }
@@ -104,9 +147,12 @@ pub fn read_tree<D: Disk>(alloc: Global, disk: &mut D) -> Result<Found, Unreadab
     ensures faults { TellsFaultsBy (Err Unreadable.Fault) result (D.state disk.old) (D.state disk.new) }
     ensures effect { IfOk result (λ found. OnlyReads (file_length found.geometry) (reading_calls found.geometry) (D.state disk.old) (D.state disk.new)) }
     ensures looked { IsErr result → HasLooked reading_calls (D.state disk.old) (D.state disk.new) }
+    ensures guides { purpose ≡ Purpose.Opening → IfOk result (λ found. AreGuides found.geometry found.guides) }
+    ensures calls { IfOk result (λ found. (D.state disk.new).clock
+        ≤ (D.state disk.old).clock + calls_of_reading found.catalogue found.records_a found.records_b) }
 {
     let head = read_head(disk)?;
-    let Ok(mut room) = reserve(alloc, &head.geometry) else {
+    let Ok(mut room) = reserve(alloc, &head.geometry, purpose) else {
         return Err(Unreadable::NoMemory);
     };
     let ends = read_parts(disk, &head, &mut room)?;
@@ -120,5 +166,6 @@ pub fn read_tree<D: Disk>(alloc: Global, disk: &mut D) -> Result<Found, Unreadab
         lanes,
         records_a: ends.a.records,
         records_b: ends.b.records,
+        guides: room.guides,
     })
 }

@@ -5,7 +5,7 @@ ghost use Rattle.tree_reading.specs.Reading.{HasLooked, IsWhy, reading_calls};
 ghost use Rattle.tree_reading.specs.Report.{IsReportOf};
 
 use crate::found::Unreadable;
-use crate::reading::read_tree;
+use crate::reading::{Purpose, read_tree};
 use blsm_model::Component;
 use disk_trait::Disk;
 use std::alloc::Global;
@@ -24,14 +24,14 @@ pub struct Report {
     pub lane_b: u64,
 }
 
-/// Reads the store on a disk and tells its numbers. It refuses as `read_tree` does, and writes nothing and calls no sync.
+/// Reads the store on a disk and tells its numbers, with no filters and fences. It refuses as `read_tree` does, and writes nothing and calls no sync.
 pub fn check_store<D: Disk>(alloc: Global, disk: &mut D) -> Result<Report, Unreadable>
     ensures tells { IsTrue (D.state disk.old).is_honest → IfOk result (λ report. IsReportOf report (D.state disk.old).bytes) }
     ensures refused { IsTrue (D.state disk.old).is_honest → IfErr result (λ why. IsWhy why (D.state disk.old).bytes) }
     ensures faults { TellsFaultsBy (Err Unreadable.Fault) result (D.state disk.old) (D.state disk.new) }
     ensures looked { HasLooked reading_calls (D.state disk.old) (D.state disk.new) }
 {
-    let found = read_tree(alloc, disk)?;
+    let found = read_tree(alloc, disk, Purpose::Check)?;
     Ok(Report {
         version: found.catalogue.version,
         c1: found.catalogue.c1,

@@ -12,9 +12,9 @@ use Rattle.blsm_model.specs.declared.key.Key.{Key}
 use Rattle.blsm_model.specs.Sizes.{Sizes}
 use Rattle.bloom_bits.specs.BitSet.{BitState}
 use Rattle.bloom_bits.specs.Fences.{FencesState}
-use Rattle.record_delta.specs.Entries.{Entries, folded_over, up_to}
+use Rattle.record_delta.specs.Entries.{Entries}
 use Rattle.page_space.specs.Space.{SpaceState, HasRole}
-use Rattle.page_file.specs.Component.{RunPage, numbers_of, entries_of}
+use Rattle.page_file.specs.Component.{RunPage, numbers_of}
 use Rattle.page_file.specs.File.{page_start, AreSamePages}
 use Rattle.run_cursor.specs.Cursor.{CursorState}
 use Rattle.run_cursor.proofs.AheadLemmas.{ahead_kept}

@@ -4,3 +4,4 @@ pub mod Laws
 pub mod Swaps
 pub mod Lookups
 pub mod Damage
+pub mod Noting

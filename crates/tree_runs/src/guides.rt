@@ -1,31 +1,36 @@
 //! Filters and fences, one pair for the pages of each tag. A run's pair is filled while it is written, and stays under its tag: a swap
 //! exchanges tags, and no pair.
-ghost use Rattle.std.specs.Prelude.{◌≡◌, ◌≢◌, ◌+◌, ◌≤◌, ℕ, Bool, List, Some, Ok, Err, length, replicate, IsTrue, IfOk};
+ghost use Rattle.std.specs.Prelude.{◌≡◌, ◌<◌, ◌≤◌, [], ℕ, Bool, List, Some, length, replicate, IfOk};
 ghost use Rattle.blsm_model.specs.Components.{empty_component};
-ghost use Rattle.blsm_model.specs.Geometry.{capacity, file_length};
+ghost use Rattle.blsm_model.specs.Geometry.{capacity};
 ghost use Rattle.blsm_model.specs.Sizes.{Sizes};
+ghost use Rattle.bloom_bits.specs.Filter.{rounded, HasKeys};
 ghost use Rattle.record_delta.specs.Entries.{Entries};
 ghost use Rattle.page_space.specs.Space.{SpaceState, role_count};
 ghost use Rattle.page_file.specs.Component.{RunPage, ReadsAs};
-ghost use Rattle.page_file.specs.File.{Reads};
 ghost use Rattle.snow_merge.specs.Pass.{started};
 ghost use Rattle.deep_merge.specs.Merge.{started as deep_started};
-ghost use Rattle.tree_file.specs.Tree.{Tree, HoldsTree};
-ghost use Rattle.tree_runs.specs.Runs.{AreGuides, IsFilled, PassRuns, DeepRuns, first_tags, fresh_guide, deep_bits, emptied, guide_at, pass_bits};
-ghost use Rattle.tree_runs.specs.Holding.{AreElsewhere, AreGuided, IsDeepOver, IsGuidedBy, IsPassOver, KeepsOtherGuides};
+ghost use Rattle.tree_runs.specs.Runs.{AreGuides, PassRuns, DeepRuns, fresh_guide, deep_bits, empty_guide, emptied, guide_at, pass_bits};
+ghost use Rattle.tree_runs.specs.Holding.{AreElsewhere, IsDeepOver, IsPassOver, KeepsOtherGuides};
+ghost use Rattle.tree_runs.specs.Noting.{AreRooms, KeepsRooms, Notes};
 
-use bloom_bits::{Fences, Filter};
-use blsm_model::{Component, Geometry};
-use catalog_swap::Catalog;
+use bloom_bits::{Fence, Fences, Filter};
+use blsm_model::{Component, Geometry, Key};
 use deep_merge::Deep;
-use disk_trait::Disk;
-use page_file::{Broken, LEAST_FULL};
+use page_file::LEAST_FULL;
 use page_space::Role;
 use refusal::NoMemory;
-use run_cursor::rebuild;
 use snow_merge::Snow;
 use std::alloc::Global;
 use std::marker::Model;
+
+/// Where a page of a run begins: its number, and how many entries, of which weight in bytes, stand on the run's pages before it.
+#[derive(Clone, Copy, PartialEq, Eq, Debug)]
+pub struct PageStart {
+    pub page: u32,
+    pub entries: u64,
+    pub weight: u64,
+}
 
 /// The filter and the fences of the pages that have one tag.
 #[derive(Debug, Drop)]
@@ -53,6 +58,34 @@ impl Guide {
             filter: Filter::with_bits(alloc, capacity)?,
             fences: Fences::reserve(alloc, pages as u32)?,
         })
+    }
+
+    // Takes all keys and fences out. The filter has so many bits then.
+    fn begin(&mut self, bits: u64)
+        requires { rounded bits ≤ self.old.filter.reserved }
+        ensures begun { self.new ≡ empty_guide bits self.old }
+        ensures none { HasKeys self.new.filter [] }
+    {
+        self.filter.reset(bits);
+        self.fences.clear();
+    }
+
+    // Adds a key, and where a page begins with it that page's fence.
+    fn note(&mut self, key: &Key, start: Option<PageStart>)
+        ensures { Notes key.now start self.old self.new }
+    {
+        self.filter.add(key);
+        let Some(start) = start else {
+            return;
+        };
+        if self.fences.takes(key) {
+            self.fences.push(Fence {
+                first: key.copy(),
+                page: start.page,
+                entries: start.entries,
+                weight: start.weight,
+            });
+        }
     }
 }
 
@@ -94,61 +127,40 @@ impl GuideRoom {
         })
     }
 
-    /// Fills the filters and the fences of C1, C1' and C2 from their pages, each of which it reads once. It takes no memory.
-    ///
-    /// `Damaged` names a page that isn't valid or doesn't go on; it never comes where the file holds a tree. `Fault` comes just where the
-    /// disk's count of faults rose. After an `Err` nothing is known of what they hold.
-    /// What it asks of each component is a clause of its own.
-    pub fn rebuild<D: Disk>(
-        &mut self,
-        disk: &mut D,
-        geo: &Geometry,
-        catalogue: &Catalog,
-    ) -> Result<(), Broken>
-        requires guides { AreGuides geo.now self.old }
-        requires live { catalogue.now.c1.weight + catalogue.now.c1x.weight + catalogue.now.c2.weight ≤ capacity geo.now }
-        requires c1 { IsFilled catalogue.now.c1 }
-        requires c1x { IsFilled catalogue.now.c1x }
-        requires c2 { IsFilled catalogue.now.c2 }
-        requires length { IsTrue (D.state disk.old).tells_bytes → length (D.state disk.old).bytes ≡ file_length geo.now }
-        ensures guided { (tree : Tree) → IsTrue (D.state disk.old).is_honest → HoldsTree geo.now tree (D.state disk.old).bytes → tree.catalogue ≡ catalogue.now
-            → result ≢ Err Broken.Fault → (result ≡ Ok tt) × AreGuided self.new first_tags tree }
-        ensures guides { AreGuides geo.now self.new }
-        ensures reads { Reads (file_length geo.now) (catalogue.now.c1.pages + catalogue.now.c1x.pages + catalogue.now.c2.pages) result (D.state disk.old) (D.state disk.new) }
+    /// None, for a reading that wants none: what is noted there is kept nowhere.
+    pub fn none(alloc: Global) -> GuideRoom
+        ensures { result ≡ [] }
     {
-        rebuild_at(disk, geo, &catalogue.c1, Role::new(0), &mut self.guides)?;
-        rebuild_at(disk, geo, &catalogue.c1x, Role::new(1), &mut self.guides)?;
-        rebuild_at(disk, geo, &catalogue.c2, Role::new(2), &mut self.guides)
+        GuideRoom {
+            guides: Vec::new(alloc),
+        }
     }
-}
 
-// Fills a component's filter and fences, which have this tag.
-fn rebuild_at<D: Disk>(
-    disk: &mut D,
-    geo: &Geometry,
-    run: &Component,
-    role: Role,
-    guides: &mut Vec<Guide>,
-) -> Result<(), Broken>
-    requires guides { AreGuides geo.now guides.old.items }
-    requires light { run.now.weight ≤ capacity geo.now }
-    requires filled { IsFilled run.now }
-    requires length { IsTrue (D.state disk.old).tells_bytes → length (D.state disk.old).bytes ≡ file_length geo.now }
-    ensures guided { (pages : List RunPage) → IsTrue (D.state disk.old).is_honest → ReadsAs geo.now run.now pages (D.state disk.old).bytes
-        → result ≢ Err Broken.Fault → (result ≡ Ok tt) × IsGuidedBy (guide_at guides.new.items role) pages }
-    ensures others { KeepsOtherGuides role guides.old.items guides.new.items }
-    ensures guides { AreGuides geo.now guides.new.items }
-    ensures reads { Reads (file_length geo.now) run.now.pages result (D.state disk.old) (D.state disk.new) }
-{
-    let guide = &mut guides[role.number() as usize];
-    rebuild(
-        disk,
-        geo,
-        run,
-        run.weight,
-        &mut guide.filter,
-        &mut guide.fences,
-    )
+    /// Takes all keys and fences out of what a tag has, before the pages of a run are read that has it. Its filter has so many bits then; as many
+    /// as the run weighs bytes make it tell keys apart.
+    pub fn begin(&mut self, role: Role, bits: u64)
+        requires { (sizes : Sizes) × AreRooms sizes self.old × (bits ≤ capacity sizes) }
+        ensures begun { role < length self.old → (guide_at self.new role ≡ empty_guide bits (guide_at self.old role)) × HasKeys
+            (guide_at self.new role).filter [] }
+        ensures rooms { KeepsRooms role self.old self.new }
+    {
+        let place = role.number() as usize;
+        if place < self.guides.len() {
+            self.guides[place].begin(bits);
+        }
+    }
+
+    /// Notes the key that comes next on the pages of a tag, and where a page begins with it that page. There is a fence for it where there is room
+    /// for one more and its key is above those of the pages before: so no fence is kept that a damaged component has too many of. It takes no memory.
+    pub fn note(&mut self, role: Role, key: &Key, start: Option<PageStart>)
+        ensures notes { role < length self.old → Notes key.now start (guide_at self.old role) (guide_at self.new role) }
+        ensures rooms { KeepsRooms role self.old self.new }
+    {
+        let place = role.number() as usize;
+        if place < self.guides.len() {
+            self.guides[place].note(key, start);
+        }
+    }
 }
 
 // A pass over C1 that has taken nothing, and whose run's filter and fences are empty.

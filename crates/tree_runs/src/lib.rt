@@ -10,6 +10,6 @@ mod quanta;
 mod runs;
 mod swaps;
 
-pub use guides::GuideRoom;
+pub use guides::{GuideRoom, PageStart};
 pub use laws::{each_claims_its_own, others_may_write};
 pub use runs::{MergeRoom, Runs};

@@ -24,6 +24,7 @@ use Rattle.tree_machine.specs.Machine.{WorkSoFar, is_worked, no_work}
 use Rattle.tree_machine.specs.Plays.{is_finished}
 use Rattle.tree_machine.specs.Steps.{is_write_by, last_write, work_reply}
 use Rattle.core_moves.specs.declared.held.Held.{Held}
+use Rattle.tree_core.specs.Causes.{pages_first}
 use Rattle.tree_core.specs.Core.{IsCore}
 use Rattle.tree_core.specs.Notes.{OwesNothing}
 use Rattle.tree_session.specs.Faults.{NamesStop, faults_of, faults_of_turn}
@@ -81,7 +82,8 @@ pays_less seat old new d has k is sizes = grind (arith, common_steps, nat_tests,
 
 -- its calls, and its bound
 pub of_write : (sizes : Sizes) (op : Op) (quanta due : ℕ) → is_write op ≡ true
-    → (most_calls sizes op quanta due ≡ (4 + 9 * due) + (quanta + 1) * (sizes.quantum / 4 + 3)) × (most_quanta sizes op ≡ work_bound sizes (total_weight (writes_of op)))
+    → (most_calls sizes op quanta due ≡ (pages_first op + (4 + 9 * due)) + (quanta + 1) * (sizes.quantum / 4 + 3)) ×
+    (most_quanta sizes op ≡ work_bound sizes (total_weight (writes_of op)))
 of_write sizes op quanta due h1 = grind (arith, common_steps, nat_tests)
 
 pub most_of_write : (sizes : Sizes) (op : Op) → is_write op ≡ true → most_quanta sizes op ≡ work_bound sizes (total_weight (writes_of op))

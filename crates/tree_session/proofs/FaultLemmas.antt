@@ -9,6 +9,8 @@ use Rattle.blsm_model.specs.declared.key.Key.{Key}
 use Rattle.blsm_model.specs.Facts.{Follows}
 use Rattle.blsm_model.specs.Format.{callers}
 use Rattle.blsm_model.specs.Geometry.{file_length}
+use Rattle.blsm_model.specs.Histories.{looks_first}
+use Rattle.blsm_model.specs.Legal.{may_look}
 use Rattle.blsm_model.specs.declared.op.Op.{Op}
 use Rattle.blsm_model.specs.declared.history.Reply.{Reply}
 use Rattle.blsm_model.specs.declared.history.Reply.TheVariants.{Stopped}
@@ -31,8 +33,8 @@ use Rattle.tree_core.specs.Core.{CoreState, IsCore, facts_of_held}
 use Rattle.tree_core.specs.Scanned.{Scanned}
 use Rattle.tree_core.specs.Scanned as scanned
 use Rattle.tree_core.specs.Steps.{StandsSince}
-use Rattle.tree_core.specs.declared.answers.Admission.{Admission}
-use Rattle.tree_core.specs.declared.answers.Admission.TheVariants as admission
+use Rattle.tree_core.specs.Ruling.{Ruling}
+use Rattle.tree_core.specs.Ruling as ruling
 use Rattle.tree_core.specs.declared.answers.Lookup.{Lookup}
 use Rattle.tree_core.specs.declared.answers.Lookup.TheVariants as lookup
 use Rattle.tree_core.specs.declared.answers.Payment.{Payment}
@@ -64,13 +66,17 @@ tells_lookup {old} {new} {before} {after} ran same rose = grind (arith, common_s
 still : {D : Type 0} (state : D → DiskState) (old new : CoreState D) → new.held.book.stopped ≡ old.held.book.stopped → new.disk ≡ old.disk → TellsFaults 0 old.held new.held (state old.disk) (state new.disk)
 still {D} state old new same disk = tells_quiet same (ap (λ (d : D). (state d).faults) disk)
 
-pub admit_tells : {D : Type 0} (state : D → DiskState) (seat : ℕ) (op : Op) (answer : Admission) (old new : CoreState D) → Admits state seat op answer old new
+pub admit_tells : {D : Type 0} (state : D → DiskState) (seat : ℕ) (op : Op) (answer : Ruling) (old new : CoreState D) → Admits state seat op answer
+    old new
     → TellsFaults (faults_of (reply_to_write answer)) old.held new.held (state old.disk) (state new.disk)
-admit_tells state seat op admission.Admitted old new call = tells_ran call.cause.0
-admit_tells state seat op (admission.Full charge) old new call = still state old new (ap (λ (h : Held). h.book.stopped) call.cause.3) (call.untouched tt)
-admit_tells state seat op (admission.Fault true) old new call = tells_failed 1 (omega arith) call.cause.0
-admit_tells state seat op (admission.Fault false) old new call = tells_failed 1 (omega arith) call.cause.0
-admit_tells state seat op (admission.Stopped why) old new call = still state old new (ap (λ (h : Held). h.book.stopped) call.cause.1) (call.untouched tt)
+admit_tells state seat op ruling.Admitted old new call = tells_ran call.cause.0
+admit_tells state seat op (ruling.Kept found) old new call = tells_quiet (ap (λ (h : Held). h.book.stopped) call.cause.4) call.cause.1
+admit_tells state seat op (ruling.Full charge) old new call = tells_quiet (ap (λ (h : Held). h.book.stopped) call.cause.3) call.cause.4
+admit_tells state seat op ruling.ReadFault old new call = tells_lookup call.cause.0 (ap (λ (h : Held). h.book.stopped) call.cause.3) call.cause.2
+admit_tells state seat op (ruling.Damaged page) old new call = tells_quiet (ap (λ (h : Held). h.book.stopped) call.cause.4) call.cause.1
+admit_tells state seat op (ruling.Fault true) old new call = tells_failed 1 (omega arith) call.cause.0
+admit_tells state seat op (ruling.Fault false) old new call = tells_failed 1 (omega arith) call.cause.0
+admit_tells state seat op (ruling.Stopped why) old new call = still state old new (ap (λ (h : Held). h.book.stopped) call.cause.1) (call.untouched tt)
 
 pub pay_tells : {D : Type 0} (state : D → DiskState) (seat : ℕ) (answer : Payment) (old new : CoreState D) → Pays state seat answer old new → TellsFaults 0 old.held new.held (state old.disk) (state new.disk)
 pay_tells state seat payment.Paid old new call = tells_ran call.cause.0
@@ -104,8 +110,21 @@ scan_tells state seat n _ old new call same = tells_quiet same call.cause.2
 pub none_told : (op : Op) (reply : Reply) → faults_of reply ≡ 0 → TellsNone op reply
 none_told op reply none = λ looks. none
 
-pub admit_calm : (result : Admission) (seat : ℕ) (op : Op) (old new : Held) (before after : DiskState) → AdmitsBecause result seat op old new before after → is_by_fault new.book.stopped ≡ false → faults_of (reply_to_write result) ≡ 0
-admit_calm result seat op old new before after h1 h2 = grind (arith, common_steps, nat_tests)
+-- what looks first may look
+first_looks : (op : Op) → looks_first op ≡ true → may_look op ≡ true
+first_looks op first = grind (arith, common_steps, nat_tests)
+
+-- a write that isn't one of those tells a fault with a stop alone
+pub admit_calm : (result : Ruling) (seat : ℕ) (op : Op) (old new : Held) (before after : DiskState) → AdmitsBecause result seat op old new before
+    after → is_by_fault new.book.stopped ≡ false → TellsNone op (reply_to_write result)
+admit_calm ruling.ReadFault seat op old new before after because calm = λ looks. absurd (false≢true (sym looks ∙ first_looks op because.1))
+admit_calm (ruling.Fault true) seat op old new before after because calm = absurd (false≢true (sym calm ∙ ap is_by_fault because.0.stopped))
+admit_calm (ruling.Fault false) seat op old new before after because calm = absurd (false≢true (sym calm ∙ ap is_by_fault because.0.stopped))
+admit_calm ruling.Admitted seat op old new before after because calm = none_told op (reply_to_write ruling.Admitted) refl
+admit_calm (ruling.Kept found) seat op old new before after because calm = none_told op (reply_to_write (ruling.Kept found)) refl
+admit_calm (ruling.Full charge) seat op old new before after because calm = none_told op (reply_to_write (ruling.Full charge)) refl
+admit_calm (ruling.Damaged page) seat op old new before after because calm = none_told op (reply_to_write (ruling.Damaged page)) refl
+admit_calm (ruling.Stopped why) seat op old new before after because calm = none_told op (reply_to_write (ruling.Stopped why)) refl
 
 pub turn_calm : (ended : Turned) (seat : ℕ) (old new : Held) (before after : DiskState) → TurnsBecause ended false seat old new before after → is_by_fault new.book.stopped ≡ false → faults_of_turn ended ≡ 0
 turn_calm ended seat old new before after h1 h2 = grind (arith, common_steps, nat_tests)
@@ -116,9 +135,10 @@ calm_before told old new before after tells calm = grind (arith, common_steps, n
 
 -- ---- which stop is told
 
-pub admit_names : (result : Admission) (seat : ℕ) (op : Op) (old new : Held) (before after : DiskState) → AdmitsBecause result seat op old new before after → NamesStop (reply_to_write result) new.book.stopped
-admit_names (admission.Stopped why) seat op old new before after because = ap (λ (h : Held). h.book.stopped) because.1 ∙ because.0
-admit_names (admission.Fault true) seat op old new before after because = tt
+pub admit_names : (result : Ruling) (seat : ℕ) (op : Op) (old new : Held) (before after : DiskState) → AdmitsBecause result seat op old new before
+    after → NamesStop (reply_to_write result) new.book.stopped
+admit_names (ruling.Stopped why) seat op old new before after because = ap (λ (h : Held). h.book.stopped) because.1 ∙ because.0
+admit_names (ruling.Fault true) seat op old new before after because = tt
 admit_names _ seat op old new before after because = tt
 
 pub get_names : (result : Lookup) (key : Key) (old new : Held) (before after : DiskState) → FindsBecause result key old before after → new.book.stopped ≡ old.book.stopped → NamesStop (reply_to_get result) new.book.stopped

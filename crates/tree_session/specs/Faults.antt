@@ -58,7 +58,7 @@ pub record TellsFaults (told : ℕ) (old new : Held) (before after : DiskState) 
   pub stops : old.book.stopped ≡ None → NamesCount new.book.stopped before after
   pub halted : (why : Why) → old.book.stopped ≡ Some why → (new.book.stopped ≡ Some why) × (after.faults ≡ before.faults)
 
--- Of the commands those that only look, a get and a next, may tell a fault without a stop.
+-- Of the commands those that look, a get, a next, a new and a swap, may tell a fault without a stop.
 abbrev pub TellsNone : Op → Reply → Type 0
 TellsNone op reply = may_look op ≡ false → faults_of reply ≡ 0
 

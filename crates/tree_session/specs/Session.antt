@@ -1,5 +1,5 @@
 -- What one command, and a script, make of the core of a tree, on every disk.
-use Rattle.std.specs.Prelude.{◌≡◌, ◌≢◌, ⊤, ℕ, ◌+◌, ◌*◌, ◌/◌, ◌≤◌, ◌<◌, false, None, IsTrue, List, [], ◌∷◌, ◌++◌, drop, length, slice_index, sum}
+use Rattle.std.specs.Prelude.{◌≡◌, ◌≢◌, ⊤, ℕ, ◌+◌, ◌*◌, ◌/◌, ◌≤◌, ◌<◌, false, None, IsTrue, List, [], ◌∷◌, ◌++◌, length, slice_index}
 use Rattle.std.specs.List.{AllByRecursion}
 use Rattle.blsm_model.specs.Book.{noted, counted_up, rows_given}
 use Rattle.blsm_model.specs.Format.{callers}
@@ -22,7 +22,7 @@ use Rattle.tree_machine.specs.declared.step.Step.{Step}
 use Rattle.tree_runs.specs.Runs.{page_share}
 use Rattle.core_moves.specs.declared.held.Held.{Held}
 use Rattle.tree_core.specs.Calls.{AreCalls}
-use Rattle.tree_core.specs.Causes.{swaps_due_in}
+use Rattle.tree_core.specs.Causes.{pages_first, swaps_due_in}
 use Rattle.tree_core.specs.Core.{CoreState, IsCore}
 use Rattle.tree_core.specs.Notes.{OwesNothing}
 use Rattle.tree_core.specs.Steps.{StandsSince}
@@ -42,14 +42,15 @@ most_quanta sizes op = work_bound sizes (total_weight (writes_of op))
 
 -- How many calls of the disk it takes at most, where its caller takes so many quanta for it and so many swaps are due before: a get reads one page of
 -- each component at most, a next reads each page of its hold at most, a turn of a work moves once, and a write is admitted, with four calls and nine
--- for each swap that is due, and then paid for, in vain once at most. A hold is made, and dropped, in memory alone.
+-- for each swap that is due, behind three at most where it looks first, and then paid for, in vain once at most. A hold is made, and dropped, in
+-- memory alone.
 abbrev pub most_calls : Sizes → Op → ℕ → ℕ → ℕ
 most_calls sizes (Get key) quanta due = 3
 most_calls sizes (Hold low high) quanta due = 0
 most_calls sizes (Next n) quanta due = page_share sizes
 most_calls sizes Release quanta due = 0
 most_calls sizes (Work n) quanta due = n * (sizes.quantum / 4 + 9)
-most_calls sizes op quanta due = (4 + 9 * due) + (quanta + 1) * (sizes.quantum / 4 + 3)
+most_calls sizes op quanta due = (pages_first op + (4 + 9 * due)) + (quanta + 1) * (sizes.quantum / 4 + 3)
 
 -- Some calls of the core led from the one to the other, none of which is a worker's turn. Each has all that the core says of it: why it answered so, and by
 -- which of the disk's bytes.

@@ -26,9 +26,9 @@ fn look_up<D: Disk + Drop>(core: &mut Core<D>, seat: u32, key: &Key)
 
 /// Does the command of a line to its end. A write is admitted and paid for, a work ends at its first turn that finds nothing to do.
 ///
-/// The line is a put, an add, a tail of 1 to 64 bytes, a del, a get, a hold, a next of 1 to 32 rows, a drop of a hold, or a work of one turn to a hundred thousand. Its
-/// caller must have room for the entry and for the rows, no work may be open, and nobody may owe, unless the store is stopped. A hold for which
-/// `alloc` has no memory is answered so in its entry.
+/// The line is a put, an add, a tail of 1 to 64 bytes, a del, a new, a swap, a get, a hold, a next of 1 to 32 rows, a drop of a hold, or a work of
+/// one turn to a hundred thousand. Its caller must have room for the entry and for the rows, no work may be open, and nobody may owe, unless the
+/// store is stopped. A hold for which `alloc` has no memory is answered so in its entry.
 pub fn perform<D: Disk + Drop>(alloc: Global, core: &mut Core<D>, line: &Line)
     requires runnable { IsRunnable line.now }
     requires room { 0 < slice_index core.old.held.book.book.room.entries line.now.seat }
@@ -37,7 +37,9 @@ pub fn perform<D: Disk + Drop>(alloc: Global, core: &mut Core<D>, line: &Line)
     ensures { Performs D.state line.now.seat line.now.op core.old core.new }
 {
     match &line.op {
-        Op::Put(..) | Op::Add(..) | Op::Tail(..) | Op::Del(_) => write(core, line.seat, &line.op),
+        Op::Put(..) | Op::Add(..) | Op::Tail(..) | Op::Del(_) | Op::New(..) | Op::Swap(..) => {
+            write(core, line.seat, &line.op)
+        }
         Op::Get(key) => look_up(core, line.seat, key),
         Op::Hold(low, high) => hold(alloc, core, line.seat, low, high),
         Op::Next(n) => read_on(core, line.seat, *n),

@@ -1,7 +1,7 @@
 -- A deep merge that is gone on with to its end and swapped in.
 use Rattle.std.proofs.lemmas.Grind.{common_steps}
 use Rattle.std.proofs.lemmas.Bool.Decides.{nat_tests}
-use Rattle.std.proofs.Common.{◌≡◌, ◌∙◌, ℕ, ◌+◌, ◌*◌, ◌≤◌, Bool, List, Option, refl, ap, sym, subst, arith}
+use Rattle.std.proofs.Common.{◌≡◌, ◌∙◌, ◌+◌, ◌*◌, ◌≤◌, Bool, List, Option, refl, ap, sym, subst, arith}
 use Rattle.std.specs.Prelude.{IsTrue}
 use Rattle.disk_trait.specs.Disk.{DiskState}
 use Rattle.disk_trait.specs.Effects.{Affects}
@@ -21,7 +21,19 @@ use Rattle.tree_file.specs.Places.{HoldsEither}
 use Rattle.tree_log.specs.Log.{LogState, IsLogOf, weight_of_tables}
 use Rattle.tree_runs.specs.Runs.{RunsState, AreRunning, left_for_deep, made_by_deep}
 use Rattle.tree_runs.specs.Holding.{IsDeepSwapped, LeavesSwapped, StandOver, SwapsDeep, with_deep_run}
-use Rattle.tree_settling.specs.Settling.{CallsFew, merge_calls, taking_calls, MergesGoOn, IsDeepLight, LeavesMaps, MaySettle, ShowsMap, anywhere, components_of}
+use Rattle.tree_settling.specs.Settling.{
+  CallsFew,
+  merge_calls,
+  settling_weight,
+  taking_calls,
+  MergesGoOn,
+  IsDeepLight,
+  LeavesMaps,
+  MaySettle,
+  ShowsMap,
+  anywhere,
+  components_of,
+}
 use Rattle.tree_settling.proofs.NextLemmas.{Follows, deep_follows}
 use Rattle.tree_settling.proofs.StepLemmas.{honest_still, kept_swapped, stays_long}
 use Rattle.tree_settling.proofs.TakenLemmas.{goes_then}
@@ -33,7 +45,7 @@ pub record IsDeepSwap (done : Bool) (a : Contents) (runs mid new : RunsState) (l
   pub goes : MergesGoOn a.entries runs mid before d
   pub pass : mid.pass ≡ runs.pass
   pub lists : (tree : Tree) (table : Entries) → IsTrue d.is_honest → StandOver mid tree table d → (next : Tree) × IsDeepSwapped tree next × LeavesSwapped mid new tree next table done d after
-  pub few : CallsFew (taking_calls runs.sizes) before d
+  pub few : CallsFew (taking_calls runs.sizes (left_for_deep runs.deep)) before d
   pub effect : Affects anywhere (file_length mid.sizes) 9 d after
 
 -- the log of a tree of the same lanes
@@ -57,15 +69,15 @@ module _ {done : Bool} {a : Contents} {runs mid new : RunsState} {log : LogState
         deep_follows runs.sizes shows.tree x.0 d.bytes (subst (λ (s : Sizes). HoldsTree s shows.tree d.bytes) swap.goes.sizes over.are_of.holds) shows.fits x.1,
       )
 
-  pub deep_leaves : LeavesMaps (1 * merge_calls runs.sizes) runs log before after
-  deep_leaves = record {
+  pub deep_leaves : IsDeepLight runs → LeavesMaps (1 * merge_calls runs.sizes (settling_weight runs log)) runs log before after
+  deep_leaves light = record {
     keeps = λ pairs honest shows.
         let x = next_of pairs honest shows in
         kept_swapped runs.sizes shows.tree x.0 pairs before d after shows.fits shows.map_is x.3
         (swap.goes.leaves shows.tree honest (subst (λ (t : Contents). StandOver runs shows.tree t.entries before) (sym swap.table) shows.over))
         (subst (λ (s : Sizes). LeavesOnly d after (HoldsEither s shows.tree x.0)) swap.goes.sizes x.2.each)
         (subst (λ (s : Sizes). HoldsEither s shows.tree x.0 after.bytes) swap.goes.sizes x.2.either.reads);
-    effect = affects_counted (omega (arith, swap.few, swap.effect.calls)) (goes_then swap.timed swap.goes swap.effect);
+    effect = affects_counted (omega (arith, swap.few, swap.effect.calls, light)) (goes_then swap.timed swap.goes swap.effect);
   }
 
   pub deep_shows : IsTrue done → SwapsDeep mid new → (pairs : List (Key × Value)) → IsTrue before.is_honest → ShowsMap runs log pairs before → ShowsMap new log pairs after
@@ -95,7 +107,7 @@ module _ {done : Bool} {a : Contents} {runs mid new : RunsState} {log : LogState
       let catalogue : new.catalogue ≡ with_deep_run (made_by_deep mid.deep) runs.catalogue = next_catalogue swaps in
       record {
         running = running;
-        long = stays_long runs.sizes new.sizes sizes may.long (deep_leaves).effect;
+        long = stays_long runs.sizes new.sizes sizes may.long (deep_leaves may.begun.deep).effect;
         begun = record {
           pass = swaps.pass ∙ swap.pass ∙ may.begun.pass;
           roles = subst (λ (c : Catalog). AreRoles c.lanes) (sym catalogue) may.begun.roles;

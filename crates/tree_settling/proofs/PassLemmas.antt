@@ -26,7 +26,18 @@ use Rattle.tree_file.specs.Places.{HoldsEither, StandsOn, TurnsRoles}
 use Rattle.tree_log.specs.Log.{LogState, IsLogOf, turned_log, weight_of_tables}
 use Rattle.tree_runs.specs.Runs.{GuideState, RunsState, AreRunning, Fits, guide_at, left_for_deep, left_for_pass, made_by_deep, made_by_pass, pass_begun}
 use Rattle.tree_runs.specs.Holding.{AreOf, IsDeepOver, IsPassOver, IsPassSwapped, LeavesSwapped, StandOver, SwapsPass, is_full, with_pass_run}
-use Rattle.tree_settling.specs.Settling.{CallsFew, merge_calls, taking_calls, LeavesMaps, MaySettle, MergesGoOn, ShowsMap, anywhere, components_of}
+use Rattle.tree_settling.specs.Settling.{
+  CallsFew,
+  merge_calls,
+  settling_weight,
+  taking_calls,
+  LeavesMaps,
+  MaySettle,
+  MergesGoOn,
+  ShowsMap,
+  anywhere,
+  components_of,
+}
 use Rattle.tree_settling.proofs.NextLemmas.{Follows, pass_follows}
 use Rattle.tree_settling.proofs.StepLemmas.{honest_still, kept_swapped, stays_long}
 use Rattle.tree_settling.proofs.TakenLemmas.{goes_then}
@@ -97,7 +108,7 @@ pub record IsPassSwap (done : Bool) (memory : ℕ) (a : Contents) (runs begun mi
   pub none : left_for_pass mid.pass a.entries ≡ 0
   pub lists : (tree : Tree) → IsTrue d.is_honest → StandOver mid tree a.entries d
       → (next : Tree) × IsPassSwapped (is_full mid.sizes (made_by_pass mid.pass)) a.entries tree next × ((table : Entries) → LeavesSwapped mid new tree next table done d after)
-  pub few : CallsFew (taking_calls runs.sizes) before d
+  pub few : CallsFew (taking_calls runs.sizes (left_for_pass begun.pass a.entries)) before d
   pub effect : Affects anywhere (file_length mid.sizes) 9 d after
 
 module _ {done : Bool} {memory : ℕ} {a : Contents} {runs begun mid new : RunsState} {log : LogState} {before d after : DiskState} (swap : IsPassSwap done memory a runs begun mid new log before d after) where
@@ -137,7 +148,7 @@ module _ {done : Bool} {memory : ℕ} {a : Contents} {runs begun mid new : RunsS
             swapped,
       )
 
-  pub pass_leaves : LeavesMaps (1 * merge_calls runs.sizes) runs log before after
+  pub pass_leaves : LeavesMaps (1 * merge_calls runs.sizes (settling_weight runs log)) runs log before after
   pass_leaves = record {
     keeps = λ pairs honest shows.
         let x = next_of pairs honest shows in
@@ -147,8 +158,16 @@ module _ {done : Bool} {memory : ℕ} {a : Contents} {runs begun mid new : RunsS
         (subst (λ (s : Sizes). LeavesOnly d after (HoldsEither s shows.tree x.0)) same_sizes left.each)
         (subst (λ (s : Sizes). HoldsEither s shows.tree x.0 after.bytes) same_sizes left.either.reads);
     effect =
-        affects_wider {most = 1 * merge_calls runs.sizes} (λ i here. here) (omega (arith, ap (λ (r : RunsState). file_length r.sizes) swap.begins)) (omega arith)
-        (affects_counted (omega (arith, swap.few, swap.effect.calls)) (goes_then swap.timed swap.goes swap.effect));
+        affects_wider {most = 1 * merge_calls runs.sizes (settling_weight runs log)} (λ i here. here)
+        (omega (arith, ap (λ (r : RunsState). file_length r.sizes) swap.begins)) (omega arith)
+        (affects_counted (omega (
+          arith,
+          swap.few,
+          swap.effect.calls,
+          begun_light memory runs begun a.entries swap.begins,
+          ap
+              (λ (t : Contents). entries_weight t.entries) swap.table,
+        )) (goes_then swap.timed swap.goes swap.effect));
   }
 
   -- the log turns with the tree

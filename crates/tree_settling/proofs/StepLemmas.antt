@@ -4,6 +4,7 @@ use Rattle.std.proofs.lemmas.Grind.{common_steps}
 use Rattle.std.proofs.lemmas.Bool.Decides.{nat_tests}
 use Rattle.std.specs.Prelude.{IsErrAnd, IsTrue, length}
 use Rattle.std.proofs.lemmas.Result.{on_ok_weaker}
+use Rattle.std.proofs.Math.Nat.{mul-le-mul_left}
 use Rattle.std.specs.declared.result.Result.{Result}
 use Rattle.disk_trait.specs.Disk.{DiskState, TellsFaultsBy}
 use Rattle.disk_trait.specs.Effects.{Affects}
@@ -24,7 +25,19 @@ use Rattle.tree_file.specs.Places.{StandsOn, HoldsEither}
 use Rattle.tree_log.specs.Log.{LogState}
 use Rattle.tree_runs.specs.Runs.{RunsState}
 use Rattle.tree_runs.specs.Holding.{StandOver}
-use Rattle.tree_settling.specs.Settling.{KeepsMap, LeavesMaps, MaySettle, Settles, SettlesOn, ShowsMap, TakesAll, anywhere, merge_calls, taking_calls}
+use Rattle.tree_settling.specs.Settling.{
+  KeepsMap,
+  LeavesMaps,
+  MaySettle,
+  Settles,
+  SettlesOn,
+  ShowsMap,
+  TakesAll,
+  anywhere,
+  merge_calls,
+  quantum_calls,
+  settling_weight,
+}
 use Rattle.tree_settling.proofs.NextLemmas.{Follows, reads_next}
 use Rattle.tree_settling.proofs.ToldLemmas.{ends_from, fault_then, is_err, on_failed, told_then, well_told}
 
@@ -69,16 +82,21 @@ kept_swapped sizes tree next pairs old mid new fits is follows first second read
 
 -- ---- one after the other
 
-pub leaves_run : (n m : ℕ) {old mid : RunsState} {log log' : LogState} {before d after : DiskState} → IsTimed d → LeavesMaps (n * merge_calls old.sizes) old log before d → SettlesOn old mid log log' before d
-    → LeavesMaps (m * merge_calls mid.sizes) mid log' d after → LeavesMaps ((n + m) * merge_calls old.sizes) old log before after
-leaves_run n m {old} {d = d} {after = after} timed first step rest = record {
+pub leaves_run : (n m : ℕ) {old mid : RunsState} {log log' : LogState} {before d after : DiskState} → IsTimed d → LeavesMaps
+    (n * merge_calls old.sizes (settling_weight old log)) old log before d → SettlesOn old mid log log' before d
+    → LeavesMaps (m * merge_calls mid.sizes (settling_weight mid log')) mid log' d after → LeavesMaps
+    ((n + m) * merge_calls old.sizes (settling_weight old log)) old log before after
+leaves_run n m {old} {mid} {log} {log'} {d = d} {after = after} timed first step rest = record {
   keeps = λ pairs honest shows.
       let one = first.keeps pairs honest shows in
       let two = subst (λ (s : Sizes). KeepsMap s pairs d after) step.sizes (rest.keeps pairs (honest_still first.effect honest) (step.shows pairs honest shows)) in
       record { each = leaves_only_run one.each two.each; reads = two.reads };
   effect = affects_more timed step.calm first.effect rest.effect (λ i here. here) (omega (arith, ap file_length step.sizes))
-      (omega (arith, times_sum n m (merge_calls old.sizes), ap (λ (s : Sizes). m * merge_calls s) step.sizes));
+      (omega (arith, times_sum n m (merge_calls old.sizes (settling_weight old log)), lighter));
 }
+  where
+    lighter : m * merge_calls mid.sizes (settling_weight mid log') ≤ m * merge_calls old.sizes (settling_weight old log)
+    lighter = mul-le-mul_left m (omega (arith, ap quantum_calls step.sizes, step.light))
 
 pub settles_run : {region : Region} {end most : ℕ} {old mid new : RunsState} {log log' log'' : LogState} {before d after : DiskState} → Affects region end most before d → SettlesOn old mid log log' before d
     → SettlesOn mid new log' log'' d after → SettlesOn old new log log'' before after
@@ -99,7 +117,8 @@ told_run {new = new} calm told = record {
 -- ---- what a step tells
 
 -- it is done
-pub step_done : {most : ℕ} {runs runs' : RunsState} {log log' : LogState} {old new : DiskState} → LeavesMaps (most * merge_calls runs.sizes) runs log old new → SettlesOn runs runs' log log' old new
+pub step_done : {most : ℕ} {runs runs' : RunsState} {log log' : LogState} {old new : DiskState} → LeavesMaps
+    (most * merge_calls runs.sizes (settling_weight runs log)) runs log old new → SettlesOn runs runs' log log' old new
     → runs'.catalogue.version ≤ runs.catalogue.version + most → Settles most runs runs' log log' (Ok tt) old new
 step_done {old = old} {new} leaves on version = record { leaves = leaves; on = on; ends = λ pairs honest shows other. refl; version = version; faults = well_told old new on.calm }
 
@@ -117,7 +136,8 @@ step_none {runs = runs} {d = d} timed may =
 
 -- a fault of the disk ended it, behind calls that went well
 pub step_faulted : {most : ℕ} {runs runs' : RunsState} {log log' : LogState} {result : Result Unit Broken} {old new : DiskState} (mid : DiskState) → mid.faults ≡ old.faults
-    → IsErrAnd result (λ (x : Broken). x ≡ Fault) → HasRisen mid.faults new.faults → LeavesMaps (most * merge_calls runs.sizes) runs log old new → Settles most runs runs' log log' result old new
+    → IsErrAnd result (λ (x : Broken). x ≡ Fault) → HasRisen mid.faults new.faults → LeavesMaps
+    (most * merge_calls runs.sizes (settling_weight runs log)) runs log old new → Settles most runs runs' log log' result old new
 step_faulted mid calm failed rises leaves = record {
   leaves = leaves;
   on = on_failed _ (is_err failed);
@@ -127,16 +147,17 @@ step_faulted mid calm failed rises leaves = record {
 }
 
 -- its merge failed, which began over the trees of these components
-pub step_untaken : {a : Contents} {runs begun mid runs' : RunsState} {log log' : LogState} {e : Broken} {result inner : Result Unit Broken} {old new : DiskState} → inner ≡ Err e
+pub step_untaken : {a : Contents} {weight : ℕ} {runs begun mid runs' : RunsState} {log log' : LogState} {e : Broken}
+    {result inner : Result Unit Broken} {old new : DiskState} → inner ≡ Err e
     → IsErrAnd result (λ (x : Broken). x ≡ e) → a ≡ log.a → begun.sizes ≡ runs.sizes → ((tree : Tree) → StandOver runs tree a.entries old → StandOver begun tree a.entries old)
-    → TakesAll a.entries begun mid inner old new → Settles 1 runs runs' log log' result old new
-step_untaken {a} {runs} {begun} {log = log} {old = old} {new} was failed table same begins takes = record {
+    → TakesAll a.entries weight begun mid inner old new → weight ≤ settling_weight runs log → Settles 1 runs runs' log log' result old new
+step_untaken {a} {weight} {runs} {begun} {log = log} {old = old} {new} was failed table same begins takes light = record {
   leaves = record {
     keeps = λ pairs honest shows.
         let now = takes.keeps shows.tree honest (over pairs shows) in
         kept_standing runs.sizes shows.tree pairs old new shows.fits shows.map_is (subst (λ (s : Sizes). LeavesOnly old new (HoldsTree s shows.tree)) same now.1)
         (subst (λ (s : Sizes). StandsOn s shows.tree new) same now.0).reads;
-    effect = affects_wider (λ i here. here) (omega (arith, ap file_length same)) (omega (arith, ap taking_calls same)) takes.effect;
+    effect = affects_wider (λ i here. here) (omega (arith, ap file_length same)) (omega (arith, ap quantum_calls same, light)) takes.effect;
   };
   on = on_failed _ (is_err failed);
   ends = λ pairs honest shows. ends_from was failed (takes.ends shows.tree honest (over pairs shows));
@@ -150,8 +171,12 @@ step_untaken {a} {runs} {begun} {log = log} {old = old} {new} was failed table s
 -- what is handed on of one that failed
 pub step_failed : {n : ℕ} (more : ℕ) {runs runs' : RunsState} {log log' : LogState} {e : Broken} {result inner : Result Unit Broken} {old new : DiskState} → inner ≡ Err e
     → IsErrAnd result (λ (x : Broken). x ≡ e) → Settles n runs runs' log log' inner old new → Settles (n + more) runs runs' log log' result old new
-step_failed {n} more {runs} was failed step = record {
-  leaves = record { keeps = step.leaves.keeps; effect = affects_wider (λ i here. here) (omega arith) (omega (arith, times_sum n more (merge_calls runs.sizes))) step.leaves.effect };
+step_failed {n} more {runs} {log = log} was failed step = record {
+  leaves = record {
+    keeps = step.leaves.keeps;
+    effect = affects_wider (λ i here. here) (omega arith)
+        (omega (arith, times_sum n more (merge_calls runs.sizes (settling_weight runs log)))) step.leaves.effect;
+  };
   on = on_failed _ (is_err failed);
   ends = λ pairs honest shows. ends_from was failed (step.ends pairs honest shows);
   version = on_failed _ (is_err failed);

@@ -11,7 +11,7 @@ use Rattle.disk_trait.specs.Moments.{IsTimed, LeavesOnly}
 use Rattle.disk_trait.proofs.MomentLemmas.{leaves_only_start, leaves_only_run}
 use Rattle.disk_trait.specs.Region.{Region}
 use Rattle.blsm_model.specs.Sizes.{QuantumFits, Sizes}
-use Rattle.blsm_model.specs.Geometry.{capacity, file_length}
+use Rattle.blsm_model.specs.Geometry.{file_length}
 use Rattle.record_delta.specs.Entries.{Entries}
 use Rattle.snow_merge.specs.Pass.{SnowState}
 use Rattle.deep_merge.specs.Merge.{DeepState}
@@ -61,16 +61,19 @@ few_by : (first cap before now quantum : ℕ) → 3 * now ≤ 3 * before + first
 few_by first cap before now quantum calls within = omega (arith, calls, within)
 
 -- where the quantum after them failed
-pub calls_failed : (sizes : Sizes) (first left most : ℕ) (before mid after : DiskState) → CallsSoFar sizes first left before mid → left ≢ 0 → after.clock ≤ mid.clock + most → most ≤ quantum_calls sizes
-    → first ≤ capacity sizes → CallsFew (taking_calls sizes) before after
-calls_failed sizes first left most before mid after so_far there calls few within =
-    ⊎_elim (λ taken. few_by first (capacity sizes) before.clock after.clock (quantum_calls sizes) (omega (arith, taken, calls, few)) within) (λ none. absurd (there none.0)) so_far
+pub calls_failed : (sizes : Sizes) (weight first left most : ℕ) (before mid after : DiskState) → CallsSoFar sizes first left before mid → left ≢ 0 →
+    after.clock ≤ mid.clock + most → most ≤ quantum_calls sizes
+    → first ≤ weight → CallsFew (taking_calls sizes weight) before after
+calls_failed sizes weight first left most before mid after so_far there calls few within =
+    ⊎_elim (λ taken. few_by first weight before.clock after.clock (quantum_calls sizes) (omega (arith, taken, calls, few)) within)
+    (λ none. absurd (there none.0)) so_far
 
 -- and where all was taken
-pub calls_done : (sizes : Sizes) (first left : ℕ) (before after : DiskState) → CallsSoFar sizes first left before after → first ≤ capacity sizes → CallsFew (taking_calls sizes) before after
-calls_done sizes first left before after so_far within =
-    ⊎_elim (λ taken. few_by first (capacity sizes) before.clock after.clock (quantum_calls sizes) (omega (arith, taken)) within)
-    (λ none. few_by first (capacity sizes) before.clock after.clock (quantum_calls sizes) (omega (arith, none.1)) within) so_far
+pub calls_done : (sizes : Sizes) (weight first left : ℕ) (before after : DiskState) → CallsSoFar sizes first left before after → first ≤ weight →
+    CallsFew (taking_calls sizes weight) before after
+calls_done sizes weight first left before after so_far within =
+    ⊎_elim (λ taken. few_by first weight before.clock after.clock (quantum_calls sizes) (omega (arith, taken)) within)
+    (λ none. few_by first weight before.clock after.clock (quantum_calls sizes) (omega (arith, none.1)) within) so_far
 
 -- a quantum's calls are a third of what it takes at most
 pub quantum_few : (sizes mid : Sizes) (most : ℕ) → mid ≡ sizes → QuantumFits sizes → most ≤ mid.quantum / 4 + 3 → (3 * most ≤ mid.quantum) × (most ≤ quantum_calls sizes)
@@ -125,26 +128,30 @@ more {most} {n} {after = after} timed so_far told sizes catalogue pass deep = re
 }
 
 -- all was taken
-pub took_all : {a : Entries} {old mid : RunsState} {before d : DiskState} (first left : ℕ) → MergesGoOn a old mid before d → CallsSoFar old.sizes first left before d → first ≤ capacity old.sizes
-    → TakesAll a old mid (Ok tt) before d
-took_all {old = old} {before = before} {d} first left so_far calls within = record {
+pub took_all : {a : Entries} {old mid : RunsState} {before d : DiskState} (weight first left : ℕ) → MergesGoOn a old mid before d → CallsSoFar
+    old.sizes first left before d → first ≤ weight
+    → TakesAll a weight old mid (Ok tt) before d
+took_all {old = old} {before = before} {d} weight first left so_far calls within = record {
   keeps = λ tree honest over. (subst (λ (s : Sizes). StandsOn s tree d) so_far.sizes (so_far.stands tree honest over).stands, so_far.leaves tree honest over);
   ends = λ tree honest over other. refl;
   goes_on = so_far;
-  effect = affects_counted (calls_done old.sizes first left before d calls within) so_far.effect;
+  effect = affects_counted (calls_done old.sizes weight first left before d calls within) so_far.effect;
   faults = well_told before d so_far.calm;
 }
 
 -- a quantum failed
 pub took_less : {most : ℕ} {took : Tree → ℕ → Type 0} {is_damage : ℕ → List ℕ → Type 0} {a : Entries} {old mid new : RunsState} {before d after : DiskState} {e : Broken} {inner : Result ℕ Broken}
-    {result : Result Unit Broken} (first left : ℕ) → IsTimed d → MergesGoOn a old mid before d → CallsSoFar old.sizes first left before d → left ≢ 0 → first ≤ capacity old.sizes → QuantumFits old.sizes
-    → TellsQuantum a a most took is_damage mid new inner d after → most ≤ mid.sizes.quantum / 4 + 3 → inner ≡ Err e → IsErrAnd result (λ (x : Broken). x ≡ e) → TakesAll a old new result before after
-took_less {most} {old = old} {mid} {before = before} {d} {after} first left timed so_far calls some within fits told few was failed = record {
+    {result : Result Unit Broken} (weight first left : ℕ) → IsTimed d → MergesGoOn a old mid before d → CallsSoFar old.sizes first left before d →
+    left ≢ 0 → first ≤ weight → QuantumFits old.sizes
+    → TellsQuantum a a most took is_damage mid new inner d after → most ≤ mid.sizes.quantum / 4 + 3 → inner ≡ Err e → IsErrAnd result
+    (λ (x : Broken). x ≡ e) → TakesAll a weight old new result before after
+took_less {most} {old = old} {mid} {before = before} {d} {after} weight first left timed so_far calls some within fits told few was failed = record {
   keeps = left_standing after so_far told.stands;
   ends = λ tree honest over. ends_then was failed (λ other. let got = told.lists tree (honest_still so_far.effect honest) (so_far.stands tree honest over) other in (got.0, got.1));
   goes_on = on_failed _ (is_err failed);
   effect =
-      affects_counted (calls_failed old.sizes first left most before d after calls some told.effect.calls (quantum_few old.sizes mid.sizes most so_far.sizes fits few).1 within)
+      affects_counted (calls_failed old.sizes weight first left most before d after calls some told.effect.calls
+      (quantum_few old.sizes mid.sizes most so_far.sizes fits few).1 within)
       (goes_then timed so_far told.effect);
   faults = told_then so_far.calm was failed told.faults;
 }

@@ -37,17 +37,21 @@ CallsFew most old new = new.clock ≤ old.clock + most
 abbrev pub quantum_calls : Sizes → ℕ
 quantum_calls sizes = sizes.quantum / 4 + 3
 
--- Those of a merge that goes on to its end: one for three bytes that it takes, which are no more than the capacity, and those of one quantum more.
-abbrev pub taking_calls : Sizes → ℕ
-taking_calls sizes = capacity sizes / 3 + quantum_calls sizes
+-- Those of a merge that goes on to its end and takes so many bytes: one for three of them, and those of one quantum more.
+abbrev pub taking_calls : Sizes → ℕ → ℕ
+taking_calls sizes weight = weight / 3 + quantum_calls sizes
 
 -- and those of its swap, which are nine
-abbrev pub merge_calls : Sizes → ℕ
-merge_calls sizes = taking_calls sizes + 9
+abbrev pub merge_calls : Sizes → ℕ → ℕ
+merge_calls sizes weight = taking_calls sizes weight + 9
 
--- those of settling: of a deep merge, and twice of a pass and of the deep merge that follows
-abbrev pub settling_calls : Sizes → ℕ
-settling_calls sizes = 5 * merge_calls sizes
+-- Those of settling what weighs so much: of a deep merge, and twice of a pass and of the deep merge that follows.
+abbrev pub settling_calls : Sizes → ℕ → ℕ
+settling_calls sizes weight = 5 * merge_calls sizes weight
+
+-- how much components and tables weigh that are settled; none of its merges takes more
+abbrev pub settling_weight : RunsState → LogState → ℕ
+settling_weight runs log = components_of runs.catalogue + weight_of_tables log
 
 -- ---- merges that go on
 
@@ -72,12 +76,12 @@ pub record MergesGoOn (a : Entries) (old new : RunsState) (before after : DiskSt
   pub effect : Affects anywhere (file_length old.sizes) calls before after
   pub calm : after.faults ≡ before.faults
 
--- What going on with a merge tells until it has taken all: over each tree that stood, which stands whatever is answered.
-pub record TakesAll (a : Entries) (runs runs' : RunsState) (result : Result Unit Broken) (old new : DiskState) : Type 0 where
+-- What going on with a merge tells until it has taken all of so many bytes: over each tree that stood, which stands whatever is answered.
+pub record TakesAll (a : Entries) (weight : ℕ) (runs runs' : RunsState) (result : Result Unit Broken) (old new : DiskState) : Type 0 where
   pub keeps : (tree : Tree) → IsTrue old.is_honest → StandOver runs tree a old → StandsOn runs.sizes tree new × LeavesOnly old new (HoldsTree runs.sizes tree)
   pub ends : (tree : Tree) → IsTrue old.is_honest → StandOver runs tree a old → result ≢ Err Fault → result ≡ Ok tt
   pub goes_on : OnOk result (MergesGoOn a runs runs' old new)
-  pub effect : Affects anywhere (file_length runs.sizes) (taking_calls runs.sizes) old new
+  pub effect : Affects anywhere (file_length runs.sizes) (taking_calls runs.sizes weight) old new
   pub faults : TellsFaultsBy (Err Fault) result old new
 
 -- ---- steps of settling
@@ -136,7 +140,7 @@ pub record SettlesOn (runs runs' : RunsState) (log log' : LogState) (old new : D
 -- What a step of settling tells, which takes so many merges and commits at most: what it leaves, whatever it answers; what it reaches; and that on an
 -- honest disk which shows a map nothing but a fault of the disk keeps it from being done.
 pub record Settles (most : ℕ) (runs runs' : RunsState) (log log' : LogState) (result : Result Unit Broken) (old new : DiskState) : Type 0 where
-  pub leaves : LeavesMaps (most * merge_calls runs.sizes) runs log old new
+  pub leaves : LeavesMaps (most * merge_calls runs.sizes (settling_weight runs log)) runs log old new
   pub on : OnOk result (SettlesOn runs runs' log log' old new)
   pub ends : (pairs : List (Key × Value)) → IsTrue old.is_honest → ShowsMap runs log pairs old → result ≢ Err Fault → result ≡ Ok tt
   pub version : OnOk result (runs'.catalogue.version ≤ runs.catalogue.version + most)

@@ -15,7 +15,7 @@ pub(crate) fn take_deep<D: Disk>(disk: &mut D, runs: &mut Runs, a: &Table) -> Re
     requires length { IsTrue (D.state disk.old).tells_bytes → length (D.state disk.old).bytes ≡ file_length runs.old.sizes }
     requires running { AreRunning (D.state disk.old).is_honest (D.state disk.old).bytes runs.old }
     requires fits { Fits runs.old a.now.entries }
-    ensures takes { TakesAll a.now.entries runs.old runs.new result (D.state disk.old) (D.state disk.new) }
+    ensures takes { TakesAll a.now.entries (left_for_deep runs.old.deep) runs.old runs.new result (D.state disk.old) (D.state disk.new) }
     ensures done { OnOk result (IsTrue (is_some runs.new.deep) × (left_for_deep runs.new.deep ≡ 0)) }
     ensures pass { OnOk result (runs.new.pass ≡ runs.old.pass) }
 {
@@ -31,7 +31,8 @@ pub(crate) fn take_pass<D: Disk>(disk: &mut D, runs: &mut Runs, a: &Table) -> Re
     requires length { IsTrue (D.state disk.old).tells_bytes → length (D.state disk.old).bytes ≡ file_length runs.old.sizes }
     requires running { AreRunning (D.state disk.old).is_honest (D.state disk.old).bytes runs.old }
     requires fits { Fits runs.old a.now.entries }
-    ensures takes { TakesAll a.now.entries runs.old runs.new result (D.state disk.old) (D.state disk.new) }
+    ensures takes { TakesAll a.now.entries (left_for_pass runs.old.pass a.now.entries) runs.old runs.new result (D.state disk.old)
+        (D.state disk.new) }
     ensures done { OnOk result (IsTrue (is_some runs.new.pass) × (left_for_pass runs.new.pass a.now.entries ≡ 0)) }
     ensures deep { OnOk result (runs.new.deep ≡ runs.old.deep) }
 {

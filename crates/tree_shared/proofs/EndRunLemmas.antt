@@ -24,7 +24,8 @@ use Rattle.tree_shared.proofs.SeatLemmas.{caller_turns, is_a_caller}
 
 module _ {D : Type 0} (state : D → DiskState) (lines : List Line) (workers turns : ℕ) (start end : CoreState D) (lock : Lock (CoreState D)) (c d : Caller (CoreState D))
     (fresh : IsFresh lines start) (runnable : AreRunnable lines) (few : callers + workers ≤ seats) (opened : IsOpened start lock c) (ends : Ends state lines turns lock (callers - 1 + workers) c d)
-    (came : CameSince state lock.start end) (known : IsKnown facts_of (CameSince state) lock.start end d.me.0) (keeps : IsCore start.held (state start.disk)) where
+    (came : CameSince state lock.start end) (known : IsKnown facts_of (CameSince state) lock.start end d.me.0)
+    (keeps : IsCore start.held (state start.disk)) where
   told : (i : ℕ) → i < callers + workers → HasEnded lines turns (is_some end.held.book.stopped) i end
   told i below = ended_in_value state lines turns lock i d end known (told_of state lines turns lock (callers - 1 + workers) i start c d opened ends (omega (arith, below)))
 

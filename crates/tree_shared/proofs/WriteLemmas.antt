@@ -16,8 +16,8 @@ use Rattle.tree_core.specs.Answers.{reply_to_write}
 use Rattle.tree_core.specs.Calls.{Admits, CameSince, Pays}
 use Rattle.tree_core.specs.Causes.{AdmitsBecause, PaysBecause}
 use Rattle.tree_core.specs.Core.{CoreState}
-use Rattle.tree_core.specs.declared.answers.Admission.{Admission}
-use Rattle.tree_core.specs.declared.answers.Admission.TheVariants as admission
+use Rattle.tree_core.specs.Ruling.{Ruling}
+use Rattle.tree_core.specs.Ruling as ruling
 use Rattle.tree_core.specs.declared.answers.Payment.{Payment}
 use Rattle.tree_core.specs.declared.answers.Payment.TheVariants as payment
 use Rattle.tree_core.specs.Notes.{Settles, with_payment}
@@ -26,10 +26,11 @@ use Rattle.tree_shared.proofs.SeatLemmas.{idle_still, room_left, room_same}
 use Rattle.tree_shared.proofs.NoteLemmas.{After, after, even_halted, even_still}
 
 -- an admission gives no rows
-gives_few : (answer : Admission) (n : ℕ) → length (rows_given (reply_to_write answer)) ≤ n
+gives_few : (answer : Ruling) (n : ℕ) → length (rows_given (reply_to_write answer)) ≤ n
 gives_few answer n = grind (arith, common_steps, nat_tests)
 
-module _ {D : Type 0} {state : D → DiskState} {c d : Caller (CoreState D)} {op : Op} {answer : Admission} {b w : CoreState D} (below : c.number < callers) (turn : TookTurn facts_of (CameSince state) c b w d)
+module _ {D : Type 0} {state : D → DiskState} {c d : Caller (CoreState D)} {op : Op} {answer : Ruling} {b w : CoreState D}
+    (below : c.number < callers) (turn : TookTurn facts_of (CameSince state) c b w d)
     (admits : Admits state c.number op answer b w) where
   leaves : (entries rows : ℕ) (p : Part) → HasRoomFor (entries + 1) (rows + rows_of op) p → p.turns ≡ 0 → Eases p ((facts_of b).part c.number)
       → HasRoomFor entries rows ((facts_of w).part c.number) × (((facts_of w).part c.number).turns ≡ 0)
@@ -42,14 +43,19 @@ module _ {D : Type 0} {state : D → DiskState} {c d : Caller (CoreState D)} {op
   admit_owes entries rows = after turn (IsFree (entries + 1) (rows + rows_of op)) (IsOwing entries rows) (λ p free eases. leaves entries rows p free.0 free.1 eases)
 
   -- one that was refused leaves no debt, or a store that is stopped
-  refused : (a : Admission) → (a ≡ admission.Admitted → ⊥) → AdmitsBecause a c.number op b.held w.held (state b.disk) (state w.disk) → (p : Part) → Eases p ((facts_of b).part c.number) → IsEven c.me.0.halted p
+  refused : (a : Ruling) → (a ≡ ruling.Admitted → ⊥) → AdmitsBecause a c.number op b.held w.held (state b.disk) (state w.disk) → (p : Part) → Eases p
+      ((facts_of b).part c.number) → IsEven c.me.0.halted p
       → After c b w IsEven
-  refused admission.Admitted not because p eases even = absurd (not refl)
-  refused (admission.Full charge) not because p eases even = even_still c b w p even eases (ap (λ (h : Held). h.gears) because.3)
-  refused (admission.Fault begun) not because p eases even = even_halted c b w (ap is_some because.0.stopped)
-  refused (admission.Stopped why) not because p eases even = even_halted c b w (ap is_some (ap (λ (h : Held). h.book.stopped) because.1 ∙ because.0))
+  refused ruling.Admitted not because p eases even = absurd (not refl)
+  refused (ruling.Kept found) not because p eases even = even_still c b w p even eases (ap (λ (h : Held). h.gears) because.4)
+  refused (ruling.Full charge) not because p eases even = even_still c b w p even eases (ap (λ (h : Held). h.gears) because.3)
+  refused ruling.ReadFault not because p eases even = even_still c b w p even eases (ap (λ (h : Held). h.gears) because.3)
+  refused (ruling.Damaged page) not because p eases even = even_still c b w p even eases (ap (λ (h : Held). h.gears) because.4)
+  refused (ruling.Fault begun) not because p eases even = even_halted c b w (ap is_some because.0.stopped)
+  refused (ruling.Stopped why) not because p eases even = even_halted c b w (ap is_some (ap (λ (h : Held). h.book.stopped) because.1 ∙ because.0))
 
-  pub admit_frees : (answer ≡ admission.Admitted → ⊥) → (entries rows : ℕ) → KnowsOf (IsFree (entries + 1) (rows + rows_of op)) c → KnowsOf (IsFree entries rows) d
+  pub admit_frees : (answer ≡ ruling.Admitted → ⊥) → (entries rows : ℕ) → KnowsOf (IsFree (entries + 1) (rows + rows_of op)) c → KnowsOf
+      (IsFree entries rows) d
   admit_frees not entries rows = after turn (IsFree (entries + 1) (rows + rows_of op)) (IsFree entries rows)
       (λ p free eases. let left = leaves entries rows p free.0 free.1 eases in (left.0, left.1, refused answer not admits.cause p eases free.2))
 

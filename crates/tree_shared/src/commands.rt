@@ -65,22 +65,25 @@ fn write<R: Wait, D: Disk + Drop, G: Gate>(
     caller: &mut Caller<Core<D>>,
     op: &Op,
     gate: &G,
-) -> ShortReply
+) -> Told
     requires comes { Comes lock.now (IsFree 1 0) caller.old }
     requires write { IsTrue (is_write op.now) }
     requires tails { TailsFit op.now }
-    ensures { Answered D.state op.now (as_reply result) caller.old caller.new }
+    ensures { IsAnswered D.state op.now result caller.old caller.new }
 {
     match admit(rt, lock, caller, op) {
         Admission::Admitted => {
             gate.at(caller.number(), Point::Admitted);
             pay_off(rt, lock, caller, gate);
-            ShortReply::Done
+            Told::Short(ShortReply::Done)
         }
-        Admission::Full(charge) => ShortReply::Full(charge),
-        Admission::Fault { begun: true } => ShortReply::FaultUnsure,
-        Admission::Fault { begun: false } => ShortReply::FaultLost,
-        Admission::Stopped(why) => ShortReply::Stopped(why),
+        Admission::Kept => Told::Kept,
+        Admission::Full(charge) => Told::Short(ShortReply::Full(charge)),
+        Admission::ReadFault => Told::Short(ShortReply::Fault),
+        Admission::Damaged(page) => Told::Short(ShortReply::Damaged(page)),
+        Admission::Fault { begun: true } => Told::Short(ShortReply::FaultUnsure),
+        Admission::Fault { begun: false } => Told::Short(ShortReply::FaultLost),
+        Admission::Stopped(why) => Told::Short(ShortReply::Stopped(why)),
     }
 }
 
@@ -202,9 +205,9 @@ fn perform<R: Wait, D: Disk + Drop, G: Gate>(
     ensures { IsAnswered D.state op.now result caller.old caller.new }
 {
     match op {
-        Op::Put(..) | Op::Add(..) | Op::Tail(..) | Op::Del(_) => Told::Short(write(
-            rt, lock, caller, op, gate,
-        )),
+        Op::Put(..) | Op::Add(..) | Op::Tail(..) | Op::Del(_) | Op::New(..) | Op::Swap(..) => {
+            write(rt, lock, caller, op, gate)
+        }
         Op::Get(key) => Told::Short(look_up(rt, lock, caller, key)),
         Op::Hold(low, high) => Told::Short(hold_range(rt, alloc, lock, caller, low, high)),
         Op::Next(n) => next(rt, lock, caller, *n),
@@ -213,8 +216,9 @@ fn perform<R: Wait, D: Disk + Drop, G: Gate>(
     }
 }
 
-/// Does a command of the caller to its end, one step in each hold of the lock, and answers its reply, of rows only how many they are. A write is
-/// admitted and then paid for until nothing is owed; a work ends at its first turn that finds nothing to do.
+/// Does a command of the caller to its end, one step in each hold of the lock, and answers its reply, of rows only how many they are, and of a value
+/// that was kept only that it was. A write is admitted, where it looks first in one hold with its lookup, and then paid for until nothing is owed; a
+/// work ends at its first turn that finds nothing to do.
 pub fn do_one<R: Wait, D: Disk + Drop, G: Gate>(
     rt: &R,
     alloc: Global,

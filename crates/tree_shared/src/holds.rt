@@ -1,16 +1,18 @@
 //! One hold of the lock each: the value is taken, one call of the core is made, and the value is given back.
-ghost use Rattle.std.specs.Prelude.{◌≡◌, ◌≢◌, ◌+◌, ◌<◌, ◌≤◌, ℕ, List, [], ◌∷◌, Some, IsTrue, true};
+ghost use Rattle.std.specs.Prelude.{◌≡◌, ◌≢◌, ◌+◌, ◌<◌, ◌≤◌, ℕ, List, [], ◌∷◌, Option, Some, IsTrue, true};
 ghost use Rattle.blsm_model.specs.Format.{callers, most_rows, most_turns};
 ghost use Rattle.blsm_model.specs.Scripts.{rows_of};
 ghost use Rattle.blsm_model.specs.Stored.{as_reply};
 ghost use Rattle.blsm_model.specs.declared.op.Op.TheVariants as op;
 ghost use Rattle.blsm_model.specs.declared.row.Row.{Row};
+ghost use Rattle.blsm_model.specs.declared.row.Value.{Value};
 ghost use Rattle.seat_book.specs.declared.turned.Turned.TheVariants.{Worked, Idle};
 ghost use Rattle.tree_machine.specs.Machine.{seats, turn_more};
 ghost use Rattle.blsm_model.specs.Legal.{is_write, TailsFit};
 ghost use Rattle.turn_lock.specs.Tallies.{IsOf};
 ghost use Rattle.tree_core.specs.Answers.{reply_to_drop, reply_to_get, reply_to_hold, reply_to_next, reply_to_write};
 ghost use Rattle.tree_core.specs.Core.{CoreState};
+ghost use Rattle.tree_core.specs.Ruling.{ruled_by};
 ghost use Rattle.tree_core.specs.Scanned.{Counts, scanned_by};
 ghost use Rattle.tree_core.specs.declared.answers.Admission.TheVariants as admission;
 ghost use Rattle.tree_core.specs.declared.answers.Payment.TheVariants as payment;
@@ -25,7 +27,7 @@ use std::sync::Wait;
 use tree_core::{Admission, Core, Holding, Lookup, Payment, Release, Scan};
 use turn_lock::{Caller, TurnLock};
 
-// A write is admitted or refused.
+// A write is admitted or refused, where it looks first by what it finds in the same hold.
 pub(crate) fn admit<R: Wait, D: Disk + Drop>(
     rt: &R,
     lock: &TurnLock<Core<D>>,
@@ -35,7 +37,8 @@ pub(crate) fn admit<R: Wait, D: Disk + Drop>(
     requires comes { Comes lock.now (IsFree 1 0) caller.old }
     requires write { IsTrue (is_write op.now) }
     requires tails { TailsFit op.now }
-    ensures did { DidOn D.state caller.old (record { seat = caller.old.number; op = op.now; reply = reply_to_write result } ∷ []) caller.new }
+    ensures did { (found : Option Value) × DidOn D.state caller.old (record
+        { seat = caller.old.number; op = op.now; reply = reply_to_write (ruled_by result found) } ∷ []) caller.new }
     ensures owing { (entries rows : ℕ) → KnowsOf (IsFree (entries + 1) (rows + rows_of op.now)) caller.old → KnowsOf (IsOwing entries rows) caller.new }
     ensures free { result ≢ admission.Admitted → (entries rows : ℕ) → KnowsOf (IsFree (entries + 1) (rows + rows_of op.now)) caller.old
         → KnowsOf (IsFree entries rows) caller.new }

@@ -48,7 +48,8 @@ returns-in_ok-try_seed-in-Trial-clause-cause g c = λ words accepted asked.
     ((accepted, rw c.in-Trial.is at asked), refl, refl, _, c.in_ok-try_seed-in-Trial.ensures)
 
 pub returns-in_ok-try_seed-in-Trial-clause-made : goal.returns-in_ok-try_seed-in-Trial-clause-made
-returns-in_ok-try_seed-in-Trial-clause-made g c = history_keys c.in-Trial.seed c.in-Trial.count _ c.in_ok-try_seed-in-Trial.ensures.printed.printed.of_script
+returns-in_ok-try_seed-in-Trial-clause-made g c = history_keys c.in-Trial.seed c.in-Trial.count _
+    c.in_ok-try_seed-in-Trial.ensures.printed.printed.of_script
 
 pub serve-requires-clause-some : goal.serve-requires-clause-some
 serve-requires-clause-some g c = λ κs lives. (rw c.in-Serve.is at c.requires.range).0

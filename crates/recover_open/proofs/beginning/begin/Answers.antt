@@ -1,3 +1,5 @@
+use Rattle.std.proofs.Common.{ap}
+use Rattle.tree_log.specs.Log.{weight_of_tables}
 use Rattle.tree_settling.proofs.LightLemmas.{all_before_it}
 use Rattle.recover_open.proofs.BeginLemmas.{has_begun, begins_in}
 use Rattle.recover_open.proofs.beginning.begin.Goals as goal
@@ -5,8 +7,13 @@ use Rattle.recover_open.proofs.beginning.begin.Goals as goal
 pub returns-clause-numbers : goal.returns-clause-numbers
 returns-clause-numbers c =
     let found = c.requires.found in
-    has_begun all_before_it c.args.found c.args.guides found.0 found.1 c.open-runs.result c.open-log.result found.2 c.open-runs.ensures.opened c.open-log.ensures
+    has_begun all_before_it c.args.found c.args.found.guides found.0 found.1 c.open-runs.result c.open-log.result found.2 c.open-runs.ensures.opened
+    c.open-log.ensures
 
 pub returns-clause-lists : goal.returns-clause-lists
-returns-clause-lists c = λ file holds guided.
-    begins_in c.args.found c.args.guides file c.open-runs.result c.open-log.result c.requires.found.2.roles holds c.open-runs.ensures.opened c.open-log.ensures c.open-runs.ensures.lists guided
+returns-clause-lists c = λ file holds.
+    begins_in c.args.found c.args.found.guides file c.open-runs.result c.open-log.result c.requires.found.2.roles holds c.open-runs.ensures.opened
+    c.open-log.ensures c.open-runs.ensures.lists (holds.guided c.requires.guides)
+
+pub returns-clause-tables : goal.returns-clause-tables
+returns-clause-tables c = ap weight_of_tables c.open-log.ensures

@@ -5,8 +5,7 @@ use Rattle.disk_trait.proofs.MomentLemmas.{leaves_only_start}
 use Rattle.blsm_model.specs.Geometry.{file_length}
 use Rattle.tree_runs.specs.Runs.{RunsState}
 use Rattle.tree_reading.specs.declared.found.Unreadable.{Unreadable}
-use Rattle.tree_settling.specs.Settling.{CallsFew}
-use Rattle.recover_open.specs.Opening.{KeepsMapOf, most_opening_calls}
+use Rattle.recover_open.specs.Opening.{KeepsMapOf, TakesFew}
 use Rattle.recover_open.proofs.CoreLemmas.{are_settled, charge_opened, keeps_start, opens_as}
 use Rattle.recover_open.proofs.opening.open_store.Goals as goal
 
@@ -45,10 +44,12 @@ returns-in-Ok-open_tree-clause-faults g c =
 pub returns-in-Ok-open_tree-clause-long : goal.returns-in-Ok-open_tree-clause-long
 returns-in-Ok-open_tree-clause-long g c = λ tells. c.in-Ok-open_tree.ensures.long tells ∙ ap (λ (r : RunsState). file_length r.sizes) (sym c.assemble.ensures.runs)
 
-pub returns-in-Ok-open_tree-clause-calls : goal.returns-in-Ok-open_tree-clause-calls
-returns-in-Ok-open_tree-clause-calls g c =
-    subst (λ (d : g.row.D.Denot). CallsFew (most_opening_calls c.assemble.result.held.runs.sizes) (g.D.Disk.state c.args.disk) (g.D.Disk.state d)) (sym c.assemble.ensures.disk)
-    (subst (λ (r : RunsState). CallsFew (most_opening_calls r.sizes) (g.D.Disk.state c.args.disk) (g.D.Disk.state c.open_tree.new.disk)) (sym c.assemble.ensures.runs) c.in-Ok-open_tree.ensures.calls)
+pub returns-in-Ok-open_tree-clause-takes : goal.returns-in-Ok-open_tree-clause-takes
+returns-in-Ok-open_tree-clause-takes g c =
+    subst (λ (d : g.row.D.Denot). TakesFew c.assemble.result.held.runs.sizes (g.D.Disk.state c.args.disk) (g.D.Disk.state d))
+    (sym c.assemble.ensures.disk)
+    (subst (λ (r : RunsState). TakesFew r.sizes (g.D.Disk.state c.args.disk) (g.D.Disk.state c.open_tree.new.disk)) (sym c.assemble.ensures.runs)
+    c.in-Ok-open_tree.ensures.takes)
 
 pub returns-in-Ok-open_tree-clause-charge : goal.returns-in-Ok-open_tree-clause-charge
 returns-in-Ok-open_tree-clause-charge g c = charge_opened _ _ c.assemble.result.held c.assemble.ensures.opened

@@ -1,10 +1,28 @@
-use Rattle.std.proofs.Common.{sym, subst, IsTrue, List, ℕ}
+use Rattle.std.proofs.Common.{◌≤◌, sym, subst, IsTrue, List, ℕ}
 use Rattle.std.specs.Prelude.{IfErr, IfOk}
+use Rattle.blsm_model.specs.Geometry.{capacity}
+use Rattle.tree_settling.proofs.LightLemmas.{all_before_it}
+use Rattle.recover_open.proofs.BeginLemmas.{found_full}
 use Rattle.tree_file.proofs.OneTree.{one_map, one_size}
 use Rattle.tree_reading.specs.Reading.{HoldsFound, IsWhy}
 use Rattle.tree_settling.specs.Settling.{CallsFew}
-use Rattle.recover_open.specs.Opening.{StandsEmpty, TellsSettled, most_opening_calls}
-use Rattle.recover_open.proofs.TreeLemmas.{few_as, found_reads, long_as, opening_few, ready_as, stands_as, keeps_read, keeps_settled, keeps_same, spares_all, spares_on, stays_on, faults_on}
+use Rattle.recover_open.specs.Opening.{StandsEmpty, TellsSettled, most_opening_calls, weight_found}
+use Rattle.recover_open.proofs.TreeLemmas.{
+  found_reads,
+  long_as,
+  opening_few,
+  opening_takes,
+  ready_as,
+  stands_as,
+  keeps_read,
+  keeps_settled,
+  keeps_same,
+  spares_all,
+  spares_on,
+  stays_on,
+  faults_on,
+  takes_as,
+}
 use Rattle.recover_open.proofs.opening.open_tree.Goals as goal
 
 pub returns-in_err-found-clause-keeps : goal.returns-in_err-found-clause-keeps
@@ -68,13 +86,23 @@ pub returns-clause-spares : goal.returns-clause-spares
 returns-clause-spares g c = λ honest.
     spares_on (g.D.Disk.state c.settle_found.new.disk) c.settle_found.result (g.met.D.Disk.timed c.read_synced.new.disk) (c.read_synced.ensures.kept honest) (told g c honest (still g c honest)).spares
 
+-- all that was found is within the capacity
+full : (g : _) (c : goal.After-settle_found g) → weight_found c.in_ok-found.found ≤ capacity c.in_ok-found.found.geometry
+full g c = let found = c.in_ok-found.ensures.found in found_full all_before_it c.in_ok-found.found found.0 found.1 found.2
+
 -- what is called from the start on
 called : (g : _) (c : goal.After-settle_found g) → CallsFew (most_opening_calls c.in_ok-found.found.geometry) (g.D.Disk.state c.args.disk.now) (g.D.Disk.state c.settle_found.new.disk)
-called g c = opening_few _ c.in_ok-found.found.geometry c.in_ok-found.ensures.calls c.settle_found.ensures.effect.calls
+called g c = opening_few _ c.in_ok-found.found.geometry (weight_found c.in_ok-found.found) c.in_ok-found.ensures.calls
+    c.settle_found.ensures.effect.calls (full g c)
 
-pub returns-clause-calls : goal.returns-clause-calls
-returns-clause-calls g c =
-    few_as c.settle_found.result c.in_ok-found.found.geometry _ (g.D.Disk.state c.args.disk.now) (g.D.Disk.state c.settle_found.new.disk) (called g c) c.settle_found.ensures.ready
+pub returns-clause-takes : goal.returns-clause-takes
+returns-clause-takes g c =
+    let f = c.in_ok-found.found in
+    takes_as c.settle_found.result f.geometry f.catalogue.version (g.D.Disk.state c.args.disk.now) (g.D.Disk.state c.settle_found.new.disk)
+    (opening_takes f (g.D.Disk.state c.args.disk.now) (g.D.Disk.state c.read_synced.new.disk) (g.D.Disk.state c.settle_found.new.disk)
+    c.in_ok-found.ensures.few c.settle_found.ensures.effect.calls
+    (called g c) (full g c) c.in_ok-found.ensures.found.2.head (λ honest. c.in_ok-found.ensures.holds honest))
+    c.settle_found.ensures.ready
 
 pub returns-clause-effect : goal.returns-clause-effect
 returns-clause-effect g c =

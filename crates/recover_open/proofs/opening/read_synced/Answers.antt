@@ -1,6 +1,18 @@
 use Rattle.std.proofs.Common.{◌∙◌, IsTrue, sym, subst}
 use Rattle.disk_trait.proofs.ReadLemmas.{only_reads_same}
-use Rattle.recover_open.proofs.OpeningLemmas.{reads_inside, sync_inside, synced_few, synced_inside, synced_kept, once_synced, still_long, still_only, was_long, when_done}
+use Rattle.recover_open.proofs.OpeningLemmas.{
+  reads_inside,
+  sync_inside,
+  synced_few,
+  synced_inside,
+  synced_read,
+  synced_kept,
+  once_synced,
+  still_long,
+  still_only,
+  was_long,
+  when_done,
+}
 use Rattle.recover_open.proofs.opening.read_synced.Goals as goal
 
 pub returns-clause-length : goal.returns-clause-length
@@ -43,6 +55,9 @@ returns-clause-effect g c =
 
 pub returns-clause-calls : goal.returns-clause-calls
 returns-clause-calls g c = synced_few (g.D.Disk.state c.read_tree.new.disk) c.read_tree.result c.sync.ensures.passes c.read_tree.ensures.effect
+
+pub returns-clause-few : goal.returns-clause-few
+returns-clause-few g c = synced_read (g.D.Disk.state c.read_tree.new.disk) c.read_tree.result c.sync.ensures.passes c.read_tree.ensures.calls
 
 pub returns-in_default-clause-effect : goal.returns-in_default-clause-effect
 returns-in_default-clause-effect g c =

@@ -16,6 +16,7 @@ use Rattle.page_space.specs.Space.{SpaceState, HasFree}
 use Rattle.page_file.specs.Entry.{AreRising}
 use Rattle.record_delta.specs.Records.{weight}
 use Rattle.run_writer.specs.Writer.{WriterState, has_place, HasPushed}
+use Rattle.run_writer.proofs.GrowthLemmas.{room_for_more}
 use Rattle.run_tests.proofs.RiseLemmas.{front_rises}
 use Rattle.run_tests.proofs.writers.write_all.Goals as goal
 
@@ -34,7 +35,7 @@ pub push-requires-clause-room : goal.push-requires-clause-room
 push-requires-clause-room g c = λ none.
     let inv = c.loop-entry.invariant in
     let free : HasFree c.loop-entry.space = c.has_free.ensures.0 c.if-not-has_free.false in
-    omega (arith, c.a_run_has_room.ensures.room _ _ _ c.loop-entry.space c.loop-entry.writer _ _ _ inv.pushed c.pages-pages.ensures.shape free, inv.pages)
+    omega (arith, room_for_more _ _ _ c.loop-entry.space c.loop-entry.writer _ _ _ inv.pushed c.pages-pages.ensures.shape free, inv.pages)
 
 pub loop-entry-preserved : goal.loop-entry-preserved
 loop-entry-preserved g c =

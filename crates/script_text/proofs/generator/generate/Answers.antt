@@ -8,9 +8,10 @@ use Rattle.script_text.proofs.generator.generate.Goals as goal
 pub loop-generator-preserved : goal.loop-generator-preserved
 loop-generator-preserved c =
     let lines = c.loop-generator.lines.items in
-    let pushed = c.in_ok-push.ensures.items in
+    let pushed = c.push_reserved.ensures.items in
     record {
       few = omega arith;
+      room = omega (arith, c.push_reserved.ensures.capacity, c.loop-generator.invariant.room);
       whole = rw (pushed, c.make_line.ensures.state) (made_more lines (generated c.args.seed c.args.count) c.make_line.result c.loop-generator.generator.state _ (c.args.count - length lines) (omega (arith, length-append {A = Line})) c.make_line.ensures.line c.loop-generator.invariant.whole);
     }
 

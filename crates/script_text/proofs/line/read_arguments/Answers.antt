@@ -1,4 +1,4 @@
-use Rattle.script_text.proofs.ReadLemmas.{reads_nothing, no_put, no_add, no_hold, no_next, no_tail, no_work}
+use Rattle.script_text.proofs.ReadLemmas.{reads_nothing, no_put, no_add, no_hold, no_new, no_next, no_swap, no_tail, no_work}
 use Rattle.script_text.proofs.line.read_arguments.Goals as goal
 
 pub returns-in_err-key-in-Put : goal.returns-in_err-key-in-Put
@@ -12,6 +12,14 @@ returns-in_err-key-in-Add c =
 pub returns-in_err-key-in-Tail : goal.returns-in_err-key-in-Tail
 returns-in_err-key-in-Tail c =
     rw c.in-Tail.is (reads_nothing c.from_residual-in_err-key-in-Tail.ensures (no_tail c.args.bytes.now c.in_err-key-in-Tail.ensures))
+
+pub returns-in_err-key-in-New : goal.returns-in_err-key-in-New
+returns-in_err-key-in-New c =
+    rw c.in-New.is (reads_nothing c.from_residual-in_err-key-in-New.ensures (no_new c.args.bytes.now c.in_err-key-in-New.ensures))
+
+pub returns-in_err-key-in-Swap : goal.returns-in_err-key-in-Swap
+returns-in_err-key-in-Swap c =
+    rw c.in-Swap.is (reads_nothing c.from_residual-in_err-key-in-Swap.ensures (no_swap c.args.bytes.now c.in_err-key-in-Swap.ensures))
 
 pub returns-in_err-low-in-Hold : goal.returns-in_err-low-in-Hold
 returns-in_err-low-in-Hold c =

@@ -13,3 +13,11 @@ returns-in-Tail c = λ writes tells. rw c.in-Tail.is (tells_more c.args.flags.no
 
 pub returns-in-Del : goal.returns-in-Del
 returns-in-Del c = λ writes tells. rw c.in-Del.is (tells_more c.args.flags.now writes (write.Del c.in-Del.key) c.place_of-in-Del.result c.place_of-in-Del.ensures.within c.place_of-in-Del.ensures.is tells)
+
+pub returns-in-New : goal.returns-in-New
+returns-in-New c = λ writes tells. rw c.in-New.is (tells_more c.args.flags.now writes (write.Put c.in-New.key c.in-New.field-1)
+    c.place_of-in-New.result c.place_of-in-New.ensures.within c.place_of-in-New.ensures.is tells)
+
+pub returns-in-Swap : goal.returns-in-Swap
+returns-in-Swap c = λ writes tells. rw c.in-Swap.is (tells_more c.args.flags.now writes (write.Put c.in-Swap.key c.in-Swap.field-2)
+    c.place_of-in-Swap.result c.place_of-in-Swap.ensures.within c.place_of-in-Swap.ensures.is tells)

@@ -62,7 +62,7 @@ returns-clause-served g c = λ honest.
     (record {
       opens = c.in-Ok.ensures.stands honest;
       goes_on = c.in-Ok.ensures.effect.effect.goes_on;
-      calls = c.in-Ok.ensures.calls;
+      takes = c.in-Ok.ensures.takes;
       calm = calm_opening (state c.args.disk) (state old.disk) c.in-Ok.ensures.faults;
       ran = ap (λ (b : BookState). b.stopped) opened.book;
       run = by_lines state c.args.lines.now annals faults old new opened c.kept.ensures.core begins runs;

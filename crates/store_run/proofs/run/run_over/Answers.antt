@@ -33,7 +33,8 @@ run_all-requires-clause-fresh g c = λ κs lives.
 
 -- all that is said of it
 over : (g : _) (c : After-finish-disk g)
-    → RanOver g.D.Disk.state c.args.room c.args.lines.now c.args.workers c.args.turns (run_of c.finish-disk.result.1) c.args.disk c.finish-disk.result.0
+    → RanOver g.D.Disk.state c.args.room c.args.lines.now c.args.workers c.args.turns (run_of c.finish-disk.result.1) c.args.disk
+    c.finish-disk.result.0
 over g c =
     let state = g.D.Disk.state in
     let old = c.in-Ok.core in
@@ -49,7 +50,7 @@ over g c =
       holds = c.in-Ok.ensures.none;
       weighs = c.in-Ok.ensures.charge;
       long = c.in-Ok.ensures.long;
-      few = c.in-Ok.ensures.calls;
+      takes = c.in-Ok.ensures.takes;
       inside = c.in-Ok.ensures.effect;
       calm = calm_opening (state c.args.disk) (state old.disk) c.in-Ok.ensures.faults;
       stands = c.in-Ok.ensures.stands;
@@ -77,7 +78,8 @@ pub returns-in-Ok-run_all-clause-headline : goal.returns-in-Ok-run_all-clause-he
 returns-in-Ok-run_all-clause-headline g c = (over g (goal.at.returns-in-Ok-run_all-clause-headline g c).After-finish-disk).headline
 
 pub returns-in-Ok-run_all-clause-ending : goal.returns-in-Ok-run_all-clause-ending
-returns-in-Ok-run_all-clause-ending g c = subst (λ d. Rattle.store_run.specs.Run.IsEnding c.finish-disk.result.1.ending (run_of c.finish-disk.result.1) (g.D.Disk.state d).faults) (sym c.finish-disk.ensures.disk) c.finish-disk.ensures.ending
+returns-in-Ok-run_all-clause-ending g c = subst (λ d. Rattle.store_run.specs.Run.IsEnding c.finish-disk.result.1.ending
+    (run_of c.finish-disk.result.1) (g.D.Disk.state d).faults) (sym c.finish-disk.ensures.disk) c.finish-disk.ensures.ending
 
 pub returns-in-Ok-run_all-clause-untouched : goal.returns-in-Ok-run_all-clause-untouched
 returns-in-Ok-run_all-clause-untouched g c = λ honest none. let opens = c.in-Ok.ensures.stands honest in absurd (none c.in-Ok.core.held.runs.sizes opens.pairs opens.reads)

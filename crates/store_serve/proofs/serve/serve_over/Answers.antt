@@ -51,13 +51,14 @@ served g c =
       holds = c.in-Ok.ensures.none;
       weighs = c.in-Ok.ensures.charge;
       long = c.in-Ok.ensures.long;
-      few = c.in-Ok.ensures.calls;
+      takes = c.in-Ok.ensures.takes;
       inside = c.in-Ok.ensures.effect;
       calm = calm_opening (state c.args.disk) (state old.disk) c.in-Ok.ensures.faults;
       stands = c.in-Ok.ensures.stands;
       kept = c.in-Ok.ensures.keeps;
     })
-    c.do_lines-closing.ensures c.leave_all.ensures (run_of c.finish-disk.result.1) (c.finish-disk.ensures.finished ∙ ap (λ (n : ℕ). run_at n c.leave_all.new.core.held) c.charge-charge.ensures) c.finish-disk.result.0
+    c.do_lines-closing.ensures c.leave_all.ensures (run_of c.finish-disk.result.1)
+    (c.finish-disk.ensures.finished ∙ ap (λ (n : ℕ). run_at n c.leave_all.new.core.held) c.charge-charge.ensures) c.finish-disk.result.0
     c.finish-disk.ensures.disk
 
 pub returns-clause-ran : goal.returns-clause-ran

@@ -39,7 +39,7 @@ pub returns-then-is_err-clause-takes : goal.returns-then-is_err-clause-takes
 returns-then-is_err-clause-takes g c = inl (err_of c.settle_deep.result (sym c.is_err.ensures.value ∙ c.if-is_err.true) c.settle_deep.ensures.kept, c.settle_deep.ensures.due (sym c.is_err.ensures.value ∙ c.if-is_err.true))
 
 pub returns-then-is_err-clause-lists : goal.returns-then-is_err-clause-lists
-returns-then-is_err-clause-lists g c = λ opening m honest stands runs may fits.
+returns-then-is_err-clause-lists g c = λ opening m honest stands runs may fits met.
     let old = c.args.held.now in
     let left = c.settle_deep.new.held in
     let before = g.D.Disk.state c.args.disk.now in
@@ -77,7 +77,7 @@ returns-then-is_err-2-clause-takes g c =
     )
 
 pub returns-then-is_err-2-clause-lists : goal.returns-then-is_err-2-clause-lists
-returns-then-is_err-2-clause-lists g c = λ opening m honest stands runs may fits.
+returns-then-is_err-2-clause-lists g c = λ opening m honest stands runs may fits met.
     let ok = sym c.is_err.ensures.value ∙ c.if-is_err.false in
     let failed = sym c.is_err-2.ensures.value ∙ c.if-is_err-2.true in
     let old = c.args.held.now in
@@ -168,7 +168,7 @@ returns-in-Ok-clause-takes g c =
     )
 
 pub returns-in-Ok-clause-lists : goal.returns-in-Ok-clause-lists
-returns-in-Ok-clause-lists g c = λ opening m honest stands runs may fits.
+returns-in-Ok-clause-lists g c = λ opening m honest stands runs may fits met.
     let ok = sym c.is_err.ensures.value ∙ c.if-is_err.false in
     let ok_then = sym c.is_err-2.ensures.value ∙ c.if-is_err-2.false in
     let old = c.args.held.now in
@@ -183,7 +183,8 @@ returns-in-Ok-clause-lists g c = λ opening m honest stands runs may fits.
     let rec = record_of c.args.write.now in
     let begins : Begins opening old m before = record { honest = honest; stands = stands; runs = runs; numbers = c.requires.runs.pace; paced = c.requires.runs.live.paced } in
     let has = settled_by c.settle_deep.result old settled before mid ok c.settle_deep.ensures.settles c.settle_deep.ensures.lists c.settle_deep.ensures.effect.goes_on.is_honest in
-    let takes : MayTake c.args.seat c.args.op.now c.args.write.now old m = record { may = may; fits = fits; writes = c.requires.write; room = c.requires.may.room } in
+    let takes : MayTake c.args.seat c.args.op.now c.args.write.now old m = record
+    { may = may; fits = fits; writes = c.requires.write; met = met; room = c.requires.may.room } in
     let then = begun_by c.settle_pass.result (total_weight (writes_of c.args.op.now)) c.weight.result settled ready begun mid last ok_then c.settle_pass.ensures.settles c.settle_pass.ensures.turns c.settle_pass.ensures.lists
     c.settle_pass.ensures.effect.goes_on.is_honest c.begin_for.ensures.begun c.weight.ensures.weight c.begin_for.ensures.lists in
     let appends : Appends key rec begun true last after = at_write (λ (k : Key) (r : Rec). Appends k r begun true last after) key c.key.result.now rec c.of_write-rec.result c.key.ensures c.of_write-rec.ensures.«record»
@@ -248,7 +249,7 @@ returns-in-Err-clause-takes g c =
     }
 
 pub returns-in-Err-clause-lists : goal.returns-in-Err-clause-lists
-returns-in-Err-clause-lists g c = λ opening m honest stands runs may fits.
+returns-in-Err-clause-lists g c = λ opening m honest stands runs may fits met.
     let ok = sym c.is_err.ensures.value ∙ c.if-is_err.false in
     let ok_then = sym c.is_err-2.ensures.value ∙ c.if-is_err-2.false in
     let old = c.args.held.now in
@@ -263,7 +264,8 @@ returns-in-Err-clause-lists g c = λ opening m honest stands runs may fits.
     let rec = record_of c.args.write.now in
     let begins : Begins opening old m before = record { honest = honest; stands = stands; runs = runs; numbers = c.requires.runs.pace; paced = c.requires.runs.live.paced } in
     let has = settled_by c.settle_deep.result old settled before mid ok c.settle_deep.ensures.settles c.settle_deep.ensures.lists c.settle_deep.ensures.effect.goes_on.is_honest in
-    let takes : MayTake c.args.seat c.args.op.now c.args.write.now old m = record { may = may; fits = fits; writes = c.requires.write; room = c.requires.may.room } in
+    let takes : MayTake c.args.seat c.args.op.now c.args.write.now old m = record
+    { may = may; fits = fits; writes = c.requires.write; met = met; room = c.requires.may.room } in
     let then = begun_by c.settle_pass.result (total_weight (writes_of c.args.op.now)) c.weight.result settled ready begun mid last ok_then c.settle_pass.ensures.settles c.settle_pass.ensures.turns c.settle_pass.ensures.lists
     c.settle_pass.ensures.effect.goes_on.is_honest c.begin_for.ensures.begun c.weight.ensures.weight c.begin_for.ensures.lists in
     doubt_leaves opening old m before begins settled mid has c.args.seat c.args.op.now c.args.write.now takes ready begun last then c.write.new.self c.in-Err.ensures.kept false after

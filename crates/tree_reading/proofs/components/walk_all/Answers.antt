@@ -1,4 +1,4 @@
-use Rattle.std.proofs.Common.{◌∙◌, ◌++◌, ℕ, [], IsTrue, true, false, sym, refl, arith}
+use Rattle.std.proofs.Common.{◌∙◌, ◌++◌, ℕ, List, [], IsTrue, true, false, sym, subst, refl, arith}
 use Rattle.blsm_model.specs.Geometry.{page_count}
 use Rattle.page_file.specs.Component.{numbers_of}
 use Rattle.tree_runs.proofs.ClaimLemmas.{taken_are_read}
@@ -8,6 +8,8 @@ use Rattle.tree_reading.proofs.ComponentsLemmas.{damaged_in, none_in_second, non
 use Rattle.tree_reading.proofs.CallsLemmas.{reads_as, reads_then, still, still_then}
 use Rattle.tree_reading.proofs.FaultLemmas.{handed_on}
 use Rattle.tree_reading.proofs.MapLemmas.{no_role_yet, takes_none}
+use Rattle.page_file.specs.Component.{ReadsAs}
+use Rattle.tree_reading.proofs.NoteLemmas.{guide_after, guide_named, rooms_kept}
 use Rattle.tree_reading.proofs.components.walk_all.Goals as goal
 use Rattle.tree_reading.proofs.components.walk_all.Goals.{After-new-2, After-new-3}
 
@@ -114,3 +116,77 @@ pub walk-requires-3-clause-none : goal.walk-requires-3-clause-none
 walk-requires-3-clause-none g c = λ k.
     none_in_third (page_count c.args.head.now.geometry) c.new-3.result k c.args.space.now c.walk.new.space c.walk-2.new.space c.requires.unused c.in_ok-walk.ensures.taken c.in_ok-walk-2.ensures.taken
     (λ same. omega (arith, same, c.new.ensures, c.new-3.ensures)) (λ same. omega (arith, same, c.new-2.ensures, c.new-3.ensures))
+
+-- ---- filters and fences
+
+pub walk-requires-clause-light : goal.walk-requires-clause-light
+walk-requires-clause-light g c = omega (arith, c.requires.right.fits.full)
+
+pub walk-requires-2-clause-light : goal.walk-requires-2-clause-light
+walk-requires-2-clause-light g c = omega (arith, c.requires.right.fits.full)
+
+pub walk-requires-3-clause-light : goal.walk-requires-3-clause-light
+walk-requires-3-clause-light g c = omega (arith, c.requires.right.fits.full)
+
+pub walk-requires-2-clause-rooms : goal.walk-requires-2-clause-rooms
+walk-requires-2-clause-rooms g c = rooms_kept c.args.head.now.geometry c.walk.ensures.rooms c.requires.rooms
+
+pub walk-requires-3-clause-rooms : goal.walk-requires-3-clause-rooms
+walk-requires-3-clause-rooms g c =
+    rooms_kept c.args.head.now.geometry c.walk-2.ensures.rooms (rooms_kept c.args.head.now.geometry c.walk.ensures.rooms c.requires.rooms)
+
+pub returns-in_err-walk-clause-rooms : goal.returns-in_err-walk-clause-rooms
+returns-in_err-walk-clause-rooms g c = c.walk.ensures.rooms.many
+
+pub returns-in_err-walk-clause-reserved : goal.returns-in_err-walk-clause-reserved
+returns-in_err-walk-clause-reserved g c = rooms_kept c.args.head.now.geometry c.walk.ensures.rooms c.requires.rooms
+
+pub returns-in_err-walk-2-clause-rooms : goal.returns-in_err-walk-2-clause-rooms
+returns-in_err-walk-2-clause-rooms g c = c.walk-2.ensures.rooms.many ∙ c.walk.ensures.rooms.many
+
+pub returns-in_err-walk-2-clause-reserved : goal.returns-in_err-walk-2-clause-reserved
+returns-in_err-walk-2-clause-reserved g c =
+    rooms_kept c.args.head.now.geometry c.walk-2.ensures.rooms (rooms_kept c.args.head.now.geometry c.walk.ensures.rooms c.requires.rooms)
+
+pub returns-in_err-walk-3-clause-rooms : goal.returns-in_err-walk-3-clause-rooms
+returns-in_err-walk-3-clause-rooms g c = c.walk-3.ensures.rooms.many ∙ c.walk-2.ensures.rooms.many ∙ c.walk.ensures.rooms.many
+
+pub returns-in_err-walk-3-clause-reserved : goal.returns-in_err-walk-3-clause-reserved
+returns-in_err-walk-3-clause-reserved g c =
+    rooms_kept c.args.head.now.geometry c.walk-3.ensures.rooms
+    (rooms_kept c.args.head.now.geometry c.walk-2.ensures.rooms (rooms_kept c.args.head.now.geometry c.walk.ensures.rooms c.requires.rooms))
+
+pub returns-clause-rooms : goal.returns-clause-rooms
+returns-clause-rooms g c = c.walk-3.ensures.rooms.many ∙ c.walk-2.ensures.rooms.many ∙ c.walk.ensures.rooms.many
+
+pub returns-clause-reserved : goal.returns-clause-reserved
+returns-clause-reserved g c =
+    rooms_kept c.args.head.now.geometry c.walk-3.ensures.rooms
+    (rooms_kept c.args.head.now.geometry c.walk-2.ensures.rooms (rooms_kept c.args.head.now.geometry c.walk.ensures.rooms c.requires.rooms))
+
+pub returns-clause-guided : goal.returns-clause-guided
+returns-clause-guided g c = λ honest are tree c1 c1x c2.
+    let sizes = c.args.head.now.geometry in
+    let catalogue = c.args.head.now.catalogue in
+    let same = still c.walk.ensures.reads.effect honest in
+    let later = still_then c.walk.ensures.reads.effect c.walk-2.ensures.reads.effect honest in
+    let one = c.walk.ensures.rooms in
+    let two = c.walk-2.ensures.rooms in
+    let three = c.walk-3.ensures.rooms in
+    let first = guide_named c.walk.new.guides tree.c1 c.new.ensures (c.in_ok-walk.ensures.guided tree.c1 honest
+    (omega (arith, c.new.ensures, are.five, one.many, two.many, three.many)) c1) in
+    let second = guide_named c.walk-2.new.guides tree.c1x c.new-2.ensures
+    (c.in_ok-walk-2.ensures.guided tree.c1x same.0 (omega (arith, c.new-2.ensures, are.five, two.many, three.many))
+    (subst (λ (b : List ℕ). ReadsAs sizes catalogue.c1x tree.c1x b) (sym same.1) c1x)) in
+    let third = guide_named c.walk-3.new.guides tree.c2 c.new-3.ensures
+    (c.in_ok-walk-3.ensures.guided tree.c2 later.1 (omega (arith, c.new-3.ensures, are.five, three.many))
+    (subst (λ (b : List ℕ). ReadsAs sizes catalogue.c2 tree.c2 b) (sym later.2) c2)) in
+    record {
+      c1 = λ some. guide_after 0 tree.c1 three (λ e. omega (arith, e, c.new-3.ensures))
+          (guide_after 0 tree.c1 two (λ e. omega (arith, e, c.new-2.ensures)) first);
+      c1x = λ some. guide_after 1 tree.c1x three (λ e. omega (arith, e, c.new-3.ensures)) second;
+      c2 = λ some. third;
+    }
+
+pub returns-clause-once : goal.returns-clause-once
+returns-clause-once g c = omega (arith, c.in_ok-walk.ensures.once, c.in_ok-walk-2.ensures.once, c.in_ok-walk-3.ensures.once)

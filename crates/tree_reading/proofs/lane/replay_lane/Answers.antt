@@ -107,3 +107,6 @@ loop-key-preserved g c =
       given = given g arm;
       effect = only_reads_more {total = c.loop-key.records + 1} (g.met.D.Disk.timed c.loop-key.disk) inv.stands inv.effect next.effect (omega (arith, ap file_length inv.sizes)) (omega arith);
     }
+
+pub returns-clause-calls : goal.returns-clause-calls
+returns-clause-calls g c = omega (arith, c.loop-key.invariant.effect.effect.calls, c.next.ensures.effect.effect.calls)

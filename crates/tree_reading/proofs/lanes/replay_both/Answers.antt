@@ -73,3 +73,6 @@ returns-clause-faults g c = faults_none _ (calm c.in_ok-end_b.end_b c.in_ok-end_
 pub returns-clause-effect : goal.returns-clause-effect
 returns-clause-effect g c =
     only_reads_run (g.met.D.Disk.timed c.replay_lane.new.disk) (calm c.in_ok-end_a.end_a c.in_ok-end_a.ensures.faults) c.replay_lane.ensures.effect c.replay_lane-2.ensures.effect
+
+pub returns-clause-calls : goal.returns-clause-calls
+returns-clause-calls g c = omega (arith, c.in_ok-end_a.ensures.calls, c.in_ok-end_b.ensures.calls)

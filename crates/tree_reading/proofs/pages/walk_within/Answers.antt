@@ -15,6 +15,8 @@ use Rattle.tree_reading.specs.Walk.{ChangesOnly, TakesUp, TellsStop}
 use Rattle.tree_reading.proofs.CallsLemmas.{not_a_fault, reads_after, reads_as, reads_calm, still_then}
 use Rattle.tree_reading.proofs.FaultLemmas.{handed_on, same_error}
 use Rattle.tree_reading.proofs.WalkLemmas.{ArePagesTaken, IsClaiming, IsFilling, allowed_join, ended_pages, filled_end, filling_on, filling_start, taken_all, entered_err, few_calls, no_head, not_fault, tells_broken, walked_start, taken_on, claiming_start, claiming_on, changed_within, changed_entered, refused_damage, damage_at, not_allowed, some_pages, walked_end}
+use Rattle.tree_runs.specs.Runs.{guide_at}
+use Rattle.tree_reading.proofs.NoteLemmas.{ends_there, noted_end, noted_on, noted_start, rooms_none, rooms_then}
 use Rattle.tree_reading.proofs.pages.walk_within.Goals as goal
 use Rattle.tree_reading.proofs.pages.walk_within.Goals.{After-advance, After-head}
 
@@ -74,6 +76,11 @@ loop-page-init g c =
       filling = filling_start c.args.run.now c.start-cursor.result c.start-cursor.ensures.full (ap (λ (s : CursorState). s.pages) c.start-cursor.ensures.start);
       walked = λ earlier honest takes. walked_start c.args.geo.now c.args.run.now c.args.bases_only earlier c.args.role c.args.space.now c.start-cursor.result _ first.bytes
           (c.start-cursor.ensures.given c.args.geo.now first.bytes) (ap (λ (s : CursorState). s.pages) c.start-cursor.ensures.start) refl takes;
+      rooms = rooms_none c.args.role c.args.guides.now;
+      noted = λ honest clear.
+          noted_start c.args.geo.now c.args.run.now c.start-cursor.result c.args.role c.args.guides.now first.bytes
+          (c.start-cursor.ensures.given c.args.geo.now first.bytes)
+          (ap (λ (s : CursorState). s.pages) c.start-cursor.ensures.start) clear;
     }
 
 pub loop-page-preserved : goal.loop-page-preserved
@@ -98,6 +105,21 @@ loop-page-preserved g c =
             at_first = λ none. absurd (some_pages c.args.geo.now c.args.run.now c.advance.new.self w.given e (g.D.Disk.state c.args.disk.now).bytes more none);
             allowed = allowed_join c.args.bases_only w.given (e ∷ []) w.allowed (c.is_allowed.ensures.0 c.if-not-is_allowed.false);
             taken = taken_in g arm earlier (w.given ++ e ∷ []) honest takes more;
+          };
+      rooms = rooms_then inv.rooms c.note.ensures.rooms;
+      noted = λ honest clear.
+          let n = inv.noted honest clear in
+          let e : Key × Rec = c.in-Some.entry in
+          let more = given_on g arm n.given (Some e) honest c.in-Some.is n.has in
+          record {
+            given = n.given ++ e ∷ [];
+            has = more;
+            noted =
+                noted_on c.args.geo.now c.args.run.now c.loop-page.cursor c.advance.new.self c.start_of-start.result n.given e
+                (guide_at c.loop-page.guides c.args.role) (guide_at c.note.new.self c.args.role)
+                (g.D.Disk.state c.args.disk.now).bytes inv.few n.has more c.start_of-start.ensures c.in_ok-advance.ensures.turns
+                c.in_ok-advance.ensures.stays (fewer g arm)
+                (omega (arith, clear.room, inv.rooms.fences)) (c.note.ensures.notes (omega (arith, clear.below, inv.rooms.many))) n.noted;
           };
     }
 
@@ -176,6 +198,19 @@ returns-in_default-clause-tells g c = λ earlier honest takes.
     let more = given_on g arm w.given None honest none w.has in
     walked_end c.args.geo.now c.args.run.now c.args.bases_only earlier c.args.role c.args.space.now c.advance.new.self w.given _ c.enter.new.space (g.D.Disk.state c.args.disk.now).bytes inv.few more.0 more.1
     (ended g arm none) (taken_in g arm earlier w.given honest takes more.1) w.allowed
+
+pub returns-in_default-clause-guided : goal.returns-in_default-clause-guided
+returns-in_default-clause-guided g c = λ pages honest clear reads.
+    let arm = (goal.at.returns-in_default-clause-guided g c).After-head in
+    let inv = c.loop-page.invariant in
+    let n = inv.noted honest clear in
+    let none = no_head c.head.result c.in_default.not-Some in
+    let file = (g.D.Disk.state c.args.disk.now).bytes in
+    let more = given_on g arm n.given None honest none n.has in
+    noted_end c.args.geo.now c.args.run.now c.advance.new.self c.args.role c.loop-page.guides n.given file n.has.pages pages inv.few n.noted more.1
+    (ends_there c.args.geo.now c.args.run.now c.loop-page.cursor c.advance.new.self n.given file inv.few n.has more.1 c.in_ok-advance.ensures.turns
+    c.in_ok-advance.ensures.stays (fewer g arm))
+    more.0 (ended g arm none) reads
 
 pub returns-in_default-clause-reads : goal.returns-in_default-clause-reads
 returns-in_default-clause-reads g c = reads_as (sym c.in_ok-advance.was) (omega arith) (reads_on g (goal.at.returns-in_default-clause-reads g c).After-advance)

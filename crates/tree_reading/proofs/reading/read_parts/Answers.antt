@@ -5,7 +5,7 @@ use Rattle.tree_reading.specs.Reading.{AreTagged, IsWhy}
 use Rattle.std.proofs.Common.{subst}
 use Rattle.tree_reading.proofs.CallsLemmas.{still}
 use Rattle.tree_reading.proofs.FaultLemmas.{calm, faults_then}
-use Rattle.tree_reading.proofs.ReadingLemmas.{on_any_ok}
+use Rattle.tree_reading.proofs.ReadingLemmas.{calls_on, on_any_ok}
 use Rattle.tree_reading.proofs.reading.read_parts.Goals as goal
 
 pub returns-clause-tagged : goal.returns-clause-tagged
@@ -26,3 +26,12 @@ returns-clause-faults g c = faults_then c.read_lanes.result (calm _ c.in_ok-read
 pub returns-clause-effect : goal.returns-clause-effect
 returns-clause-effect g c =
     only_reads_run (g.met.D.Disk.timed c.read_components.new.disk) (calm _ c.in_ok-read_components.ensures.faults) c.read_components.ensures.effect c.read_lanes.ensures.effect
+
+pub returns-clause-guided : goal.returns-clause-guided
+returns-clause-guided g c = λ honest. on_any_ok c.read_lanes.result (c.in_ok-read_components.ensures.guided honest)
+
+pub returns-clause-calls : goal.returns-clause-calls
+returns-clause-calls g c =
+    calls_on c.read_lanes.result c.args.head.now.catalogue (g.D.Disk.state c.args.disk.now).clock (g.D.Disk.state c.read_components.new.disk).clock
+    (g.D.Disk.state c.read_lanes.new.disk).clock
+    c.in_ok-read_components.ensures.once c.read_lanes.ensures.calls

@@ -3,10 +3,10 @@ use Rattle.tree_reading.proofs.CallsLemmas.{still}
 use Rattle.disk_trait.proofs.ReadLemmas.{only_reads_more, only_reads_same, only_reads_wider}
 use Rattle.tree_reading.specs.Damage.{HasCatalogue}
 use Rattle.tree_reading.specs.declared.found.Unreadable.{Unreadable}
-use Rattle.tree_reading.specs.Reading.{AreTagged, IsWhy, within}
+use Rattle.tree_reading.specs.Reading.{AreTagged, GuidesTree, IsWhy, within}
 use Rattle.mem_table.specs.Tables.{Contents}
 use Rattle.tree_reading.proofs.FaultLemmas.{calm, faults_as, faults_none, faults_then, handed_on}
-use Rattle.tree_reading.proofs.ReadingLemmas.{fits_found, looked_more, replayed_at, replayed_in}
+use Rattle.tree_reading.proofs.ReadingLemmas.{fits_found, guides_still, looked_more, replayed_at, replayed_in}
 use Rattle.tree_reading.proofs.reading.read_tree.Goals as goal
 
 pub returns-in_err-head-clause-looked : goal.returns-in_err-head-clause-looked
@@ -62,6 +62,7 @@ returns-clause-holds g c = λ honest.
     let same = still c.in_ok-head.ensures.effect honest in
     fits_found _ (g.D.Disk.state c.args.disk.now).is_honest bytes honest (returns-clause-found g c) (c.in_ok-head.ensures.found honest)
     (subst (λ (b : List ℕ). AreTagged head.geometry head.catalogue c.read_parts.new.room.space b) same.1 (c.in_ok-ends.ensures.tagged same.0))
+    (subst (λ (b : List ℕ). GuidesTree head.geometry head.catalogue c.read_parts.new.room.guides b) same.1 (c.in_ok-ends.ensures.guided same.0))
 
 pub returns-clause-faults : goal.returns-clause-faults
 returns-clause-faults g c = faults_none _ (calm _ c.in_ok-ends.ensures.faults ∙ calm _ c.in_ok-head.ensures.faults)
@@ -69,3 +70,11 @@ returns-clause-faults g c = faults_none _ (calm _ c.in_ok-ends.ensures.faults �
 pub returns-clause-effect : goal.returns-clause-effect
 returns-clause-effect g c =
     only_reads_more (g.met.D.Disk.timed c.read_head.new.disk) (calm _ c.in_ok-head.ensures.faults) c.in_ok-head.ensures.effect c.read_parts.ensures.effect (omega arith) (omega arith)
+
+pub returns-clause-guides : goal.returns-clause-guides
+returns-clause-guides g c = λ wanted.
+    guides_still c.in_ok-head.head.geometry c.in-Ok.room.guides c.read_parts.new.room.guides (c.in-Ok.ensures.guides wanted)
+    c.read_parts.ensures.guides c.read_parts.ensures.rooms
+
+pub returns-clause-calls : goal.returns-clause-calls
+returns-clause-calls g c = omega (arith, c.in_ok-head.ensures.effect.effect.calls, c.in_ok-ends.ensures.calls)

@@ -12,7 +12,8 @@ swap_deep-requires-clause-length g c =
     stays_long c.args.runs.now.sizes c.take_deep.new.runs.sizes goes.sizes c.requires.may.long goes.effect
 
 pub returns-in_err-take_deep-clause-step : goal.returns-in_err-take_deep-clause-step
-returns-in_err-take_deep-clause-step g c = step_untaken c.in_err-take_deep.was c.from_residual.ensures.1 c.a.ensures refl (λ tree over. over) c.take_deep.ensures.takes
+returns-in_err-take_deep-clause-step g c = step_untaken c.in_err-take_deep.was c.from_residual.ensures.1 c.a.ensures refl (λ tree over. over)
+    c.take_deep.ensures.takes (omega (arith, c.requires.may.begun.deep))
 
 -- the swap, however it ended
 swap : (g : _) (c : After-swap_deep g) → IsDeepSwap (is_ok c.swap_deep.result) c.a.result.now c.args.runs.now c.take_deep.new.runs c.swap_deep.new.self c.args.log.now
@@ -30,14 +31,14 @@ swap g c = record {
 pub returns-in_err-swap_deep-clause-step : goal.returns-in_err-swap_deep-clause-step
 returns-in_err-swap_deep-clause-step g c =
     step_faulted (g.D.Disk.state c.take_deep.new.disk) c.in_ok-take_deep.ensures.takes.goes_on.calm c.from_residual-in_err-swap_deep.ensures.1 c.in_err-swap_deep.ensures.faults
-    (deep_leaves (swap g (goal.at.returns-in_err-swap_deep-clause-step g c).After-swap_deep))
+    (deep_leaves (swap g (goal.at.returns-in_err-swap_deep-clause-step g c).After-swap_deep) c.requires.may.begun.deep)
 
 pub returns-clause-step : goal.returns-clause-step
 returns-clause-step g c =
     let swap = swap g (goal.at.returns-clause-step g c).After-swap_deep in
     let swaps = c.in_ok-swap_deep.ensures.swaps in
     let none = c.in_ok-take_deep.ensures.done.1 in
-    step_done (deep_leaves swap)
+    step_done (deep_leaves swap c.requires.may.begun.deep)
     (record {
       shows = deep_shows swap (ap is_ok c.in_ok-swap_deep.was) swaps;
       may = deep_may swap c.requires.may none swaps c.in_ok-swap_deep.ensures.running;

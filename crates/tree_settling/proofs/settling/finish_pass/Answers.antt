@@ -1,9 +1,22 @@
 use Rattle.std.specs.Prelude.{is_ok}
 use Rattle.std.proofs.Common.{◌∙◌, ap, subst, arith}
 use Rattle.catalog_swap.specs.declared.catalog.Catalog.{Catalog}
-use Rattle.tree_runs.specs.Runs.{RunsState}
+use Rattle.mem_table.specs.Tables.{Contents}
+use Rattle.record_delta.specs.Entries.{entries_weight}
+use Rattle.tree_runs.specs.Runs.{RunsState, left_for_pass}
 use Rattle.tree_settling.specs.Settling.{CallsFew, taking_calls}
-use Rattle.tree_settling.proofs.PassLemmas.{IsPassSwap, begun_fits, begun_over, next_catalogue, pass_leaves, pass_light, pass_may, pass_shows, same_sizes}
+use Rattle.tree_settling.proofs.PassLemmas.{
+  IsPassSwap,
+  begun_fits,
+  begun_light,
+  begun_over,
+  next_catalogue,
+  pass_leaves,
+  pass_light,
+  pass_may,
+  pass_shows,
+  same_sizes,
+}
 use Rattle.tree_settling.proofs.StepLemmas.{affects_anywhere, step_done, step_faulted, step_untaken}
 use Rattle.tree_settling.proofs.settling.finish_pass.Goals as goal
 use Rattle.tree_settling.proofs.settling.finish_pass.Goals.{After-swap_pass}
@@ -19,6 +32,12 @@ returns-in_err-take_pass-clause-step g c =
     step_untaken c.in_err-take_pass.was c.from_residual.ensures.1 c.a-a.ensures (ap (λ (r : RunsState). r.sizes) c.begin_pass.ensures.begun)
     (λ tree over. begun_over c.weight_of_a.result c.args.runs.now c.begin_pass.new.self tree c.a-a.result.now.entries (g.D.Disk.state c.args.disk.now) c.begin_pass.ensures.begun c.begin_pass.ensures.lists over)
     c.take_pass.ensures.takes
+    (omega (
+      arith,
+      begun_light c.weight_of_a.result c.args.runs.now c.begin_pass.new.self c.a-a.result.now.entries c.begin_pass.ensures.begun,
+      ap
+          (λ (t : Contents). entries_weight t.entries) c.a-a.ensures,
+    ))
 
 -- the swap, however it ended
 swap : (g : _) (c : After-swap_pass g) → IsPassSwap (is_ok c.swap_pass.result) c.weight_of_a.result c.a-a.result.now c.args.runs.now c.begin_pass.new.self c.take_pass.new.runs c.swap_pass.new.self c.args.log.now
@@ -34,7 +53,8 @@ swap g c = record {
   some = c.in_ok-take_pass.ensures.done.0;
   none = c.in_ok-take_pass.ensures.done.1;
   lists = c.swap_pass.ensures.lists;
-  few = subst (λ (r : RunsState). CallsFew (taking_calls r.sizes) (g.D.Disk.state c.args.disk.now) (g.D.Disk.state c.take_pass.new.disk)) c.begin_pass.ensures.begun c.take_pass.ensures.takes.effect.calls;
+  few = subst (λ (r : RunsState). CallsFew (taking_calls r.sizes (left_for_pass c.begin_pass.new.self.pass c.a-a.result.now.entries))
+      (g.D.Disk.state c.args.disk.now) (g.D.Disk.state c.take_pass.new.disk)) c.begin_pass.ensures.begun c.take_pass.ensures.takes.effect.calls;
   effect = affects_anywhere c.swap_pass.ensures.effect;
 }
 

@@ -38,12 +38,14 @@ loop-runs-preserved g c =
 pub returns-in_err-deep_quantum-clause-takes : goal.returns-in_err-deep_quantum-clause-takes
 returns-in_err-deep_quantum-clause-takes g c =
     let inv = c.loop-runs.invariant in
-    took_less (left_for_deep c.args.runs.now.deep) (left_for_deep c.loop-runs.runs.deep) (g.met.D.Disk.timed c.loop-runs.disk) inv.goes_on inv.calls
-    (still_left c.is_deep_done.result (left_for_deep c.loop-runs.runs.deep) c.loop-runs-test.true c.is_deep_done.ensures inv.runs) (omega (arith, c.requires.fits.made))
+    took_less (left_for_deep c.args.runs.now.deep) (left_for_deep c.args.runs.now.deep) (left_for_deep c.loop-runs.runs.deep)
+    (g.met.D.Disk.timed c.loop-runs.disk) inv.goes_on inv.calls
+    (still_left c.is_deep_done.result (left_for_deep c.loop-runs.runs.deep) c.loop-runs-test.true c.is_deep_done.ensures inv.runs) (omega arith)
     c.requires.running.in_order.geometry.quantum c.deep_quantum.ensures.told (omega arith) c.in_err-deep_quantum.was c.from_residual.ensures.1
 
 pub returns-clause-takes : goal.returns-clause-takes
-returns-clause-takes g c = took_all (left_for_deep c.args.runs.now.deep) (left_for_deep c.loop-runs.runs.deep) c.loop-runs.invariant.goes_on c.loop-runs.invariant.calls (omega (arith, c.requires.fits.made))
+returns-clause-takes g c = took_all (left_for_deep c.args.runs.now.deep) (left_for_deep c.args.runs.now.deep) (left_for_deep c.loop-runs.runs.deep)
+    c.loop-runs.invariant.goes_on c.loop-runs.invariant.calls (omega arith)
 
 pub returns-clause-done : goal.returns-clause-done
 returns-clause-done g c = c.is_deep_done.ensures.0 c.loop-runs-test.false

@@ -38,12 +38,16 @@ loop-runs-preserved g c =
 pub returns-in_err-pass_quantum-clause-takes : goal.returns-in_err-pass_quantum-clause-takes
 returns-in_err-pass_quantum-clause-takes g c =
     let inv = c.loop-runs.invariant in
-    took_less (left_for_pass c.args.runs.now.pass c.args.a.now.entries) (left_for_pass c.loop-runs.runs.pass c.args.a.now.entries) (g.met.D.Disk.timed c.loop-runs.disk) inv.goes_on inv.calls
-    (still_left c.is_pass_done.result (left_for_pass c.loop-runs.runs.pass c.args.a.now.entries) c.loop-runs-test.true c.is_pass_done.ensures inv.runs) (omega (arith, c.requires.fits.made))
+    took_less (left_for_pass c.args.runs.now.pass c.args.a.now.entries) (left_for_pass c.args.runs.now.pass c.args.a.now.entries)
+    (left_for_pass c.loop-runs.runs.pass c.args.a.now.entries) (g.met.D.Disk.timed c.loop-runs.disk) inv.goes_on inv.calls
+    (still_left c.is_pass_done.result (left_for_pass c.loop-runs.runs.pass c.args.a.now.entries) c.loop-runs-test.true c.is_pass_done.ensures
+    inv.runs) (omega arith)
     c.requires.running.in_order.geometry.quantum c.pass_quantum.ensures.told (omega arith) c.in_err-pass_quantum.was c.from_residual.ensures.1
 
 pub returns-clause-takes : goal.returns-clause-takes
-returns-clause-takes g c = took_all (left_for_pass c.args.runs.now.pass c.args.a.now.entries) (left_for_pass c.loop-runs.runs.pass c.args.a.now.entries) c.loop-runs.invariant.goes_on c.loop-runs.invariant.calls (omega (arith, c.requires.fits.made))
+returns-clause-takes g c = took_all (left_for_pass c.args.runs.now.pass c.args.a.now.entries)
+    (left_for_pass c.args.runs.now.pass c.args.a.now.entries) (left_for_pass c.loop-runs.runs.pass c.args.a.now.entries)
+    c.loop-runs.invariant.goes_on c.loop-runs.invariant.calls (omega arith)
 
 pub returns-clause-done : goal.returns-clause-done
 returns-clause-done g c = c.is_pass_done.ensures.0 c.loop-runs-test.false

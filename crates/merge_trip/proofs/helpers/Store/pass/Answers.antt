@@ -5,6 +5,7 @@ use Rattle.blsm_model.specs.declared.component.Component.{Component}
 use Rattle.page_space.specs.Space.{role_size}
 use Rattle.merge_ends.specs.Output.{TakesPages}
 use Rattle.merge_ends.proofs.OutputLemmas.{takes_run}
+use Rattle.run_writer.proofs.RegionLemmas.{open_inside}
 use Rattle.snow_merge.proofs.PassLemmas.{above_light}
 use Rattle.merge_trip.proofs.StoreLemmas.{within_run, if_given}
 use Rattle.merge_trip.proofs.helpers.Store.pass.Goals as goal
@@ -13,7 +14,8 @@ pub finish-requires-clause-inside : goal.finish-requires-clause-inside
 finish-requires-clause-inside g c =
     let inv = c.quanta.invariant in
     let d = told c.quanta.disk in
-    c.a_run_has_room.ensures.inside c.args.self.file.geo d.is_honest d.bytes c.quanta.space c.quanta.snow.writer c.quanta.filter c.quanta.fences inv.running.run.out inv.running.run.pushed c.pages-pages.ensures.shape inv.pages
+    open_inside c.args.self.file.geo d.is_honest d.bytes c.quanta.space c.quanta.snow.writer c.quanta.filter c.quanta.fences
+    inv.running.run.out inv.running.run.pushed c.pages-pages.ensures.shape inv.pages
 
 pub invariant_of-ended : goal.invariant_of-ended
 invariant_of-ended g c = record {

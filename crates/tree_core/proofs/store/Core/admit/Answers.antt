@@ -1,124 +1,102 @@
-use Rattle.std.specs.Prelude.{◌≡◌, true, IsTrue}
-use Rattle.std.proofs.Common.{◌∙◌, cond, refl, ap, sym, subst, arith}
+use Rattle.std.specs.Prelude.{◌≡◌, true, None}
+use Rattle.std.proofs.Common.{◌∙◌, refl, sym, subst}
 use Rattle.std.proofs.lemmas.Bool.{false≢true}
-use Rattle.blsm_model.specs.Book.{Book, HasRoom}
-use Rattle.blsm_model.specs.Stored.{as_reply}
-use Rattle.blsm_model.specs.Values.{key_of}
-use Rattle.blsm_model.specs.declared.history.Reply.{Reply}
-use Rattle.blsm_model.specs.declared.history.Reply.TheVariants.{Done, Full, FaultLost, FaultUnsure, Stopped}
-use Rattle.blsm_model.specs.declared.op.Op.{Op}
-use Rattle.record_delta.specs.Records.{record_of}
-use Rattle.seat_book.specs.State.{BookState, may_note_in}
-use Rattle.seat_book.proofs.WordLemmas.{note_has_room}
+use Rattle.blsm_model.specs.declared.history.Reply.TheVariants.{Stopped}
+use Rattle.blsm_model.proofs.OpLemmas.{no_condition}
+use Rattle.disk_trait.proofs.ReadLemmas.{only_reads_start}
+use Rattle.seat_book.specs.State.{may_note_in}
+use Rattle.tree_machine.specs.Lists.{value_in}
 use Rattle.tree_machine.specs.declared.step.Kind.TheVariants as kind
-use Rattle.core_moves.specs.Held.{charge_in}
 use Rattle.core_moves.specs.Moves.{with_book}
-use Rattle.tree_core.specs.Calls.{Admits}
-use Rattle.tree_core.specs.Core.{CoreState}
+use Rattle.tree_core.specs.Calls.{Admits, AdmitsMet}
+use Rattle.tree_core.specs.Core.{CoreState, IsCore}
+use Rattle.tree_core.specs.Ruling as ruling
 use Rattle.tree_core.specs.Steps.{may_in}
-use Rattle.tree_core.specs.declared.answers.Admission.TheVariants as admission
-use Rattle.tree_core.proofs.AdmissionCalls.{admit_failed, admit_full, admit_stopped, admit_taken, may_write_at, room_for}
-use Rattle.tree_core.proofs.AdmissionLemmas.{failed_keeps, none_of, noted_same, past_as, stopped_same, taken_keeps}
+use Rattle.tree_core.proofs.AdmissionJoins.{joined, looked_at_nothing}
+use Rattle.tree_core.proofs.AdmissionLemmas.{none_of, noted_same}
 use Rattle.tree_core.proofs.AdmissionSteps.{write_fits}
 use Rattle.tree_core.proofs.LastLemmas.{kept_on, may_admit}
+use Rattle.tree_core.proofs.RefusalCalls.{refused_stopped}
 use Rattle.tree_core.proofs.store.Core.admit.Goals as goal
 
--- ---- what its parts require
-
-pub note-requires-then-not-admits : goal.note-requires-then-not-admits
-note-requires-then-not-admits g c =
-    let b = c.self.inside.held.book in
-    let room = subst (λ (s : CoreState g.row.D.Denot). IsTrue (may_note_in c.args.seat 0 s.held.book)) (sym c.self.view_is) c.requires.note in
-    subst (λ (o : Op). HasRoom b.book.room (record { seat = c.args.seat; op = o; reply = Full c.charge-charge.result })) (sym c.copy-then-not-admits.ensures) (note_has_room b c.args.seat 0 c.args.op.now (Full c.charge-charge.result) room (omega arith))
-
-pub take-requires-clause-runs : goal.take-requires-clause-runs
-take-requires-clause-runs g c = record { pace = c.self.invariant.0.pace; live = c.self.invariant.0.holds.live (sym c.stopped.ensures ∙ none_of c.stopped.result c.in_default.not-Some) }
-
-pub take-requires-clause-may : goal.take-requires-clause-may
-take-requires-clause-may g c = may_write_at c.self.view_is c.args.seat c.args.op.now c.charge-charge.result c.weight-weight.result c.geometry.result c.is_del.result c.requires.note c.requires.even (sym c.stopped.ensures ∙ none_of c.stopped.result c.in_default.not-Some) c.charge-charge.ensures c.weight-weight.ensures.weight c.geometry.ensures c.is_del.ensures c.weight-weight.ensures.least c.weight-weight.ensures.bound (c.admits.ensures.0 c.if-not-admits.false)
-
-pub note-requires-in-Taken : goal.note-requires-in-Taken
-note-requires-in-Taken g c =
-    let b = c.self.inside.held.book in
-    let write = c.write-write.result in
-    let room = subst (λ (s : CoreState g.row.D.Denot). IsTrue (may_note_in c.args.seat 0 s.held.book)) (sym c.self.view_is) c.requires.note in
-    let keeps = taken_keeps c.args.seat (key_of write) (record_of write) c.self.inside.held c.take.new.held (g.D.Disk.state c.take.new.disk) c.in-Taken.ensures.takes in
-    subst (λ (o : Op). HasRoom c.take.new.held.book.book.room (record { seat = c.args.seat; op = o; reply = Done })) (sym c.copy-in-Taken.ensures)
-    (subst (λ (k : Book). HasRoom k.room (record { seat = c.args.seat; op = c.args.op.now; reply = Done })) (sym keeps.book) (note_has_room b c.args.seat 0 c.args.op.now Done room (omega arith)))
-
-pub note-requires-in-Failed : goal.note-requires-in-Failed
-note-requires-in-Failed g c =
-    let b = c.self.inside.held.book in
-    let write = c.write-write.result in
-    let begun = c.in-Failed.begun in
-    let room = subst (λ (s : CoreState g.row.D.Denot). IsTrue (may_note_in c.args.seat 0 s.held.book)) (sym c.self.view_is) c.requires.note in
-    let keeps = failed_keeps begun c.args.seat (key_of write) (record_of write) c.self.inside.held c.take.new.held (g.D.Disk.state c.take.new.disk) c.in-Failed.ensures.takes in
-    subst (λ (o : Op). HasRoom c.stop.new.self.book.room (record { seat = c.args.seat; op = o; reply = as_reply c.failed.result })) (sym c.copy-in-Failed.ensures)
-    (subst (λ (r : Reply). HasRoom c.stop.new.self.book.room (record { seat = c.args.seat; op = c.args.op.now; reply = r })) (sym c.failed.ensures)
-    (subst (λ (k : Book). HasRoom k.room (record { seat = c.args.seat; op = c.args.op.now; reply = cond begun FaultUnsure FaultLost })) (sym (ap (λ (x : BookState). x.book) c.stop.ensures ∙ keeps.book)) (room_for b c.args.seat c.args.op.now room begun)))
-
--- ---- the call
+-- ---- the store is stopped
 
 pub returns-in-Some : goal.returns-in-Some
-returns-in-Some g c =
-    let old : CoreState g.row.D.Denot = record { disk = c.self.inside.disk; held = c.self.inside.held; holds = c.self.inside.holds } in
-    let can = subst (λ (s : CoreState g.row.D.Denot). may_in s.held c.args.seat (kind.Admit c.args.op.now) ≡ true) (sym c.self.view_is) (may_admit c.args.seat c.args.op.now c.args.self.now.held c.requires.write c.requires.note c.requires.even) in
-    let room = subst (λ (s : CoreState g.row.D.Denot). may_note_in c.args.seat 0 s.held.book ≡ true) (sym c.self.view_is) c.requires.note in
-    let fits = write_fits c.args.op.now c.write-write.result c.write-write.ensures.write c.write-write.ensures.count c.write-write.ensures.key c.write-write.ensures.text (c.write-write.ensures.tail c.requires.tails) in
-    let same = noted_same c.args.seat c.args.op.now c.copy.result (Stopped c.in-Some.why) old.held.book c.note.new.self c.note.ensures c.copy.ensures in
-    subst (λ (s : CoreState g.row.D.Denot). Admits g.D.Disk.state c.args.seat c.args.op.now (admission.Stopped c.in-Some.why) s (record old { held = with_book c.note.new.self old.held })) c.self.view_is
-    (admit_stopped g.D.Disk.state c.args.seat c.args.op.now old c.self.invariant.0 (g.met.D.Disk.timed old.disk) can room fits c.in-Some.why c.note.new.self (sym c.stopped.ensures ∙ c.in-Some.is) same)
-
-pub returns-then-not-admits : goal.returns-then-not-admits
-returns-then-not-admits g c =
-    let old : CoreState g.row.D.Denot = record { disk = c.self.inside.disk; held = c.self.inside.held; holds = c.self.inside.holds } in
-    let can = subst (λ (s : CoreState g.row.D.Denot). may_in s.held c.args.seat (kind.Admit c.args.op.now) ≡ true) (sym c.self.view_is) (may_admit c.args.seat c.args.op.now c.args.self.now.held c.requires.write c.requires.note c.requires.even) in
-    let room = subst (λ (s : CoreState g.row.D.Denot). may_note_in c.args.seat 0 s.held.book ≡ true) (sym c.self.view_is) c.requires.note in
-    let weight = c.weight-weight.ensures in
-    let fits = write_fits c.args.op.now c.write-write.result c.write-write.ensures.write c.write-write.ensures.count c.write-write.ensures.key c.write-write.ensures.text (c.write-write.ensures.tail c.requires.tails) in
-    let same = noted_same c.args.seat c.args.op.now c.copy-then-not-admits.result (Full c.charge-charge.result) old.held.book c.note-then-not-admits.new.self c.note-then-not-admits.ensures c.copy-then-not-admits.ensures in
-    let charge_is = c.charge-charge.ensures ∙ ap (λ (s : CoreState g.row.D.Denot). charge_in s.held) (sym c.self.view_is) in
-    let past = past_as c.charge-charge.result (charge_in old.held) c.weight-weight.result _ c.geometry.result old.held.runs.sizes c.is_del.result _ charge_is weight.weight (c.geometry.ensures ∙ ap (λ (s : CoreState g.row.D.Denot). s.held.runs.sizes) (sym c.self.view_is)) c.is_del.ensures
-    (λ within. false≢true (sym c.if-not-admits.true ∙ c.admits.ensures.1 within)) in
-    subst (λ (s : CoreState g.row.D.Denot). Admits g.D.Disk.state c.args.seat c.args.op.now (admission.Full c.charge-charge.result) s (record old { held = with_book c.note-then-not-admits.new.self old.held })) c.self.view_is
-    (admit_full g.D.Disk.state c.args.seat c.args.op.now old c.self.invariant.0 (g.met.D.Disk.timed old.disk) can room fits c.charge-charge.result c.note-then-not-admits.new.self (sym c.stopped.ensures ∙ none_of c.stopped.result c.in_default.not-Some) charge_is past same)
-
-pub returns-in-Taken : goal.returns-in-Taken
-returns-in-Taken g c =
-    let old : CoreState g.row.D.Denot = record { disk = c.self.inside.disk; held = c.self.inside.held; holds = c.self.inside.holds } in
-    let can = subst (λ (s : CoreState g.row.D.Denot). may_in s.held c.args.seat (kind.Admit c.args.op.now) ≡ true) (sym c.self.view_is) (may_admit c.args.seat c.args.op.now c.args.self.now.held c.requires.write c.requires.note c.requires.even) in
-    let room = subst (λ (s : CoreState g.row.D.Denot). may_note_in c.args.seat 0 s.held.book ≡ true) (sym c.self.view_is) c.requires.note in
-    let fits = write_fits c.args.op.now c.write-write.result c.write-write.ensures.write c.write-write.ensures.count c.write-write.ensures.key c.write-write.ensures.text (c.write-write.ensures.tail c.requires.tails) in
-    let writing = may_write_at c.self.view_is c.args.seat c.args.op.now c.charge-charge.result c.weight-weight.result c.geometry.result c.is_del.result c.requires.note c.requires.even (sym c.stopped.ensures ∙ none_of c.stopped.result c.in_default.not-Some) c.charge-charge.ensures c.weight-weight.ensures.weight c.geometry.ensures c.is_del.ensures c.weight-weight.ensures.least c.weight-weight.ensures.bound (c.admits.ensures.0 c.if-not-admits.false) in
-    let same = noted_same c.args.seat c.args.op.now c.copy-in-Taken.result Done c.take.new.held.book c.note-in-Taken.new.self c.note-in-Taken.ensures c.copy-in-Taken.ensures in
-    subst (λ (s : CoreState g.row.D.Denot). Admits g.D.Disk.state c.args.seat c.args.op.now admission.Admitted s (record { disk = c.take.new.disk; held = with_book c.note-in-Taken.new.self c.take.new.held; holds = old.holds })) c.self.view_is
-    (admit_taken g.D.Disk.state c.args.seat c.args.op.now old c.self.invariant.0 (g.met.D.Disk.timed old.disk) can room fits c.write-write.result c.take.new.disk c.take.new.held c.note-in-Taken.new.self (g.met.D.Disk.timed c.take.new.disk) c.write-write.ensures.write (sym c.stopped.ensures ∙ none_of c.stopped.result c.in_default.not-Some) writing
-    c.take.ensures.effect c.requires.write c.in-Taken.ensures.takes c.in-Taken.ensures.faults c.in-Taken.ensures.ends (λ opening m honest s ran ok fit. c.in-Taken.ensures.lists opening m honest s ran ok fit) same)
-
-pub returns-in-Failed : goal.returns-in-Failed
-returns-in-Failed g c =
-    let old : CoreState g.row.D.Denot = record { disk = c.self.inside.disk; held = c.self.inside.held; holds = c.self.inside.holds } in
-    let can = subst (λ (s : CoreState g.row.D.Denot). may_in s.held c.args.seat (kind.Admit c.args.op.now) ≡ true) (sym c.self.view_is) (may_admit c.args.seat c.args.op.now c.args.self.now.held c.requires.write c.requires.note c.requires.even) in
-    let room = subst (λ (s : CoreState g.row.D.Denot). may_note_in c.args.seat 0 s.held.book ≡ true) (sym c.self.view_is) c.requires.note in
-    let fits = write_fits c.args.op.now c.write-write.result c.write-write.ensures.write c.write-write.ensures.count c.write-write.ensures.key c.write-write.ensures.text (c.write-write.ensures.tail c.requires.tails) in
-    let writing = may_write_at c.self.view_is c.args.seat c.args.op.now c.charge-charge.result c.weight-weight.result c.geometry.result c.is_del.result c.requires.note c.requires.even (sym c.stopped.ensures ∙ none_of c.stopped.result c.in_default.not-Some) c.charge-charge.ensures c.weight-weight.ensures.weight c.geometry.ensures c.is_del.ensures c.weight-weight.ensures.least c.weight-weight.ensures.bound (c.admits.ensures.0 c.if-not-admits.false) in
-    let begun = c.in-Failed.begun in
-    let same = stopped_same c.args.seat c.args.op.now c.copy-in-Failed.result (cond begun FaultUnsure FaultLost) (as_reply c.failed.result) c.faults.result (g.D.Disk.state c.take.new.disk).faults c.take.new.held.book c.stop.new.self c.note-in-Failed.new.self
-    c.stop.ensures c.faults.ensures c.note-in-Failed.ensures c.copy-in-Failed.ensures c.failed.ensures in
-    subst (λ (s : CoreState g.row.D.Denot). Admits g.D.Disk.state c.args.seat c.args.op.now (admission.Fault begun) s (record { disk = c.take.new.disk; held = with_book c.note-in-Failed.new.self c.take.new.held; holds = old.holds })) c.self.view_is
-    (admit_failed g.D.Disk.state c.args.seat c.args.op.now old c.self.invariant.0 (g.met.D.Disk.timed old.disk) can room fits c.write-write.result c.take.new.disk c.take.new.held c.note-in-Failed.new.self (g.met.D.Disk.timed c.take.new.disk) c.write-write.ensures.write (sym c.stopped.ensures ∙ none_of c.stopped.result c.in_default.not-Some) writing
-    c.take.ensures.effect begun c.in-Failed.ensures.takes c.in-Failed.ensures.faults (omega (arith, c.faults.type_inv, c.faults.ensures)) (λ opening m honest s ran ok fit. c.in-Failed.ensures.lists opening m honest s ran ok fit) same)
-
--- ---- what the type keeps
+returns-in-Some g c = (
+  None,
+  let old : CoreState g.row.D.Denot = record { disk = c.self.inside.disk; held = c.self.inside.held; holds = c.self.inside.holds } in
+      let can = subst (λ (s : CoreState g.row.D.Denot). may_in s.held c.args.seat (kind.Admit c.args.op.now) ≡ true) (sym c.self.view_is)
+      (may_admit c.args.seat c.args.op.now c.args.self.now.held c.requires.write c.requires.note c.requires.even) in
+      let room = subst (λ (s : CoreState g.row.D.Denot). may_note_in c.args.seat 0 s.held.book ≡ true) (sym c.self.view_is) c.requires.note in
+      let fits = write_fits c.args.op.now c.write-write.result c.write-write.ensures.write c.write-write.ensures.count c.write-write.ensures.key
+      c.write-write.ensures.text (c.write-write.ensures.tail c.requires.tails) in
+      let same = noted_same c.args.seat c.args.op.now c.copy.result (Stopped c.in-Some.why) old.held.book c.note.new.self c.note.ensures
+      c.copy.ensures in
+      subst (λ (s : CoreState g.row.D.Denot). Admits g.D.Disk.state c.args.seat c.args.op.now (ruling.Stopped c.in-Some.why) s
+      (record { disk = old.disk; held = with_book c.note.new.self old.held; holds = old.holds })) c.self.view_is
+      (refused_stopped g.D.Disk.state c.args.seat c.args.op.now old old.disk c.self.invariant.0 (g.met.D.Disk.timed old.disk) can room fits
+      (λ n counts. only_reads_start (g.D.Disk.state old.disk) (g.met.D.Disk.timed old.disk)) c.in-Some.why c.note.new.self refl
+      (sym c.stopped.ensures ∙ c.in-Some.is) same),
+)
 
 pub invariant_of-self : goal.invariant_of-self
-invariant_of-self g c = kept_on g.D.Disk.state c.self.view_is (g.met.D.Disk.timed c.self.inside.disk) c.self.invariant refl (returns-in-Some g c).goes
+invariant_of-self g c = kept_on g.D.Disk.state c.self.view_is (g.met.D.Disk.timed c.self.inside.disk) c.self.invariant refl
+    (returns-in-Some g c).1.goes
 
-pub invariant_of-self-then-not-admits : goal.invariant_of-self-then-not-admits
-invariant_of-self-then-not-admits g c = kept_on g.D.Disk.state c.self.view_is (g.met.D.Disk.timed c.self.inside.disk) c.self.invariant refl (returns-then-not-admits g c).goes
+-- ---- it doesn't look first
 
-pub invariant_of-self-in-Taken : goal.invariant_of-self-in-Taken
-invariant_of-self-in-Taken g c = kept_on g.D.Disk.state c.self.view_is (g.met.D.Disk.timed c.self.inside.disk) c.self.invariant refl (returns-in-Taken g c).goes
+pub admit_met-requires-clause-fits : goal.admit_met-requires-clause-fits
+admit_met-requires-clause-fits g c = write_fits c.args.op.now c.write-write.result c.write-write.ensures.write c.write-write.ensures.count
+    c.write-write.ensures.key c.write-write.ensures.text (c.write-write.ensures.tail c.requires.tails)
 
-pub invariant_of-self-in-Failed : goal.invariant_of-self-in-Failed
-invariant_of-self-in-Failed g c = kept_on g.D.Disk.state c.self.view_is (g.met.D.Disk.timed c.self.inside.disk) c.self.invariant refl (returns-in-Failed g c).goes
+pub admit_met-requires-clause-tail : goal.admit_met-requires-clause-tail
+admit_met-requires-clause-tail g c = c.write-write.ensures.tail c.requires.tails
+
+pub admit_met-requires-clause-runs : goal.admit_met-requires-clause-runs
+admit_met-requires-clause-runs g c = subst (λ (s : CoreState g.row.D.Denot). s.held.book.stopped ≡ None) c.self.view_is
+    (sym c.stopped.ensures ∙ none_of c.stopped.result c.in_default.not-Some)
+
+pub admit_met-requires-clause-even : goal.admit_met-requires-clause-even
+admit_met-requires-clause-even g c = c.requires.even (admit_met-requires-clause-runs g c)
+
+pub admit_met-requires-clause-met : goal.admit_met-requires-clause-met
+admit_met-requires-clause-met g c = λ opening m honest s. no_condition c.args.op.now (value_in m.lists)
+    (sym c.looks_first.ensures ∙ c.if-not-looks_first.true)
+
+pub returns-then-not-looks_first : goal.returns-then-not-looks_first
+returns-then-not-looks_first g c = (
+  None,
+  let old = c.args.self.now in
+      let core = subst (λ (s : CoreState g.row.D.Denot). IsCore s.held (g.D.Disk.state s.disk)) c.self.view_is c.self.invariant.0 in
+      let alone = sym c.looks_first.ensures ∙ c.if-not-looks_first.true in
+      joined g.D.Disk.state c.args.seat c.args.op.now old old.disk c.admit_met.new.self core (g.met.D.Disk.timed old.disk)
+      (g.met.D.Disk.timed c.admit_met.new.self.disk) (λ n counts. only_reads_start (g.D.Disk.state old.disk) (g.met.D.Disk.timed old.disk)) refl
+      (looked_at_nothing c.args.op.now old.held (g.D.Disk.state old.disk) alone) (λ none. refl) c.admit_met.result c.admit_met.ensures,
+)
+
+-- ---- it looks first
+
+pub look_first-requires-clause-fits : goal.look_first-requires-clause-fits
+look_first-requires-clause-fits g c = write_fits c.args.op.now c.write-write.result c.write-write.ensures.write c.write-write.ensures.count
+    c.write-write.ensures.key c.write-write.ensures.text (c.write-write.ensures.tail c.requires.tails)
+
+-- and its condition holds
+
+pub admit_met-requires-in-None-clause-fits : goal.admit_met-requires-in-None-clause-fits
+admit_met-requires-in-None-clause-fits g c = write_fits c.args.op.now c.write-write.result c.write-write.ensures.write c.write-write.ensures.count
+    c.write-write.ensures.key c.write-write.ensures.text (c.write-write.ensures.tail c.requires.tails)
+
+pub returns-in-None : goal.returns-in-None
+returns-in-None g c = (
+  None,
+  let old = c.args.self.now in
+      let looked = c.in-None.ensures in
+      let mid = c.look_first.new.self in
+      let new = c.admit_met-in-None.new.self in
+      let first = sym c.looks_first.ensures ∙ c.if-not-looks_first.false in
+      let core = subst (λ (s : CoreState g.row.D.Denot). IsCore s.held (g.D.Disk.state s.disk)) c.self.view_is c.self.invariant.0 in
+      joined g.D.Disk.state c.args.seat c.args.op.now old mid.disk new core (g.met.D.Disk.timed mid.disk) (g.met.D.Disk.timed new.disk) looked.3
+      looked.1 looked.2 (λ alone. absurd (false≢true (sym alone ∙ first))) c.admit_met-in-None.result
+      (subst (λ (s : CoreState g.row.D.Denot). AdmitsMet g.D.Disk.state c.args.seat c.args.op.now c.admit_met-in-None.result s new) looked.0
+      c.admit_met-in-None.ensures),
+)

@@ -98,14 +98,15 @@ pub returns-in-Pay-clause-lasts : goal.returns-in-Pay-clause-lasts
 returns-in-Pay-clause-lasts g c = λ start since. c.pay.ensures.goes.lasts start since
 
 pub returns-in-Admit-clause-goes_on : goal.returns-in-Admit-clause-goes_on
-returns-in-Admit-clause-goes_on g c = c.admit.ensures.effect.goes_on
+returns-in-Admit-clause-goes_on g c = c.admit.ensures.1.effect.goes_on
 
 pub returns-in-Admit-clause-played : goal.returns-in-Admit-clause-played
 returns-in-Admit-clause-played g c = λ opening m honest whole.
-    played_by g.D.Disk.state opening c.args.step.now (kind.Admit c.in-Admit.op) _ c.args.self.now c.admit.new.self m c.in-Admit.is c.requires.may c.admit.ensures.effect.goes_on whole (λ may. c.admit.ensures.goes.steps opening m honest whole)
+    played_by g.D.Disk.state opening c.args.step.now (kind.Admit c.in-Admit.op) _ c.args.self.now c.admit.new.self m c.in-Admit.is c.requires.may
+    c.admit.ensures.1.effect.goes_on whole (λ may. c.admit.ensures.1.goes.steps opening m honest whole)
 
 pub returns-in-Admit-clause-lasts : goal.returns-in-Admit-clause-lasts
-returns-in-Admit-clause-lasts g c = λ start since. c.admit.ensures.goes.lasts start since
+returns-in-Admit-clause-lasts g c = λ start since. c.admit.ensures.1.goes.lasts start since
 
 pub admit-requires-clause-tails : goal.admit-requires-clause-tails
 admit-requires-clause-tails g c = tails_fit c.in-Admit.op (ap (λ (k : Kind). admits_fit k) (sym c.in-Admit.is) ∙ c.requires.fits)

@@ -1,6 +1,6 @@
 use Rattle.std.proofs.Common.{rules, ◌≡◌, subst}
 use Rattle.bloom_bits.specs.Parts.{IsPartFrom}
-use Rattle.tree_runs.specs.Runs.{GuideState, guide_at}
+use Rattle.tree_runs.specs.Runs.{GuideState}
 use Rattle.tree_runs.proofs.GuideLemmas.{guide_named}
 use Rattle.tree_runs.proofs.runs.Runs.part_from.Goals as goal
 

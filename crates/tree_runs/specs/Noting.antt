@@ -1,0 +1,34 @@
+-- What filters and fences keep while the keys of a run's pages are noted, as these are read.
+use Rattle.std.specs.Prelude.{◌≡◌, ℕ, ◌<◌, List, [], ◌∷◌, ◌++◌, length, Option, None, IfSome}
+use Rattle.blsm_model.specs.Sizes.{Sizes}
+use Rattle.blsm_model.specs.declared.key.Key.{Key}
+use Rattle.bloom_bits.specs.declared.fences.Fence.{Fence}
+use Rattle.bloom_bits.specs.Fences.{IsAboveAll}
+use Rattle.bloom_bits.specs.Filter.{HasKeys}
+use Rattle.tree_runs.specs.declared.guides.PageStart.{PageStart}
+use Rattle.tree_runs.specs.Runs.{GuideState, IsReserved, guide_at}
+use Rattle.tree_runs.specs.Holding.{KeepsOtherGuides}
+
+-- as many pairs as there are, five or none, have room for a store of these sizes
+pub record AreRooms (sizes : Sizes) (guides : List GuideState) : Type 0 where
+  pub each : (tag : ℕ) → tag < length guides → IsReserved sizes (guide_at guides tag)
+
+-- the tag's pair has changed alone, and each has as much room as it had
+pub record KeepsRooms (tag : ℕ) (old new : List GuideState) : Type 0 where
+  pub many : length new ≡ length old
+  pub others : KeepsOtherGuides tag old new
+  pub bits : (guide_at new tag).filter.reserved ≡ (guide_at old tag).filter.reserved
+  pub fences : (guide_at new tag).fences.reserved ≡ (guide_at old tag).fences.reserved
+
+-- the fence of a page that begins with this key
+abbrev pub fence_at : Key → PageStart → Fence
+fence_at key start = record { first = key; page = start.page; entries = start.entries; weight = start.weight }
+
+-- The filter has one key more. Where a page begins with it the fences have that page's, if there is room for it and the key is above the others'.
+pub record Notes (key : Key) (start : Option PageStart) (old new : GuideState) : Type 0 where
+  pub keys : (keys : List Key) → HasKeys old.filter keys → HasKeys new.filter (keys ++ key ∷ [])
+  pub none : start ≡ None → new.fences ≡ old.fences
+  pub some : IfSome start (λ s. length old.fences.list < old.fences.reserved → IsAboveAll key old.fences.list → new.fences.list ≡ old.fences.list ++
+      fence_at key s ∷ [])
+  pub bits : new.filter.reserved ≡ old.filter.reserved
+  pub fences : new.fences.reserved ≡ old.fences.reserved
