@@ -524,6 +524,18 @@ class Report:
 REPORT = re.compile(r"ok version (\d+) c1 (\d+) (\d+) c1x (\d+) (\d+) c2 (\d+) (\d+) lanes (\d+) (\d+)\n")
 
 
+@dataclass(frozen=True)
+class Settled:
+    """What a settling tells: the newest catalogue's version behind it, how many quanta it took, and how many it might have taken at most."""
+
+    version: int
+    quanta: int
+    bound: int
+
+
+SETTLED = re.compile(r"settled version (\d+) quanta (\d+) of (\d+)\n")
+
+
 def successor(key: str) -> str | None:
     """The least key above this one, if there is any."""
     if len(key) < 64:
@@ -572,6 +584,14 @@ class Store:
             raise Unreadable(f"{text!r} is no report")
         n = [int(word) for word in found.groups()]
         return Report(n[0], Component(n[1], n[2]), Component(n[3], n[4]), Component(n[5], n[6]), n[7], n[8])
+
+    def settle(self) -> Settled:
+        """Opens the store, which merges all that a crash or a run left to be merged, and tells how much that took, or raises why it can't be opened."""
+        text = self._call("settle")
+        found = SETTLED.fullmatch(text)
+        if not found:
+            raise Unreadable(f"{text!r} tells no settling")
+        return Settled(*map(int, found.groups()))
 
     def run(self, batch: Mapping[int, Iterable[Command]], workers: int = 0, turns: int = 1000) -> Run:
         """Does the commands of these callers, each caller's in order, beside so many merge workers with so many turns each. The limits of a script hold. Where a

@@ -13,7 +13,7 @@ from functools import lru_cache
 
 SUPERBLOCK = 27
 SLOTS = (512, 1024)  # of odd and of even versions
-SLOT = 84
+SLOT = 85
 REGIONS = 4096  # where the lanes' regions begin
 PAGE = 4096
 MOST_USED = 4088
@@ -159,12 +159,12 @@ def read_sizes(file: Bytes) -> Sizes:
 
 def read_slot(file: Bytes, parity: int, pages: int) -> Catalogue | None:
     """The catalogue of a slot, or none where its gate is closed."""
-    gate, version, *numbers = struct.unpack_from(">BQBBB" + 3 * "IIQQ", file, SLOTS[1 - parity])
+    gate, version, *numbers, flag = struct.unpack_from(">BQBBB" + 3 * "IIQQ" + "B", file, SLOTS[1 - parity])
     if gate != 1:
         return None
     c1, c1x, c2 = (Component(*numbers[i : i + 4]) for i in (3, 7, 11))
     a, b, spare = numbers[:3]
-    if version < 1 or version % 2 != parity or {a, b, spare} != {0, 1, 2} or not all(component.is_right(pages) for component in (c1, c1x, c2)):
+    if version < 1 or version % 2 != parity or flag != 0 or {a, b, spare} != {0, 1, 2} or not all(component.is_right(pages) for component in (c1, c1x, c2)):
         raise damaged("slots")
     return Catalogue(version, (a, b, spare), (c1, c1x, c2))
 

@@ -116,6 +116,17 @@ class Batches(WithStandIn):
                 self.store.run({caller: [Get("a")]})
         self.assertEqual(list(self.here.glob("asked_*")), [])
 
+    def test_what_a_settling_took(self) -> None:
+        self.says("settled version 7 quanta 3 of 26\n")
+        self.assertEqual(self.store.settle(), blsm.Settled(version=7, quanta=3, bound=26))
+        self.assertEqual(self.asked(), "settle -- -file\n")
+        for text in ("settled version 7 quanta 3\n", "settled version 7 quanta 3 of 26", "ok version 7\n"):
+            with self.subTest(text), self.assertRaises(blsm.Unreadable):
+                for old in self.here.glob("asked_*"):
+                    old.unlink()
+                self.says(text)
+                self.store.settle()
+
     def test_a_refused_write_raises_where_it_stands_alone(self) -> None:
         self.says("open charge 0\n1 1 add a 1 => full 5 q0\nend c0 0 of 65536 callers 0 workers 0 swaps 0 0\n")
         with self.assertRaises(NotDone) as caught:

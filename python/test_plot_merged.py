@@ -19,7 +19,7 @@ APPEND = (wrote(34, 4096), wrote(1, 4096))
 
 class Counting(unittest.TestCase):
     def test_pages_count_for_the_append_before_them(self) -> None:
-        pages, commit = wrote(4096, 397_312), wrote(84, 512)
+        pages, commit = wrote(4096, 397_312), wrote(85, 512)
         trace = [wrote(1, 0), pages, *APPEND, *APPEND, pages, pages, *APPEND, pages, commit, wrote(1, 135_168), *APPEND]
         self.assertEqual(plot_merged.pages_after_appends(trace, Path("/t/a.blsm")), [0, 8192, 4096, 0])
 

@@ -20,7 +20,7 @@ LANE = SMALLEST.region
 
 def slot(version: int, lanes: tuple[int, int, int] = (0, 1, 2), *components: Component) -> bytes:
     numbers = [(c.first, c.pages, c.entries, c.weight) for c in (*components, EMPTY, EMPTY, EMPTY)[:3]]
-    return struct.pack(">BQBBB", 1, version, *lanes) + b"".join(struct.pack(">IIQQ", *four) for four in numbers)
+    return struct.pack(">BQBBB", 1, version, *lanes) + b"".join(struct.pack(">IIQQ", *four) for four in numbers) + b"\x00"
 
 
 def page(*entries: bytes, count: int | None = None, used: int | None = None, following: int = reading.NO_PAGE) -> bytes:
@@ -38,7 +38,7 @@ def store(*parts: tuple[int, bytes]) -> bytearray:
 
 
 # C2 has x on page 1; lane A, which is region 1, deletes x and adds 7 to it
-MERGED = ((512, bytes(84)), (1024, slot(4, (1, 2, 0), EMPTY, EMPTY, Component(1, 1, 1, 17))), (SMALLEST.page_at(1), page(X)))
+MERGED = ((512, bytes(85)), (1024, slot(4, (1, 2, 0), EMPTY, EMPTY, Component(1, 1, 1, 17))), (SMALLEST.page_at(1), page(X)))
 WRITES = (4096 + LANE, b"\x01" + DEL_X + b"\x01" + ADD_X + b"\x00")
 
 
@@ -136,6 +136,8 @@ class Wrong(unittest.TestCase):
             (512, slot(1, (0, 1, 2), heavy)),
             (512, slot(1, (0, 1, 2), EMPTY, heavy, Component(2, 1, 1, SMALLEST.capacity - SMALLEST.c1_mark + 1))),
             (1024, slot(1)),
+            (512 + 84, b"\x01"),
+            (512 + 84, b"\x02"),
         ):
             with self.subTest(part):
                 self.refused(6, "damaged slots", (at, part))

@@ -1,11 +1,60 @@
 -- What a set of places is after a write to its words.
 use Rattle.std.proofs.lemmas.Bool.Decides.{nat_tests}
 use Rattle.std.proofs.lemmas.Grind.{common_steps}
-use Rattle.std.proofs.Common.{◌≡◌, ℕ, zero, suc, ◌*◌, ◌/◌, ◌%◌, ◌^◌, max, ◌<◌, Bool, true, false, ◌||◌, nat_eq, List, [], ◌∷◌, length, replicate, get_or, set, bit_and, bit_or, refl, ap, sym, ◌∙◌, inl, inr, arith, w64}
+use Rattle.std.proofs.Common.{
+  ◌≡◌,
+  ℕ,
+  zero,
+  suc,
+  ◌*◌,
+  ◌/◌,
+  ◌%◌,
+  ◌^◌,
+  max,
+  ◌<◌,
+  Bool,
+  true,
+  false,
+  ◌||◌,
+  nat_eq,
+  List,
+  [],
+  ◌∷◌,
+  ◌++◌,
+  length,
+  replicate,
+  drop,
+  ◌-◌,
+  ◌≤◌,
+  get_or,
+  set,
+  bit_and,
+  bit_or,
+  refl,
+  ap,
+  sym,
+  ◌∙◌,
+  inl,
+  inr,
+  arith,
+  w64,
+}
 use Rattle.std.specs.Int.{bit_at}
-use Rattle.std.proofs.lemmas.Bool.{cases_eq}
+use Rattle.std.proofs.lemmas.Bool.{cases_eq, cases_lt}
 use Rattle.std.proofs.lemmas.Nat.Bits.{shr_and_one, bit_at-zero, bit_at-lt, bit_at_or, bit_at_set_same, bit_at_set_other}
-use Rattle.std.proofs.lemmas.List.{length-set, length-replicate, get_or-set_same, get_or-set_other, get_or-replicate, ext_get_or}
+use Rattle.std.proofs.lemmas.List.{
+  length-set,
+  length-replicate,
+  length-append,
+  length-drop,
+  get_or-set_same,
+  get_or-set_other,
+  get_or-replicate,
+  get_or_append_left,
+  get_or-append_right,
+  get_or-drop,
+  ext_get_or,
+}
 use Rattle.std.proofs.lemmas.List.FromFn.{length-map-range_with_len, get_or-map-range_with_len}
 use Rattle.bit_set.specs.Bits.{Members, members, is_set, none_of, with_place, union, AreFor}
 
@@ -35,6 +84,38 @@ pub members_none : (places n : ℕ) → members places (zeros n) ≡ none_of pla
 members_none places n =
     same_members places (none_of places) (zeros n) (length-replicate places false)
     (λ place below. ap (λ word. nat_eq (bit_at word (place % 64)) 1) (zero_word n (place / 64)) ∙ ap (λ b. nat_eq b 1) (bit_at-zero (place % 64)) ∙ sym (get_or-replicate places place false false below))
+
+-- ---- a front of which no place is left
+
+cleared_front : {X : Type 0} (xs : List X) (n i : ℕ) (x d : X) → i < n → get_or (replicate n x ++ drop n xs) i d ≡ x
+cleared_front xs n i x d before = get_or_append_left (replicate n x) (drop n xs) d i (omega (arith, length-replicate n x)) ∙ get_or-replicate n i x d
+    before
+
+kept_back : {X : Type 0} (xs : List X) (n i : ℕ) (x d : X) → n ≤ i → get_or (replicate n x ++ drop n xs) i d ≡ get_or xs i d
+kept_back xs n i x d behind =
+    get_or-append_right (replicate n x) (drop n xs) n i d (length-replicate n x) behind ∙ get_or-drop n xs (i - n) d ∙ ap (λ k. get_or xs k d)
+    (omega arith)
+
+pub members_cleared : (places n : ℕ) (words : List ℕ) → 64 * n ≤ places → members places (zeros n ++ drop n words) ≡ none_of (64 * n) ++ drop
+    (64 * n) (members places words)
+members_cleared places n words inside =
+    let before = members places words in
+    same_members places (none_of (64 * n) ++ drop (64 * n) before) (zeros n ++ drop n words)
+    (length-append (none_of (64 * n)) (drop (64 * n) before) ∙ omega (
+      arith,
+      length-replicate (64 * n) false,
+      length-drop (64 * n) before,
+      length-members places words,
+    ))
+    (λ place below.
+    elim (cases_lt place (64 * n)) [
+      | inl front ↦
+          ap (λ word. nat_eq (bit_at word (place % 64)) 1) (cleared_front words n (place / 64) 0 0 (omega arith))
+          ∙ ap (λ b. nat_eq b 1) (bit_at-zero (place % 64)) ∙ sym (cleared_front before (64 * n) place false false front)
+      | inr behind ↦
+          ap (λ word. nat_eq (bit_at word (place % 64)) 1) (kept_back words n (place / 64) 0 0 (omega arith))
+          ∙ sym (kept_back before (64 * n) place false false behind ∙ get_or-members places words place below)
+    ])
 
 -- the test of a bit, as the code makes it
 pub tested : (word place : ℕ) → nat_eq (bit_and (word / 2 ^ place) 1) 1 ≡ nat_eq (bit_at word place) 1

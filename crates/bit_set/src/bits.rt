@@ -1,5 +1,5 @@
 //! A set of numbers below a bound: a bit for each of them.
-ghost use Rattle.std.specs.Prelude.{◌≡◌, ◌<◌, ◌↔◌, length, IsTrue, IfOk};
+ghost use Rattle.std.specs.Prelude.{◌≡◌, ◌<◌, ◌≤◌, ◌%◌, ◌↔◌, ◌++◌, length, drop, replicate, IsTrue, IfOk};
 ghost use Rattle.bit_set.specs.Bits.{IsIn, none_of, with_place, union};
 
 use refusal::NoMemory;
@@ -24,6 +24,14 @@ impl Model for BitSet {
     ghost view = { λ s. members s.places s.words.items };
 
     ghost invariant = { λ s. AreFor s.places s.words.items };
+}
+
+// Makes zeros of the first words.
+fn blank(words: &mut [u64], count: usize)
+    requires { count ≤ length words.old }
+    ensures { words.new ≡ replicate count 0 ++ drop count words.old }
+{
+    words[..count].fill(0);
 }
 
 impl BitSet {
@@ -56,6 +64,15 @@ impl BitSet {
         ensures { self.new ≡ none_of (length self.old) }
     {
         self.words.fill(0);
+    }
+
+    /// Takes the places below a number out of the set. The number is one of whole words of 64, and those alone are written.
+    pub fn clear_below(&mut self, places: u64)
+        requires words { places % 64 ≡ 0 }
+        requires inside { places ≤ length self.old }
+        ensures { self.new ≡ none_of places ++ drop places self.old }
+    {
+        blank(&mut self.words, (places / WORD_BITS) as usize);
     }
 
     /// Makes the set the union of three others.

@@ -1,9 +1,45 @@
 -- Which bits are set once keys are added, and what they tell of a key.
 use Rattle.std.proofs.lemmas.Bool.Decides.{nat_tests}
 use Rattle.std.proofs.lemmas.Grind.{common_steps}
-use Rattle.std.proofs.Common.{◌≡◌, ◌↔◌, ◌⊎◌, ℕ, ◌+◌, ◌<◌, ◌≤◌, Bool, true, false, List, [], ◌∷◌, ◌++◌, length, take, get_or, ap, sym, subst, ◌∙◌, inl, inr, arith}
+use Rattle.std.proofs.Common.{
+  ◌≡◌,
+  ◌↔◌,
+  ◌⊎◌,
+  ℕ,
+  ◌+◌,
+  ◌<◌,
+  ◌≤◌,
+  Bool,
+  true,
+  false,
+  List,
+  [],
+  ◌∷◌,
+  ◌++◌,
+  length,
+  take,
+  drop,
+  get_or,
+  ap,
+  sym,
+  subst,
+  ◌∙◌,
+  inl,
+  inr,
+  arith,
+}
 use Rattle.std.specs.List.{Contains}
-use Rattle.std.proofs.lemmas.List.{take_more, take_all, take-replicate, length-set, length-replicate, get_or-take}
+use Rattle.std.proofs.lemmas.List.{
+  take_more,
+  take_all,
+  take_at,
+  take-replicate,
+  length-set,
+  length-replicate,
+  length-append,
+  length-drop,
+  get_or-take,
+}
 use Rattle.std.proofs.Math.Seq.{take-set-lt}
 use Rattle.std.proofs.lemmas.List.Elements.{Contains-push, Contains-push_cases, Contains-append_left}
 use Rattle.blsm_model.specs.declared.key.Key.{Key}
@@ -22,6 +58,15 @@ front_with size place bits after below is = ap (take size) is ∙ take-set-lt si
 -- a front of bits of which none is set
 pub front_of_none : (size n : ℕ) (bits : Members) → size ≤ n → bits ≡ none_of n → front_of size bits ≡ cleared n size
 front_of_none size n bits within is = ap (front_of size) is ∙ (λ i. record { reserved = length-replicate n false i; bits = take-replicate size n false within i })
+
+-- the same where that front was cleared, of more bits
+pub front_of_cleared : (size : ℕ) (bits after : Members) → size ≤ length bits → after ≡ none_of size ++ drop size bits → front_of size after ≡
+    cleared (length bits) size
+front_of_cleared size bits after within is =
+    let long : length after ≡ length bits = ap length is ∙ length-append (none_of size) (drop size bits) ∙ omega
+    (arith, length-replicate size false, length-drop size bits, within) in
+    let front : take size after ≡ none_of size = ap (take size) is ∙ take_at (none_of size) (drop size bits) size (length-replicate size false) in
+    λ i. record { reserved = long i; bits = front i }
 
 -- ---- one bit more, and several
 

@@ -95,8 +95,10 @@ impl Filter {
         ensures none { HasKeys self.new [] }
         ensures bits { length self.new.bits ≡ rounded bits }
     {
-        self.bits.clear();
-        self.size = WORD_BITS * words_for(bits);
+        let set = &mut self.bits;
+        let size = WORD_BITS * words_for(bits);
+        set.clear_below(size);
+        self.size = size;
     }
 
     /// Adds a key.

@@ -103,8 +103,9 @@ impl Key {
     pub fn copy(&self) -> Key
         ensures { result ≡ self.now }
     {
-        match ArrayVec::try_from(self.as_bytes()) {
-            Ok(bytes) => Key { bytes },
+        let mut bytes = ArrayVec::new();
+        match bytes.try_extend_from_slice(self.as_bytes()) {
+            Ok(()) => Key { bytes },
             Err(_) => unreachable!(),
         }
     }

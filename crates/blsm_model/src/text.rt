@@ -45,10 +45,12 @@ impl Text {
         ensures none { IsNone result ↔ (most_text < length bytes.now) }
         ensures some { IfSome result (λ text. text ≡ bytes.now) }
     {
-        match ArrayVec::try_from(bytes) {
-            Ok(bytes) => Some(Text { bytes }),
-            Err(_) => None,
+        if bytes.len() > Text::MAX_LEN {
+            return None;
         }
+        let mut text = Text::empty();
+        push_all(&mut text.bytes, bytes);
+        Some(text)
     }
 
     /// The text with no byte.
@@ -72,10 +74,9 @@ impl Text {
     pub fn copy(&self) -> Text
         ensures { result ≡ self.now }
     {
-        match ArrayVec::try_from(self.as_bytes()) {
-            Ok(bytes) => Text { bytes },
-            Err(_) => unreachable!(),
-        }
+        let mut text = Text::empty();
+        push_all(&mut text.bytes, self.as_bytes());
+        text
     }
 
     /// Becomes the text of these bytes, of which there are at most 435. It copies them and no more, and takes no memory.

@@ -1,7 +1,7 @@
 -- Where the outside does its part, no answer but what was asked for, done, or want of memory has its cause.
 use Rattle.std.proofs.lemmas.Bool.Decides.{nat_tests}
 use Rattle.std.proofs.lemmas.Grind.{common_steps}
-use Rattle.std.proofs.Common.{◌≡◌, ℕ, ◌<◌, ◌≤◌, List, true, false, Option, Some, IfSome, IsTrue, [], Ok, length, refl, ap, sym, subst, ◌∙◌, arith, ◌⊎◌, inl, inr}
+use Rattle.std.proofs.Common.{◌≡◌, ℕ, ◌<◌, ◌≤◌, List, true, false, Option, Some, IfSome, IsTrue, [], length, refl, ap, sym, subst, ◌∙◌, arith, ◌⊎◌, inl, inr}
 use Rattle.refusal.specs.Count.{HasRisen}
 use Rattle.disk_trait.specs.Disk.{DiskState}
 use Rattle.disk_trait.specs.Shelf.{IsFreshCount}
@@ -16,7 +16,7 @@ use Rattle.blsm_model.specs.declared.room.Room.{Room}
 use Rattle.blsm_model.specs.declared.row.Value.{Value}
 use Rattle.script_text.specs.Grammar.{IsBadLine}
 use Rattle.script_text.proofs.GrammarLaws.{script_not_bad}
-use Rattle.program_words.specs.Words.{Asked, make, run, check, serve}
+use Rattle.program_words.specs.Words.{Asked, make, run, check, serve, settle}
 use Rattle.tree_file.specs.Tree.{Tree, HoldsTree, ReadsAsMap}
 use Rattle.tree_reading.specs.Damage.{most_version}
 use Rattle.tree_reading.specs.First.{IsOfFile}
@@ -28,7 +28,6 @@ use Rattle.store_run.specs.declared.run.Ending.{Ending}
 use Rattle.store_run.specs.declared.run.Ending.TheVariants as ending
 use Rattle.store_run.specs.Run.{Run, finds_damage}
 use Rattle.store_serve.specs.Room.{room_for}
-use Rattle.store_serve.specs.declared.closing.Closing.{Closing}
 use Rattle.store_serve.specs.declared.closing.Closing.TheVariants as closing
 use Rattle.store_serve.specs.Taken.{lines_in}
 use Rattle.store_trial.specs.Trial.{IsRoomOf}
@@ -37,9 +36,9 @@ use Rattle.blsm_run.specs.declared.outcome.Refusal.TheVariants as refusal
 use Rattle.blsm_run.specs.declared.status.Status.{Status}
 use Rattle.blsm_run.specs.declared.status.Status.TheVariants.{Done, NoMemory}
 use Rattle.blsm_run.specs.Outside.{IsQuietCount, OfTheDisk, Outside}
-use Rattle.blsm_run.specs.Outcome.{Outcome, refused, made, ran, served, checked, tried, Tells, TellsLines, status_of}
-use Rattle.blsm_run.specs.Stores.{IsRunOnShelf, IsServedOnShelf, WasCalm, WasRefused, WasLookedAt}
-use Rattle.blsm_run.specs.Cause.{Cause, WasAsked, HasNotRun, HasNotServed}
+use Rattle.blsm_run.specs.Outcome.{Outcome, refused, made, ran, served, checked, settled, tried, Tells, TellsLines, status_of}
+use Rattle.blsm_run.specs.Stores.{IsRunOnShelf, WasCalm, WasRefused, WasLookedAt}
+use Rattle.blsm_run.specs.Cause.{Cause, WasAsked}
 use Rattle.blsm_run.specs.Answer.{Answers, IsGranted, IsOpenable, HasDisk, CanBeDone}
 use Rattle.blsm_run.proofs.TrialLemmas.{ends_trial}
 
@@ -124,20 +123,32 @@ module _ {D : Type 0} (state : D → DiskState) (honest_tells : (d : D) → IsTr
     completes (refused refusal.DiskFault) status lines (inl was) is = absurd (quiet_is_no_rise granted.shelf_quiet was.makes.rose.0)
     completes (refused refusal.DiskFault) status lines (inr (inl was)) is = absurd (quiet_is_no_rise granted.shelf_quiet was.2.rose.0)
     completes (refused refusal.DiskFault) status lines (inr (inr (inl was))) is = absurd (quiet_is_no_rise granted.shelf_quiet was.refuses.rose.0)
-    completes (refused refusal.DiskFault) status lines (inr (inr (inr was))) is = absurd (quiet_is_no_rise granted.shelf_quiet was.checks.rose.0)
+    completes (refused refusal.DiskFault) status lines (inr (inr (inr (inl was)))) is = absurd
+        (quiet_is_no_rise granted.shelf_quiet was.checks.rose.0)
+    completes (refused refusal.DiskFault) status lines (inr (inr (inr (inr was)))) is = absurd
+        (quiet_is_no_rise granted.shelf_quiet was.settles.rose.0)
     completes (refused refusal.NotAStore) status lines (inl (ls, a, why)) is = absurd (refused_opening unreadable.NotAStore tt a.name (can (run a.name a.workers a.turns) a.asked).0 why)
     completes (refused refusal.NotAStore) status lines (inr (inl was)) is = absurd (refused_opening unreadable.NotAStore tt was.asks.name (can (serve was.asks.name was.asks.callers) was.asks.asked).0 was.refuses)
-    completes (refused refusal.NotAStore) status lines (inr (inr was)) is = absurd (refused_check unreadable.NotAStore tt was.name was.asked was.checks)
+    completes (refused refusal.NotAStore) status lines (inr (inr (inl was))) is = absurd
+        (refused_check unreadable.NotAStore tt was.name was.asked was.checks)
+    completes (refused refusal.NotAStore) status lines (inr (inr (inr was))) is = absurd
+        (refused_opening unreadable.NotAStore tt was.name (can (settle was.name) was.asked) was.settles)
     completes (refused (refusal.NotEmpty n)) status lines was is =
         let s = said was.name (λ file. file ≡ []) (WasNotEmpty n) (can (make was.name was.sizes) was.asked) was.makes.disk in
         let none : length (state s.0).bytes ≡ 0 = ap (λ (l : List ℕ). length l) s.4 in
         absurd (omega (arith, s.5.some, s.5.length_is s.3, none))
     completes (refused (refusal.Damaged place)) status lines (inl (ls, a, why)) is = absurd (refused_opening (unreadable.Damaged place) tt a.name (can (run a.name a.workers a.turns) a.asked).0 why)
     completes (refused (refusal.Damaged place)) status lines (inr (inl was)) is = absurd (refused_opening (unreadable.Damaged place) tt was.asks.name (can (serve was.asks.name was.asks.callers) was.asks.asked).0 was.refuses)
-    completes (refused (refusal.Damaged place)) status lines (inr (inr was)) is = absurd (refused_check (unreadable.Damaged place) tt was.name was.asked was.checks)
+    completes (refused (refusal.Damaged place)) status lines (inr (inr (inl was))) is = absurd
+        (refused_check (unreadable.Damaged place) tt was.name was.asked was.checks)
+    completes (refused (refusal.Damaged place)) status lines (inr (inr (inr was))) is = absurd
+        (refused_opening (unreadable.Damaged place) tt was.name (can (settle was.name) was.asked) was.settles)
     completes (refused (refusal.Worn version)) status lines (inl (ls, a, why)) is = absurd (refused_opening (unreadable.Worn version) tt a.name (can (run a.name a.workers a.turns) a.asked).0 why)
     completes (refused (refusal.Worn version)) status lines (inr (inl was)) is = absurd (refused_opening (unreadable.Worn version) tt was.asks.name (can (serve was.asks.name was.asks.callers) was.asks.asked).0 was.refuses)
-    completes (refused (refusal.Worn version)) status lines (inr (inr was)) is = absurd (refused_check (unreadable.Worn version) tt was.name was.asked was.checks)
+    completes (refused (refusal.Worn version)) status lines (inr (inr (inl was))) is = absurd
+        (refused_check (unreadable.Worn version) tt was.name was.asked was.checks)
+    completes (refused (refusal.Worn version)) status lines (inr (inr (inr was))) is = absurd
+        (refused_opening (unreadable.Worn version) tt was.name (can (settle was.name) was.asked) was.settles)
     completes (refused refusal.NoMemory) status lines cause is = inr is
     completes (made length) status lines cause is = inl is
     completes (ran history end) status lines (ls, a, runs) is =
@@ -157,6 +168,7 @@ module _ {D : Type 0} (state : D → DiskState) (honest_tells : (d : D) → IsTr
         let well = is_well a.name (lines_in history.entries) 0 0 (λ room. room ≡ room_for a.callers) history end (can (serve a.name a.callers) a.asked).0 s.runs in
         inl (is ∙ ap (λ (e : Ending). status_of (served history e closing.Ended)) well)
     completes (checked report) status lines cause is = inl is
+    completes (settled counts) status lines cause is = inl is
     completes (tried seed count history) status lines cause is = inl is
 
   -- all that is promised of a call

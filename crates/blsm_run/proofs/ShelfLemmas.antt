@@ -14,10 +14,12 @@ use Rattle.blsm_model.specs.declared.history.Line.{Line}
 use Rattle.blsm_model.specs.declared.key.Key.{Key}
 use Rattle.blsm_model.specs.declared.room.Room.{Room}
 use Rattle.blsm_model.specs.declared.row.Value.{Value}
+use Rattle.core_moves.specs.declared.held.Settled.{Settled}
 use Rattle.tree_file.specs.Tree.{ReadsAsMap}
+use Rattle.recover_open.specs.Settled.{ToldSettling}
 use Rattle.recover_open.specs.Opening.{HasLengthOf, KeepsMapOf, ReadsAsNone}
 use Rattle.tree_reading.specs.First.{IsOfFile}
-use Rattle.tree_reading.specs.Reading.{HasLooked, IsWhy, within, reading_calls}
+use Rattle.tree_reading.specs.Reading.{HasLooked, IsWhy, reading_calls}
 use Rattle.tree_reading.specs.Report.{IsReportOf}
 use Rattle.tree_reading.specs.declared.found.Unreadable.{Unreadable}
 use Rattle.tree_reading.specs.declared.found.Unreadable.TheVariants as unreadable
@@ -35,7 +37,24 @@ use Rattle.store_serve.specs.Taken.{TakesLines, lines_in}
 use Rattle.store_serve.specs.declared.serve.Served.{Served}
 use Rattle.text_io.specs.Text.{SourceState}
 use Rattle.blsm_run.specs.Outside.{HasFetched, OfTheDisk}
-use Rattle.blsm_run.specs.Stores.{WasCalm, HasFailedOnce, LeavesMade, WasMade, MakesOnShelf, LeavesClosed, WasRefused, HasRunOn, IsRunOnShelf, RefusesOnShelf, RunsOnShelf, ServesOnShelf, StaysWithin, WasLookedAt, ChecksOnShelf}
+use Rattle.blsm_run.specs.Stores.{
+  WasCalm,
+  HasFailedOnce,
+  LeavesMade,
+  WasMade,
+  MakesOnShelf,
+  LeavesClosed,
+  WasRefused,
+  IsRunOnShelf,
+  RefusesOnShelf,
+  RunsOnShelf,
+  ServesOnShelf,
+  StaysWithin,
+  WasLookedAt,
+  WasSettled,
+  ChecksOnShelf,
+  SettlesOnShelf,
+}
 
 -- the fetch failed
 pub not_fetched : {D E : Type 0} {state : D → DiskState} {name : List ℕ} {fresh : Bool} {old new : ShelfState D} (P : DiskState → DiskState → Type 0) (result : Result D E)
@@ -205,6 +224,17 @@ module _ {D E : Type 0} {state : D → DiskState} {name : List ℕ} {old mid new
   looked_at : (P : List ℕ → Type 0) → (IsTrue (state disk).is_honest → P (state disk).bytes) → HasLooked reading_calls (state disk) (state last) → (state last).faults ≡ (state disk).faults
       → WasCalm state name false old new (WasLookedAt P)
   looked_at P is looked calm = was_calm f b (WasLookedAt P) calm (record { is = is; looked = looked })
+
+  -- it was settled, or wasn't opened
+  pub settles : (result : Result Settled Unreadable) → IfOk result (λ counts. ToldSettling counts (state disk) (state last))
+      → (IsTrue (state disk).is_honest → OnOk result ((sizes : Sizes) × (pairs : List (Key × Value)) × ReadsAsMap sizes pairs (state disk).bytes))
+      → (IsTrue (state disk).is_honest → IfErr result (λ why. IsWhy why (state disk).bytes)) → LeavesClosed (state disk) (state last)
+      → (IsTrue (state disk).is_honest → IfErr result (λ why. IsOfFile why → LeavesOnly (state disk) (state last) (state disk).images))
+      → (state last).faults ≤ (state disk).faults + 1 → TellsFaultsBy (Err unreadable.Fault) result (state disk) (state last)
+      → SettlesOnShelf state name old new result
+  settles (Ok counts) counted reads because leaves spares once tells =
+      was_calm f b (WasSettled counts) (tells.stands (λ wrong. cc)) (record { counted = counted; reads = reads; leaves = leaves })
+  settles (Err why) counted reads because leaves spares once tells = refuses why because leaves spares once (tells_why why tells)
 
   pub checks : (result : Result Report Unreadable) → (IsTrue (state disk).is_honest → IfOk result (λ report. IsReportOf report (state disk).bytes))
       → (IsTrue (state disk).is_honest → IfErr result (λ why. IsWhy why (state disk).bytes)) → HasLooked reading_calls (state disk) (state last)

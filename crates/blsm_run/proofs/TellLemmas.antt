@@ -1,19 +1,35 @@
 -- What was told before the answer, and what is written of it, is the whole text or a front of it.
-use Rattle.std.proofs.Common.{◌≡◌, ◌∙◌, ℕ, ◌<◌, ◌≤◌, List, [], ◌++◌, Option, Some, None, Result, Ok, Err, length, take, refl, sym, ap, subst, append_assoc, inl, inr, arith, length-append}
+use Rattle.std.proofs.Common.{◌≡◌, ◌∙◌, ℕ, ◌≤◌, List, [], ◌++◌, Option, Some, None, Result, Ok, Err, length, take, refl, sym, ap, subst, append_assoc, inl, inr, arith, length-append}
 use Rattle.std.proofs.lemmas.List.{take-append-le}
 use Rattle.refusal.specs.declared.Failed.{Failed}
-use Rattle.blsm_model.specs.Printed.{end_text, entries_text, history_text}
+use Rattle.blsm_model.specs.Printed.{end_text, entries_text}
 use Rattle.blsm_model.specs.declared.history.Entry.{Entry}
 use Rattle.blsm_model.specs.declared.history.Totals.{Totals}
 use Rattle.store_run.specs.Run.{Run}
-use Rattle.store_run.specs.declared.run.Ending.{Ending}
 use Rattle.store_serve.specs.Told.{AddsPast, IsCutShort, at_first, at_last, closing_text, front_text, open_text, served_text}
 use Rattle.store_serve.specs.declared.closing.Closing.{Closing}
 use Rattle.store_serve.specs.declared.closing.Closing.TheVariants as closing
 use Rattle.text_io.specs.Text.{Adds, AddsFront, SinkState, Writes}
 use Rattle.text_io.proofs.WritingLemmas.{writes_then}
 use Rattle.blsm_run.specs.declared.status.Status.TheVariants.{SinkFault}
-use Rattle.blsm_run.specs.Outcome.{Outcome, refused, made, ran, served, checked, tried, AddsWithMore, HasTold, Tells, TellsLines, WritesAnswer, WritesRest, status_of, text_of}
+use Rattle.blsm_run.specs.Outcome.{
+  Outcome,
+  refused,
+  made,
+  ran,
+  served,
+  checked,
+  settled,
+  tried,
+  AddsWithMore,
+  HasTold,
+  Tells,
+  TellsLines,
+  WritesAnswer,
+  WritesRest,
+  status_of,
+  text_of,
+}
 use Rattle.blsm_run.specs.Outside.{HasRisenOnce}
 
 -- ---- texts
@@ -99,6 +115,8 @@ told_ok (served run end (closing.NoRoom n)) before old new told writes = let did
 told_ok (served run end closing.SourceFault) before old new told writes = let did = lines_ok run closing.SourceFault before old new told writes in (inl (refl, did.0, did.1), did.2)
 told_ok (served run end closing.SinkFault) before old new told writes = absurd cc
 told_ok (checked report) before old new same writes = let did = plain_ok (text_of (checked report)) before old new same writes in (inl (refl, did.0, did.1), tt)
+told_ok (settled counts) before old new same writes = let did = plain_ok (text_of (settled counts)) before old new same writes in
+    (inl (refl, did.0, did.1), tt)
 told_ok (tried seed count run) before old new same writes = let did = plain_ok (text_of (tried seed count run)) before old new same writes in (inl (refl, did.0, did.1), tt)
 
 -- or it failed, there or before
@@ -116,6 +134,8 @@ told_err (served run end closing.SinkFault) failed before old new told writes =
     subst (λ (k : SinkState). Tells before k (served run end closing.SinkFault) SinkFault × TellsLines (served run end closing.SinkFault) before k) (sym is)
     (inr (refl, (risen, once), cut_short run.charge run.entries run.quanta run.totals before old cut), told)
 told_err (checked report) failed before old new same writes = let did = plain_err (text_of (checked report)) failed before old new same writes in (inr (refl, did.0, did.1), tt)
+told_err (settled counts) failed before old new same writes = let did = plain_err (text_of (settled counts)) failed before old new same writes in
+    (inr (refl, did.0, did.1), tt)
 told_err (tried seed count run) failed before old new same writes = let did = plain_err (text_of (tried seed count run)) failed before old new same writes in (inr (refl, did.0, did.1), tt)
 
 -- what is written behind a session's lines, where its sink took them

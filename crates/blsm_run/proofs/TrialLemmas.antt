@@ -3,7 +3,8 @@ use Rattle.std.proofs.Common.{◌≡◌, ℕ, List, Some, Result, sym, ◌∙◌
 use Rattle.blsm_model.specs.declared.history.Line.{Line}
 use Rattle.disk_trait.specs.Disk.{DiskState}
 use Rattle.text_io.specs.Text.{SinkState}
-use Rattle.program_words.specs.Words.{make, run, check, trial, serve}
+use Rattle.program_words.specs.Words.{make, run, check, trial, serve, settle}
+use Rattle.core_moves.specs.declared.held.Settled.{Settled}
 use Rattle.tree_reading.specs.declared.found.Unreadable.{Unreadable}
 use Rattle.tree_reading.specs.declared.found.Unreadable.TheVariants as unreadable
 use Rattle.tree_reading.specs.declared.report.Report.{Report}
@@ -13,8 +14,8 @@ use Rattle.blsm_run.specs.declared.outcome.Refusal.TheVariants as refusal
 use Rattle.blsm_run.specs.declared.status.Status.{Status}
 use Rattle.blsm_run.specs.declared.status.Status.TheVariants.{Done, SinkFault, NoMemory}
 use Rattle.blsm_run.specs.Outside.{Outside}
-use Rattle.blsm_run.specs.Outcome.{Outcome, refused, made, ran, served, checked, tried, Tells, status_of}
-use Rattle.blsm_run.specs.Cause.{Cause, AsksToRun, AsksToServe, HasChecked, HasMade, WasAsked, WasStopped}
+use Rattle.blsm_run.specs.Outcome.{Outcome, refused, made, ran, served, checked, settled, tried, Tells, status_of}
+use Rattle.blsm_run.specs.Cause.{Cause, AsksToRun, AsksToServe, HasChecked, HasMade, HasSettled, WasAsked, WasStopped}
 
 module _ {D : Type 0} (state : D → DiskState) (o : Outside D) (seed count : ℕ) (asked : WasAsked o (trial seed count)) where
   not_made_so : {result : Result ℕ NotMade} → HasMade state o result → ⊥
@@ -29,10 +30,14 @@ module _ {D : Type 0} (state : D → DiskState) (o : Outside D) (seed count : �
   not_checked : {result : Result Report Unreadable} → HasChecked state o result → ⊥
   not_checked was = let same : Some (check was.name) ≡ Some (trial seed count) = sym was.asked.1 ∙ asked.1 in cc
 
+  not_settled : {result : Result Settled Unreadable} → HasSettled state o result → ⊥
+  not_settled was = let same : Some (settle was.name) ≡ Some (trial seed count) = sym was.asked.1 ∙ asked.1 in cc
+
   not_stopped : (why : Unreadable) → WasStopped state o why → ⊥
   not_stopped why (inl was) = not_run was.1
   not_stopped why (inr (inl was)) = not_served was.asks
-  not_stopped why (inr (inr was)) = not_checked was
+  not_stopped why (inr (inr (inl was))) = not_checked was
+  not_stopped why (inr (inr (inr was))) = not_settled was
 
   by_tells : (sink sink_after : SinkState) (outcome : Outcome) (status : Status) → Tells sink sink_after outcome status → (status ≡ status_of outcome) ⊎ (status ≡ SinkFault)
   by_tells sink sink_after outcome status (inl did) = inl did.0
@@ -54,4 +59,5 @@ module _ {D : Type 0} (state : D → DiskState) (o : Outside D) (seed count : �
   ends_trial sink sink_after (ran history end) status cause tells = absurd (not_run cause.1)
   ends_trial sink sink_after (served history end closing) status cause tells = absurd (not_served cause.0)
   ends_trial sink sink_after (checked report) status cause tells = absurd (not_checked cause)
+  ends_trial sink sink_after (settled counts) status cause tells = absurd (not_settled cause)
   ends_trial sink sink_after (tried s n history) status cause tells = elim (by_tells sink sink_after (tried s n history) status tells) [ inl is ↦ inl is | inr is ↦ inr (inl is) ]

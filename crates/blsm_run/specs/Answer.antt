@@ -9,7 +9,7 @@ use Rattle.blsm_model.specs.declared.row.Value.{Value}
 use Rattle.blsm_model.specs.Format.{most_script}
 use Rattle.blsm_model.specs.Sizes.{Sizes}
 use Rattle.script_text.specs.Grammar.{IsAllowed, IsScript, lines_text}
-use Rattle.program_words.specs.Words.{Asked, make, run, check, trial, serve}
+use Rattle.program_words.specs.Words.{Asked, make, run, check, trial, serve, settle}
 use Rattle.store_run.specs.Headline.{IsStoreWith}
 use Rattle.store_serve.specs.Room.{room_for}
 use Rattle.tree_session.specs.Lines.{HasRoomFor}
@@ -53,6 +53,7 @@ CanBeDone state o (run name workers turns) = HasDisk state o name IsOpenable × 
 CanBeDone state o (check name) = HasDisk state o name IsOpenable
 CanBeDone state o (trial seed count) = ⊤
 CanBeDone state o (serve name callers) = HasDisk state o name IsOpenable × TellsSession callers o
+CanBeDone state o (settle name) = HasDisk state o name IsOpenable
 
 -- Where the outside does its part: accepted words that ask for something that can be done, and no count that rose.
 pub record IsGranted {D : Type 0} (state : D → DiskState) (o : Outside D) (sink sink_after : SinkState) : Type 0 where

@@ -4,7 +4,8 @@ use Rattle.disk_trait.specs.Disk.{DiskState}
 use Rattle.disk_mem.specs.Faultless.{Faultless}
 use Rattle.blsm_model.specs.declared.history.Line.{Line}
 use Rattle.blsm_model.specs.Sizes.{Sizes}
-use Rattle.program_words.specs.Words.{Asked, AreAccepted, asked_by, make, run, check, trial, serve}
+use Rattle.program_words.specs.Words.{Asked, AreAccepted, asked_by, make, run, check, trial, serve, settle}
+use Rattle.core_moves.specs.declared.held.Settled.{Settled}
 use Rattle.tree_reading.specs.declared.found.Unreadable.{Unreadable}
 use Rattle.tree_reading.specs.declared.found.Unreadable.TheVariants as unreadable
 use Rattle.tree_reading.specs.declared.report.Report.{Report}
@@ -12,9 +13,9 @@ use Rattle.recover_open.specs.declared.making.NotMade.{NotMade}
 use Rattle.recover_open.specs.declared.making.NotMade.TheVariants as not_made
 use Rattle.store_trial.specs.Trial.{IsRoomOf, IsTrialOf}
 use Rattle.blsm_run.specs.Outside.{Outside}
-use Rattle.blsm_run.specs.Outcome.{Outcome, refused, made, ran, served, checked, tried}
+use Rattle.blsm_run.specs.Outcome.{Outcome, refused, made, ran, served, checked, settled, tried}
 use Rattle.blsm_run.specs.Reading.{ReadsScript}
-use Rattle.blsm_run.specs.Stores.{MakesOnShelf, RefusesOnShelf, ChecksOnShelf, IsRunOnShelf, IsServedOnShelf}
+use Rattle.blsm_run.specs.Stores.{MakesOnShelf, RefusesOnShelf, ChecksOnShelf, IsRunOnShelf, IsServedOnShelf, SettlesOnShelf}
 use Rattle.blsm_run.specs.declared.outcome.Refusal.{Refusal}
 use Rattle.blsm_run.specs.declared.outcome.Refusal.TheVariants as refusal
 
@@ -36,6 +37,13 @@ pub record HasChecked {D : Type 0} (state : D → DiskState) (o : Outside D) (re
   pub asked : WasAsked o (check name)
   pub unread : o.source_after ≡ o.source
   pub checks : ChecksOnShelf state name o.shelf o.shelf_after result
+
+-- The store on the disk of this name was to be settled, and the source wasn't read.
+pub record HasSettled {D : Type 0} (state : D → DiskState) (o : Outside D) (result : Result Settled Unreadable) : Type 0 where
+  pub name : List ℕ
+  pub asked : WasAsked o (settle name)
+  pub unread : o.source_after ≡ o.source
+  pub settles : SettlesOnShelf state name o.shelf o.shelf_after result
 
 -- A script was to be run over the store on the disk of this name, beside so many merge workers with so many turns each, and reading the source answered this.
 pub record AsksToRun {D : Type 0} (o : Outside D) (script : Result (List Line) Refusal) : Type 0 where
@@ -65,9 +73,9 @@ pub record HasNotServed {D : Type 0} (state : D → DiskState) (o : Outside D) (
 abbrev pub HasNotRun : {D : Type 0} → (D → DiskState) → Outside D → Unreadable → Type 0
 HasNotRun state o why = (lines : List Line) × (a : AsksToRun o (Ok lines)) × RefusesOnShelf state a.name o.shelf o.shelf_after why
 
--- the store was refused for this, to a script, to a session or to a check
+-- the store was refused for this, to a script, to a session, to a check or to a settling
 abbrev pub WasStopped : {D : Type 0} → (D → DiskState) → Outside D → Unreadable → Type 0
-WasStopped state o why = HasNotRun state o why ⊎ HasNotServed state o why ⊎ HasChecked state o (Err why)
+WasStopped state o why = HasNotRun state o why ⊎ HasNotServed state o why ⊎ HasChecked state o (Err why) ⊎ HasSettled state o (Err why)
 
 abbrev pub Cause : {D : Type 0} → (D → DiskState) → Outside D → Outcome → Type 0
 Cause state o (refused refusal.Usage) = (¬ AreAccepted o.words) × (o.source_after ≡ o.source) × (o.shelf_after ≡ o.shelf)
@@ -84,4 +92,5 @@ Cause state o (made length) = HasMade state o (Ok length)
 Cause state o (ran history end) = (lines : List Line) × (a : AsksToRun o (Ok lines)) × IsRunOnShelf state a.name lines a.workers a.turns (λ room. IsRoomOf room lines) history end o.shelf o.shelf_after
 Cause state o (served history end closing) = (a : AsksToServe o) × IsServedOnShelf state a.name a.callers history end closing o.shelf o.shelf_after o.source o.source_after
 Cause state o (checked report) = HasChecked state o (Ok report)
+Cause state o (settled counts) = HasSettled state o (Ok counts)
 Cause state o (tried seed count history) = WasAsked o (trial seed count) × (o.source_after ≡ o.source) × (o.shelf_after ≡ o.shelf) × (disk : Faultless) × IsTrialOf seed count history disk

@@ -6,6 +6,7 @@ use Rattle.text_io.specs.Text.{Adds, AddsFront, SinkState, Writes}
 use Rattle.blsm_model.specs.declared.component.Component.{Component}
 use Rattle.blsm_model.specs.declared.history.Totals.{Totals}
 use Rattle.blsm_model.specs.Printed.{and_number, end_text, history_text}
+use Rattle.core_moves.specs.declared.held.Settled.{Settled}
 use Rattle.script_text.specs.Generated.{HasMadeKeys}
 use Rattle.script_text.specs.Summary.{summary_text}
 use Rattle.tree_reading.specs.declared.found.Place.{Place}
@@ -41,6 +42,7 @@ pub data Outcome : Type 0 where
   -- a session was served, how its run ended, and why it did
   served : Run → Ending → Closing → Outcome
   checked : Report → Outcome
+  settled : Settled → Outcome
   -- the script of so many commands from this seed was run
   tried : ℕ → ℕ → Run → Outcome
 
@@ -70,6 +72,7 @@ outcome_of (Ok (answer.Made length)) = made length
 outcome_of (Ok (answer.Ran finished)) = ran (run_of finished) finished.ending
 outcome_of (Ok (answer.Served s)) = served (run_of s.finished) s.finished.ending s.closing
 outcome_of (Ok (answer.Checked report)) = checked report
+outcome_of (Ok (answer.Settled counts)) = settled counts
 outcome_of (Ok (answer.Tried seed count finished)) = tried seed count (run_of finished)
 outcome_of (Err why) = refused why
 
@@ -124,6 +127,7 @@ status_of (made length) = Done
 status_of (ran run end) = status_of_ending end
 status_of (served run end closing) = status_of_session end closing
 status_of (checked report) = Done
+status_of (settled counts) = Done
 status_of (tried seed count run) = Done
 
 -- ---- texts
@@ -145,6 +149,15 @@ report_text report =
     codes "ok version" ++ and_number report.version ++ and_component (codes " c1") report.c1 ++ and_component (codes " c1x") report.c1x
     ++ and_component (codes " c2") report.c2 ++ codes " lanes" ++ and_number report.lane_a ++ and_number report.lane_b ++ newline
 
+-- a number behind its name
+abbrev pub named_number : List ℕ → ℕ → List ℕ
+named_number name n = name ++ and_number n
+
+abbrev pub settled_text : Settled → List ℕ
+settled_text counts =
+    named_number (codes "settled version") counts.version ++ named_number (codes " quanta") counts.quanta ++ named_number (codes " of") counts.bound
+    ++ newline
+
 abbrev pub text_of : Outcome → List ℕ
 text_of (refused refusal.Usage) = codes "usage" ++ newline
 text_of (refused refusal.SourceFault) = codes "source fault" ++ newline
@@ -160,6 +173,7 @@ text_of (made length) = codes "made " ++ decimal length ++ newline
 text_of (ran run end) = history_text run.charge run.entries run.quanta run.totals
 text_of (served run end closing) = served_text run.charge run.entries run.quanta run.totals closing
 text_of (checked report) = report_text report
+text_of (settled counts) = settled_text counts
 text_of (tried seed count run) = summary_text seed count run.entries run.quanta run.totals
 
 -- ---- the sink

@@ -8,6 +8,7 @@ use Rattle.disk_trait.specs.Reads.{OnlyReads}
 use Rattle.disk_trait.specs.Region.{span}
 use Rattle.disk_trait.specs.Shelf.{IsFreshCount, ShelfState, KeepsDisks}
 use Rattle.blsm_model.specs.Geometry.{file_length}
+use Rattle.core_moves.specs.declared.held.Settled.{Settled}
 use Rattle.blsm_model.specs.Sizes.{Sizes}
 use Rattle.blsm_model.specs.declared.history.Line.{Line}
 use Rattle.blsm_model.specs.declared.key.Key.{Key}
@@ -32,6 +33,7 @@ use Rattle.recover_open.specs.Making.{IsEmptyOrNone, IsMadeEmpty, WasNotEmpty}
 use Rattle.recover_open.specs.declared.making.NotMade.{NotMade}
 use Rattle.recover_open.specs.declared.making.NotMade.TheVariants as not_made
 use Rattle.recover_open.specs.Opening.{HasLengthOf, KeepsMapOf, ReadsAsNone}
+use Rattle.recover_open.specs.Settled.{ToldSettling}
 use Rattle.tree_session.specs.Faults.{Reaches, faults_told}
 use Rattle.store_run.specs.declared.run.Ending.{Ending}
 use Rattle.store_run.specs.declared.run.Finished.{Finished}
@@ -167,3 +169,17 @@ abbrev pub ChecksOnShelf : {D : Type 0} → (D → DiskState) → List ℕ → S
 ChecksOnShelf state name old new (Ok report) = WasCalm state name false old new (WasLookedAt (IsReportOf report))
 ChecksOnShelf state name old new (Err unreadable.Fault) = HasFailedOnce state name false old new (HasLooked reading_calls)
 ChecksOnShelf state name old new (Err why) = WasCalm state name false old new (WasLookedAt (IsWhy why))
+
+-- ---- settling
+
+-- It was opened, which settled it by so much as an opening of what it had counts. Each image is one from before or reads as the map, as
+-- `LeavesClosed` has it.
+pub record WasSettled (counts : Settled) (first last : DiskState) : Type 0 where
+  pub counted : ToldSettling counts first last
+  pub reads : IsTrue first.is_honest → (sizes : Sizes) × (pairs : List (Key × Value)) × ReadsAsMap sizes pairs first.bytes
+  pub leaves : LeavesClosed first last
+
+-- what it took, or why the store wasn't opened
+abbrev pub SettlesOnShelf : {D : Type 0} → (D → DiskState) → List ℕ → ShelfState D → ShelfState D → Result Settled Unreadable → Type 0
+SettlesOnShelf state name old new (Ok counts) = WasCalm state name false old new (WasSettled counts)
+SettlesOnShelf state name old new (Err why) = RefusesOnShelf state name old new why

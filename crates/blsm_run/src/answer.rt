@@ -1,7 +1,24 @@
 //! What a call answers: the text that it writes, a line in one call of the sink, and its status.
 ghost use Rattle.std.specs.Prelude.{◌≡◌, ◌+◌, ◌≤◌, ◌++◌, decimal, length, IfOk, Ok, Err};
 ghost use Rattle.text_io.specs.Text.{SinkState, Writes};
-ghost use Rattle.blsm_run.specs.Outcome.{HasMadeAnswer, HasTold, Tells, TellsLines, WritesAnswer, WritesRest, and_component, newline, outcome_of, place_text, report_text, status_of, status_of_ending, status_of_session, text_of};
+ghost use Rattle.blsm_run.specs.Outcome.{
+  HasMadeAnswer,
+  HasTold,
+  Tells,
+  TellsLines,
+  WritesAnswer,
+  WritesRest,
+  and_component,
+  newline,
+  outcome_of,
+  place_text,
+  report_text,
+  settled_text,
+  status_of,
+  status_of_ending,
+  status_of_session,
+  text_of,
+};
 
 use crate::Status;
 use crate::outcome::{Answer, Refusal};
@@ -9,7 +26,7 @@ use blsm_model::Component;
 use recover_open::{Place, Report};
 use refusal::Failed;
 use script_text::{LONGEST, Piece, print_end, print_history, print_summary};
-use store_run::{Ending, Finished};
+use store_run::{Ending, Finished, Settled};
 use store_serve::{Closing, Served, print_closing};
 use text_io::{Sink, write_all};
 
@@ -45,6 +62,17 @@ fn print_report<K: Sink>(sink: &mut K, report: &Report) -> Result<(), Failed>
     add_component(&mut piece, b" c2", &report.c2);
     piece.add_named_number(b" lanes", report.lane_a);
     piece.add_and_number(report.lane_b);
+    piece.add(b"\n");
+    write_all(sink, piece.as_slice())
+}
+
+fn print_settled<K: Sink>(sink: &mut K, settled: &Settled) -> Result<(), Failed>
+    ensures { Writes (settled_text settled.now) result (K.state sink.old) (K.state sink.new) }
+{
+    let mut piece = Piece::new();
+    piece.add_named_number(b"settled version", settled.version);
+    piece.add_named_number(b" quanta", settled.quanta);
+    piece.add_named_number(b" of", settled.bound);
     piece.add(b"\n");
     write_all(sink, piece.as_slice())
 }
@@ -89,7 +117,8 @@ fn print_rest<K: Sink>(sink: &mut K, served: &Served) -> Result<(), Failed>
     }
 }
 
-// What was done: the length of a store that was made, the history of a run, the end of a session, the report of a check, the summary of a trial.
+// What was done: the length of a store that was made, the history of a run, the end of a session, the report of a check, the counts of a
+// settling, the summary of a trial.
 fn print_done<K: Sink>(sink: &mut K, answer: &Answer) -> Result<(), Failed>
     requires { HasMadeAnswer answer.now }
     ensures { WritesAnswer (outcome_of (Ok answer.now)) result (K.state sink.old) (K.state sink.new) }
@@ -99,6 +128,7 @@ fn print_done<K: Sink>(sink: &mut K, answer: &Answer) -> Result<(), Failed>
         Answer::Ran(run) => print_history(sink, run.charge, &run.annals, &run.totals),
         Answer::Served(served) => print_rest(sink, served),
         Answer::Checked(report) => print_report(sink, report),
+        Answer::Settled(settled) => print_settled(sink, settled),
         Answer::Tried(seed, count, run) => print_summary(
             sink,
             *seed,
@@ -166,7 +196,8 @@ fn status_for(answer: &Result<Answer, Refusal>) -> Status
     ensures { result ≡ status_of (outcome_of answer.now) }
 {
     match answer {
-        Ok(Answer::Made(_) | Answer::Checked(_) | Answer::Tried(..)) => Status::Done,
+        Ok(Answer::Made(_) | Answer::Checked(_) | Answer::Settled(_) | Answer::Tried(..)) =>
+            Status::Done,
         Ok(Answer::Ran(run)) => status_of_run(run),
         Ok(Answer::Served(served)) => status_of_session(served),
         Err(refusal) => status_of_refusal(*refusal),

@@ -4,7 +4,7 @@ ghost use Rattle.std.specs.Prelude.{◌≡◌};
 use program_words::Unread;
 use recover_open::{NotMade, Place, Report, Unreadable};
 use refusal::NoMemory;
-use store_run::Finished;
+use store_run::{Finished, Settled};
 use store_serve::Served;
 
 /// What was asked for was done.
@@ -18,6 +18,8 @@ pub(crate) enum Answer {
     Served(Served),
     /// A store was checked.
     Checked(Report),
+    /// A store was settled by its opening.
+    Settled(Settled),
     /// The script of so many commands from this seed was run.
     Tried(u64, u32, Finished),
 }

@@ -8,7 +8,7 @@ ghost use Rattle.blsm_run.specs.Outside.{outside};
 
 use crate::outcome::{Answer, Refusal};
 use crate::source::read_source;
-use crate::stores::{check_on_shelf, make_on_shelf, run_on_shelf, serve_on_shelf};
+use crate::stores::{check_on_shelf, make_on_shelf, run_on_shelf, serve_on_shelf, settle_on_shelf};
 use blsm_model::Gate;
 use disk_trait::Shelf;
 use program_words::{Request, read_words};
@@ -97,6 +97,7 @@ fn carry_out<R: Threads + Wait + Sync, S: Source, K: Sink, H: Shelf, G: Gate + S
         } => run(rt, alloc, source, shelf, name, workers, turns, gate),
         Request::Serve { name, callers } => serve(alloc, source, sink, shelf, name, callers),
         Request::Check { name } => Ok(Answer::Checked(check_on_shelf(alloc, shelf, name)?)),
+        Request::Settle { name } => Ok(Answer::Settled(settle_on_shelf(alloc, shelf, name)?)),
         Request::Trial { seed, count } => Ok(Answer::Tried(
             seed,
             count,

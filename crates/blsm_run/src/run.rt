@@ -15,7 +15,8 @@ use text_io::{Sink, Source};
 
 /// Reads the words and does what they ask for: it makes a store on the disk of a name; runs a script from the source over the store on one, by
 /// sixteen callers and so many merge workers on threads, and prints its history; serves a session over it, each line done and told as it comes;
-/// checks the store on one and prints its numbers; or runs a script that a seed makes and prints its summary.
+/// checks the store on one and prints its numbers; settles the store on one and prints what that took; or runs a script that a seed makes and prints
+/// its summary.
 pub fn blsm_run<R: Threads + Wait + Sync, S: Source, K: Sink, H: Shelf, G: Gate + Sync>(
     rt: &R,
     alloc: Global,

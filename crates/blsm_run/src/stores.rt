@@ -7,7 +7,7 @@ ghost use Rattle.store_trial.specs.Trial.{IsRoomOf};
 ghost use Rattle.tree_session.specs.Lines.{AreRunnable};
 ghost use Rattle.store_run.specs.Run.{run_of};
 ghost use Rattle.store_serve.specs.Told.{IsTold};
-ghost use Rattle.blsm_run.specs.Stores.{ChecksOnShelf, MakesOnShelf, RunsOnShelf, ServesOnShelf};
+ghost use Rattle.blsm_run.specs.Stores.{ChecksOnShelf, MakesOnShelf, RunsOnShelf, ServesOnShelf, SettlesOnShelf};
 
 use blsm_model::{Gate, Geometry, Line, Room};
 use disk_trait::Shelf;
@@ -15,7 +15,7 @@ use recover_open::{NotMade, Report, Unreadable, check_store, make_store};
 use std::alloc::Global;
 use std::sync::Wait;
 use std::thread::Threads;
-use store_run::{Finished, run_over};
+use store_run::{Finished, Settled, run_over, settle_over};
 use store_serve::{Served, serve_over, share};
 use text_io::{Sink, Source};
 
@@ -82,6 +82,23 @@ pub(crate) fn check_on_shelf<H: Shelf>(
     let checked = check_store(alloc, &mut disk);
     shelf.give_back(name, disk);
     checked
+}
+
+/// Settles the store on the disk of a name, as each opening does.
+#[inline(never)]
+pub(crate) fn settle_on_shelf<H: Shelf>(
+    alloc: Global,
+    shelf: &mut H,
+    name: &str,
+) -> Result<Settled, Unreadable>
+    ensures { SettlesOnShelf H.D.state name.now (H.state shelf.old) (H.state shelf.new) result }
+{
+    let Ok(found) = shelf.fetch(name, false) else {
+        return Err(Unreadable::Fault);
+    };
+    let (disk, settled) = settle_over(alloc, found);
+    shelf.give_back(name, disk);
+    settled
 }
 
 /// Serves the lines of the source over the store on the disk of a name, with room for so many callers. Each line is told as it was done.

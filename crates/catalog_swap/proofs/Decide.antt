@@ -1,5 +1,5 @@
 -- Whether a slot has a catalogue is decided by its bytes.
-use Rattle.std.proofs.Common.{◌≡◌, ◌⊎◌, inl, inr, ⊎_elim, ℕ, ◌^◌, ◌<◌, ◌≤◌, true, false, List, [], ◌∷◌, length, drop, bytes_eq, refl, ap, sym, subst, ◌∙◌, arith}
+use Rattle.std.proofs.Common.{◌≡◌, ◌⊎◌, inl, inr, ⊎_elim, ℕ, ◌^◌, ◌<◌, ◌≤◌, true, false, List, [], ◌∷◌, length, take, drop, bytes_eq, refl, ap, sym, subst, ◌∙◌, arith}
 use Rattle.std.specs.Int.{w32, w64, from_be_bytes}
 use Rattle.std.proofs.lemmas.Bool.{cases_lt}
 use Rattle.std.proofs.lemmas.Nat.{from_be_bytes-to_be_bytes_4, from_be_bytes-to_be_bytes_8}
@@ -14,7 +14,7 @@ use Rattle.blsm_model.specs.Components.{no_page}
 use Rattle.blsm_model.specs.Lanes.{a_of, b_of, spare_of, AreRoles}
 use Rattle.catalog_swap.specs.Text.{AreNumbers, FitsBody, IsComponent, IsCatalog, component_text, body_text, slot_text}
 use Rattle.catalog_swap.specs.Slots.{slot_of, odd_slot, even_slot, slot_length, HasSlot, IsBroken, IsNewest, IsDamagedSlots, none_open, odd_broken, even_broken}
-use Rattle.catalog_swap.proofs.TextLemmas.{body_parts}
+use Rattle.catalog_swap.proofs.TextLemmas.{numbers_parts, numbers_of_body}
 use Rattle.catalog_swap.proofs.SlotLemmas.{newest_alone, newest_above}
 
 -- it holds, or it doesn't
@@ -120,10 +120,11 @@ component_back c n = λ i. record {
   weight = from_be_bytes-to_be_bytes_8 c.weight n.weight i;
 }
 
-catalog_back : (c : Catalog) → FitsBody c → catalog_in (body_text c) ≡ c
+catalog_back : (c : Catalog) → FitsBody c → catalog_in (take 83 (body_text c)) ≡ c
 unfolding catalog_in
 catalog_back c f =
-    let parts = body_parts c f.lanes in λ i. record {
+    let parts = numbers_parts c f.lanes in
+    ap catalog_in (numbers_of_body c f.lanes) ∙ λ i. record {
       version = (ap (from_be_bytes w64) parts.0 ∙ from_be_bytes-to_be_bytes_8 c.version f.version) i;
       lanes = parts.1 i;
       c1 = (ap component_in parts.2 ∙ component_back c.c1 f.c1) i;
@@ -136,10 +137,10 @@ catalog_back c f =
 slot : (sizes : Sizes) (at : ℕ) (file : List ℕ) → Decided ((c : Catalog) × HasSlot sizes at c file)
 slot sizes at file =
     let text = part file at slot_length in
-    let said = catalog_in (drop 1 text) in
+    let said = catalog_in (take 83 (drop 1 text)) in
     iff (λ (p : IsCatalog sizes said × ((slot_of said.version ≡ at) × (text ≡ slot_text said))). (said, record { fits = p.0; parity = p.1.0; text = p.1.1 }))
     (λ has.
-    let is : said ≡ has.0 = ap (λ (l : List ℕ). catalog_in (drop 1 l)) has.1.text ∙ catalog_back has.0 has.1.fits.fits in (
+    let is : said ≡ has.0 = ap (λ (l : List ℕ). catalog_in (take 83 (drop 1 l))) has.1.text ∙ catalog_back has.0 has.1.fits.fits in (
       subst (IsCatalog sizes) (sym is) has.1.fits,
       (subst (λ (c : Catalog). slot_of c.version ≡ at) (sym is) has.1.parity, subst (λ (c : Catalog). text ≡ slot_text c) (sym is) has.1.text),
     ))

@@ -49,7 +49,7 @@ pub slots_apart : {region : Region} {old new : List ℕ} → ((version : ℕ) �
 slots_apart apart same = record { slot = λ version. part_apart (slot_of version) slot_length (apart version) same }
 
 -- what lies behind the slots stands apart from them
-pub behind_apart : (at n : ℕ) → 1108 ≤ at → (version : ℕ) → AreApart (span at n) (span (slot_of version) slot_length)
+pub behind_apart : (at n : ℕ) → 1109 ≤ at → (version : ℕ) → AreApart (span at n) (span (slot_of version) slot_length)
 behind_apart at n behind version i one other = omega (arith, behind, one.0, other.1)
 
 -- where a crash leaves what a read gives, a disk is settled at its newest catalogue

@@ -65,14 +65,14 @@ gate_torn sizes now old new newest was_open same = record {
     at : ℕ
     at = other_slot now.version
 
-    body_apart : AreApart (span at 1) (span (at + 1) 83)
+    body_apart : AreApart (span at 1) (span (at + 1) 84)
     body_apart i gate body = omega (arith, gate.1, body.0)
 
     stays : IsOpen at new → part new at slot_length ≡ part old at slot_length
     stays opened =
-        part-split new at 1 83
-        ∙ (λ i. (opened ∙ sym was_open) i ++ part_apart (at + 1) 83 body_apart same i)
-        ∙ sym (part-split old at 1 83)
+        part-split new at 1 84
+        ∙ (λ i. (opened ∙ sym was_open) i ++ part_apart (at + 1) 84 body_apart same i)
+        ∙ sym (part-split old at 1 84)
 
 -- The older slot's gate is closed from start to mid, or was closed.
 module _ (sizes : Sizes) (now : Catalog) (start mid : DiskState) (honest : IsTrue start.is_honest) (place : ℕ) (placed : place ≡ other_slot now.version)

@@ -1,5 +1,5 @@
 -- The text of a catalogue. Numbers have their highest byte first.
-use Rattle.std.specs.Prelude.{◌≡◌, ◌⊎◌, ℕ, ◌<◌, ◌≤◌, ◌^◌, List, [], ◌∷◌, ◌++◌, length}
+use Rattle.std.specs.Prelude.{◌≡◌, ◌⊎◌, ℕ, ◌+◌, ◌<◌, ◌≤◌, ◌^◌, List, [], ◌∷◌, ◌++◌, length}
 use Rattle.std.specs.Int.{w32, w64, to_be_bytes}
 use Rattle.gated_write.specs.Gated.{open_byte}
 use Rattle.blsm_model.specs.Format.{least_weight}
@@ -56,13 +56,24 @@ pub record IsCatalog (sizes : Sizes) (catalog : Catalog) : Type 0 where
 unfoldable pub component_text : Component → List ℕ
 component_text c = to_be_bytes w32 c.first ++ to_be_bytes w32 c.pages ++ to_be_bytes w64 c.entries ++ to_be_bytes w64 c.weight
 
+-- the numbers of a slot's body, and how many bytes they have
+unfoldable pub numbers_text : Catalog → List ℕ
+numbers_text catalog = to_be_bytes w64 catalog.version ++ catalog.lanes ++ component_text catalog.c1 ++ component_text catalog.c1x ++ component_text catalog.c2
+
+abbrev pub numbers_length : ℕ
+numbers_length = 83
+
+-- the flag of a body that says no more than its numbers
+abbrev pub no_flag : ℕ
+no_flag = 0
+
 -- a slot's body: what it has behind its gate
 unfoldable pub body_text : Catalog → List ℕ
-body_text catalog = to_be_bytes w64 catalog.version ++ catalog.lanes ++ component_text catalog.c1 ++ component_text catalog.c1x ++ component_text catalog.c2
+body_text catalog = numbers_text catalog ++ no_flag ∷ []
 
 -- how many bytes that is
 abbrev pub body_length : ℕ
-body_length = 83
+body_length = numbers_length + 1
 
 -- the slot with its gate open
 abbrev pub slot_text : Catalog → List ℕ

@@ -3,13 +3,19 @@ ghost use Rattle.std.specs.Prelude.{◌≡◌, ◌↔◌, ◌+◌, ◌≤◌, �
 ghost use Rattle.disk_trait.specs.Disk.{part};
 ghost use Rattle.blsm_model.specs.Geometry.{page_count};
 ghost use Rattle.blsm_model.specs.Lanes.{AreRoles};
-ghost use Rattle.catalog_swap.specs.Text.{AreNumbers, FitsBody, IsComponent, IsCatalog, component_text, body_text};
+ghost use Rattle.catalog_swap.specs.Text.{AreNumbers, FitsBody, IsComponent, IsCatalog, component_text, numbers_text, numbers_length, no_flag, body_text};
 
 use big_endian::{u32_at, u64_at};
 use blsm_model::{Component, Geometry};
 
 /// How many bytes the body of a slot has, behind its gate.
-pub const BODY_LEN: usize = 83;
+pub const BODY_LEN: usize = 84;
+
+// Where the flag of a body stands, behind its numbers.
+const FLAG_AT: usize = BODY_LEN - 1;
+
+// The flag of a body that says no more than its numbers.
+const NO_FLAG: u8 = 0;
 
 // How many bytes a component's numbers have.
 const COMPONENT_LEN: usize = 24;
@@ -70,6 +76,7 @@ pub fn body_of(catalog: &Catalog) -> [u8; BODY_LEN]
     put(&mut body, 11, &component_text(&catalog.c1));
     put(&mut body, 35, &component_text(&catalog.c1x));
     put(&mut body, 59, &component_text(&catalog.c2));
+    put(&mut body, FLAG_AT, &[NO_FLAG]);
     body
 }
 
@@ -96,10 +103,18 @@ fn lanes_at(bytes: &[u8], at: usize) -> [u8; LANES]
     lanes
 }
 
-// The catalogue that a body says, valid or not.
+// Whether a body says no more than its numbers.
+pub fn is_plain(body: &[u8]) -> bool
+    requires { length body.now ≡ BODY_LEN }
+    ensures { IsTrue result ↔ (drop numbers_length body.now ≡ no_flag ∷ []) }
+{
+    body[FLAG_AT] == NO_FLAG
+}
+
+// The catalogue that the numbers of a body say, valid or not.
 pub fn catalog_in(body: &[u8]) -> Catalog
     requires { length body.now ≡ BODY_LEN }
-    ensures text { body.now ≡ body_text result }
+    ensures text { take numbers_length body.now ≡ numbers_text result }
     ensures fits { FitsBody result }
 {
     Catalog {

@@ -18,7 +18,7 @@ pub fn one_newest()
     ensures some { (sizes : Sizes) (file : List ℕ) → ((catalog : Catalog) × IsNewest sizes catalog file) ⊎ IsDamagedSlots sizes file }
 {}
 
-/// A catalogue has one body, of 83 bytes, and a body is of one catalogue at most.
+/// A catalogue has one body, of 84 bytes, and a body is of one catalogue at most.
 pub fn one_body()
     ensures same { (one other : Catalog) → FitsBody one → FitsBody other → body_text one ≡ body_text other → one ≡ other }
     ensures long { (catalog : Catalog) → FitsBody catalog → length (body_text catalog) ≡ body_length }

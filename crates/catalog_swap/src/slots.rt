@@ -10,7 +10,7 @@ ghost use Rattle.catalog_swap.specs.Text.{IsCatalog, body_text};
 ghost use Rattle.catalog_swap.specs.Slots.{slot_of, other_slot, odd_slot, even_slot};
 ghost use Rattle.catalog_swap.specs.Reading.{TellsNewest, TellsSlot};
 
-use crate::catalog::{BODY_LEN, Catalog, catalog_in, is_catalog};
+use crate::catalog::{BODY_LEN, Catalog, catalog_in, is_catalog, is_plain};
 use blsm_model::Geometry;
 use disk_trait::Disk;
 use gated_write::OPEN;
@@ -77,7 +77,7 @@ fn valid_catalog(body: &[u8], geo: &Geometry, at: u64) -> Option<Catalog>
     ensures none { IfNone result ((other : Catalog) → IsCatalog geo.now other → slot_of other.version ≡ at → body.now ≡ body_text other → ⊥) }
 {
     let found = catalog_in(body);
-    if is_catalog(&found, geo) && slot_of(found.version) == at {
+    if is_plain(body) && is_catalog(&found, geo) && slot_of(found.version) == at {
         Some(found)
     } else {
         None
@@ -127,8 +127,9 @@ fn newest_of(odd: Option<Catalog>, even: Option<Catalog>) -> Result<Catalog, Slo
 
 /// Reads the newest catalogue: of the open slots, of which each must have a valid body, the one of the higher version.
 ///
-/// A body is valid where the version is at least 1 and of its slot's parity, the lanes are 0, 1 and 2 in some order, and each
-/// component is empty or has a first page and pages of the store, at least one entry, and a weight of at least 14 bytes.
+/// A body is valid where the version is at least 1 and of its slot's parity, the lanes are 0, 1 and 2 in some order, each
+/// component is empty or has a first page and pages of the store, at least one entry, and a weight of at least 14 bytes, and the
+/// flag is 0.
 /// `Damaged` comes exactly where no slot is open or an open one has no valid body.
 pub fn newest<D: Disk>(disk: &mut D, geo: &Geometry) -> Result<Catalog, SlotsBroken>
     requires { IsTrue (D.state disk.old).tells_bytes → length (D.state disk.old).bytes ≡ file_length geo.now }

@@ -7,4 +7,4 @@ mod quanta;
 mod swaps;
 mod writes;
 
-pub use held::Held;
+pub use held::{Held, Settled};

@@ -8,6 +8,7 @@ use crate::asserts::{assert_same, assert_that, assert_that_at};
 use crate::samples::most_quanta;
 use blsm_model::{Annals, CALLERS, Geometry, Op, Room, ShortReply};
 use catalog_swap::Catalog;
+use core_moves::Settled;
 use disk_mem::MemDisk;
 use disk_trait::Disk;
 use gated_log::Lanes;
@@ -94,7 +95,7 @@ impl File {
         let _half = geo.half();
         let space = Space::reserve(alloc, geo.pages() as u32)?;
         let merges = MergeRoom::reserve(alloc)?;
-        let guides = GuideRoom::reserve(alloc, &geo)?;
+        let guides = GuideRoom::reserve(alloc, &geo, 0)?;
         let runs = Runs::open(&geo, first_catalogue(), space, merges, guides);
         let log = LoggedTables::open(
             Table::reserve(alloc, geo.high_mark())?,
@@ -111,6 +112,11 @@ impl File {
             annals,
             holds,
             rows,
+            settled: Settled {
+                version: 1,
+                quanta: 0,
+                bound: 5,
+            },
         }))
     }
 }

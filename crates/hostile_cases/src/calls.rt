@@ -2,6 +2,7 @@
 use crate::bench::call;
 use crate::departure::Departure;
 use crate::disk::PageDisk;
+use crate::runs::read_head;
 use crate::scripts::{Scripts, lines_of};
 use crate::words::{number, words_of};
 use disk_trait::Disk;
@@ -21,15 +22,18 @@ fn read_call<'a>(line: &'a str, scripts: &'a Scripts) -> Result<(&'a str, &'a st
     }
 }
 
-// Whether a status and a text are those that are wanted. Dots stand for the first lines.
+// Whether a status and a text are those that are wanted. Dots stand for the first lines, or for all.
 fn is_wanted(alloc: Global, found: &str, wanted: &str) -> Result<bool, Departure> {
-    match wanted.split_once(" ..; ") {
-        Some((status, last)) => {
-            let first = format!(in alloc; "{status} open charge ")?;
-            let last = lines_of(alloc, last)?;
-            Ok(found.starts_with(first.as_str()) && found.ends_with(last.as_str()))
-        }
-        None => Ok(found == lines_of(alloc, wanted)?.as_str()),
+    let Some((status, last)) = wanted.split_once(" ..") else {
+        return Ok(found == lines_of(alloc, wanted)?.as_str());
+    };
+    let first = format!(in alloc; "{status} open charge ")?;
+    if !found.starts_with(first.as_str()) {
+        return Ok(false);
+    }
+    match last.strip_prefix("; ") {
+        Some(last) => Ok(found.ends_with(lines_of(alloc, last)?.as_str())),
+        None => Ok(true),
     }
 }
 
@@ -65,6 +69,37 @@ fn write_zeros(alloc: Global, disk: &mut PageDisk, count: &str) -> Result<(), De
     Ok(())
 }
 
+// A call and what it must answer.
+fn check_line<R: Threads + Wait + Sync>(
+    rt: &R,
+    alloc: Global,
+    scripts: &Scripts,
+    disk: PageDisk,
+    line: &str,
+) -> Result<PageDisk, Departure> {
+    match line.split_once(" => ") {
+        Some((line, wanted)) => check_call(rt, alloc, scripts, disk, line, wanted),
+        None => Err(Departure::NotACase),
+    }
+}
+
+// A call over a disk that stops at a call of it, counted from 1. The next one has the disk as it reads then.
+fn check_stopped<R: Threads + Wait + Sync>(
+    rt: &R,
+    alloc: Global,
+    scripts: &Scripts,
+    disk: PageDisk,
+    step: &str,
+) -> Result<PageDisk, Departure> {
+    let Some((call, line)) = read_head(step) else {
+        return Err(Departure::NotACase);
+    };
+    let mut disk = disk;
+    let call = disk.calls().saturating_add(call);
+    disk.stop(call);
+    Ok(check_line(rt, alloc, scripts, disk, line)?.copied()?)
+}
+
 // A call, or zeros that are written.
 fn check_step<R: Threads + Wait + Sync>(
     rt: &R,
@@ -78,14 +113,15 @@ fn check_step<R: Threads + Wait + Sync>(
         write_zeros(alloc, &mut disk, count)?;
         return Ok(disk);
     }
-    match step.split_once(" => ") {
-        Some((line, wanted)) => check_call(rt, alloc, scripts, disk, line, wanted),
-        None => Err(Departure::NotACase),
+    match step.strip_prefix("stop ") {
+        Some(step) => check_stopped(rt, alloc, scripts, disk, step),
+        None => check_line(rt, alloc, scripts, disk, step),
     }
 }
 
 /// Checks a case: steps over a disk without a byte, parted by bars. A step is the words of a call, and behind a `<` the script that it reads, and
-/// then its status and its lines, of which two dots leave out the first ones; or a number of zeros that are written.
+/// then its status and its lines, of which two dots leave out the first ones, or all; or a number of zeros that are written. Before the words a call
+/// of the disk may stand at which it stops.
 pub fn check<R: Threads + Wait + Sync>(
     rt: &R,
     alloc: Global,

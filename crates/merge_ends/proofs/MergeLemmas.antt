@@ -95,6 +95,7 @@ module _ {settles : Bool} {sizes : Sizes} {file : List ℕ} {space : SpaceState}
         newer_is = refl;
         older_is = is.older_is;
         run = is.run;
+        begun = is.begun;
         out_is = is.out_is ∙ sym (ap (λ (l : Entries). kept settles (folded_over l (up_to merge.at under))) same);
         closed_up = is.closed_up;
         left_is = is.left_is;

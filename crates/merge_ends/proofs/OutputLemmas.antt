@@ -20,7 +20,7 @@ use Rattle.blsm_model.specs.Sizes.{Sizes}
 use Rattle.disk_trait.specs.Region.{IsWithin as IsInside}
 use Rattle.page_file.specs.File.{page_region}
 use Rattle.page_file.proofs.PageLemmas.{others_apart}
-use Rattle.run_writer.specs.Writer.{WriterState, closed_entries, has_place, open_region, loose_region, put_in, turned, IsCounted}
+use Rattle.run_writer.specs.Writer.{WriterState, begins_page, closed_entries, has_place, open_region, loose_region, put_in, turned, unfenced, HasEntries, IsCounted}
 use Rattle.merge_step.proofs.TakenLemmas.{below_above}
 use Rattle.merge_ends.specs.Output.{TakesPages, HasRoom, EndBy, has_turned, kept, most_pages}
 use Rattle.merge_ends.proofs.KeptLemmas.{same_none}
@@ -53,10 +53,17 @@ pub room_for_one : (space : SpaceState) (writer : WriterState) (n : ℕ) → IsC
     → room.live + seat_count * room.share < space.pages
 room_for_one space writer n h1 h2 h3 room = grind (arith, common_steps, nat_tests)
 
--- and there is room for the fence of the page that it takes
-pub fence_for_one : (writer : WriterState) (n reserved fences : ℕ) → IsCounted writer → n ≤ 512 → has_place writer n ≡ false → most_pages (writer.component.weight + n) ≤ reserved
-    → fences ≡ writer.component.pages → fences < reserved
-fence_for_one writer n reserved fences h1 h2 h3 h4 h5 = grind (arith, common_steps, nat_tests)
+-- and there is room for the fence of the page that it takes, or begins
+fence_for_next : (writer : WriterState) (n reserved fences : ℕ) → IsCounted writer → n ≤ 512 → has_place writer n ≡ false → most_pages (writer.component.weight + n) ≤ reserved
+    → fences ≤ writer.component.pages → fences < reserved
+fence_for_next writer n reserved fences h1 h2 h3 h4 h5 = grind (arith, common_steps, nat_tests)
+
+fence_for_first : (writer : WriterState) (n reserved fences : ℕ) → IsCounted writer → most_pages (writer.component.weight + n) ≤ reserved → fences + 1 ≡ writer.component.pages → fences < reserved
+fence_for_first writer n reserved fences h1 h2 h3 = grind (arith, common_steps, nat_tests)
+
+pub fence_for_one : (writer : WriterState) (n reserved fences : ℕ) → IsCounted writer → n ≤ 512 → IsTrue (begins_page writer n) → most_pages (writer.component.weight + n) ≤ reserved
+    → fences + unfenced writer ≡ writer.component.pages → fences < reserved
+fence_for_one writer n reserved fences h1 h2 h3 h4 h5 = grind (arith, common_steps, nat_tests, fence_for_next, fence_for_first)
 
 pub room_same : (space : SpaceState) (writer new : WriterState) (n left : ℕ) → new.component.weight ≡ writer.component.weight + n → new.component.pages ≡ writer.component.pages
     → HasRoom space writer (n + left) → HasRoom space new left
@@ -186,6 +193,16 @@ text_put false result space after writer new key rec here claimed law =
     (λ is. ap (λ (w : WriterState). length w.buffer.text) is ∙ law (turned t.0 writer) key rec
     ∙ sym (ap (λ (b : Bool). (if b then 0 else length writer.buffer.text) + weight key rec) (one_page_more writer new (ap (λ (w : WriterState). w.component.pages) is))))
     t.3
+
+pub begun_put : (place : Bool) (result : Result (Unit {0}) Failed) (space after : SpaceState) (writer new : WriterState) (key : Key) (rec : Rec)
+    → Here place space after writer new key rec → Claimed place result space after writer new key rec
+    → ((w : WriterState) (k : Key) (r : Rec) → length (put_in k r w).buffer.text ≡ length w.buffer.text + weight k r) → OnOk result (HasEntries new)
+begun_put true result space after writer new key rec here claimed law =
+    let is = (here refl).1 in
+    always result (λ some. omega (arith, ap (λ (w : WriterState). length w.buffer.text) is, law writer key rec))
+begun_put false result space after writer new key rec here claimed law =
+    let t = claimed refl in
+    on_ok result (λ is some. omega (arith, ap (λ (w : WriterState). length w.buffer.text) is, law (turned t.0 writer) key rec)) t.3
 
 -- a merge that doesn't settle writes the record itself
 pub not_kept : (settles : Bool) (key : Key) (rec : Rec) → settles ≡ false → kept settles ((key, rec) ∷ []) ≡ [] → ⊥

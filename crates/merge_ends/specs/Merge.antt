@@ -10,7 +10,7 @@ use Rattle.page_file.specs.Component.{RunPage, ReadsOn, entries_of}
 use Rattle.record_delta.specs.Entries.{Entries, above, entries_weight, folded_over, up_to}
 use Rattle.page_space.specs.Space.{SpaceState}
 use Rattle.run_cursor.specs.Cursor.{CursorState, started as cursor_started}
-use Rattle.run_writer.specs.Writer.{WriterState, closed_entries, closed_of, started as writer_started}
+use Rattle.run_writer.specs.Writer.{WriterState, closed_entries, closed_of, HasEntries, started as writer_started}
 use Rattle.merge_ends.specs.Input.{left_in, IsInput}
 use Rattle.merge_ends.specs.Newer.{IsNewer, component_left, components_above, cursors_with, newer_left}
 use Rattle.merge_ends.specs.Output.{HasRun, IsUpTo, kept}
@@ -53,13 +53,13 @@ pub record Covers (settles : Bool) (merge : MergeState) (input : Option CursorSt
   pub light : settles ≡ false → input ≡ None → entries_weight (above merge.closed table) ≤ entries_weight (above merge.at table) + length merge.writer.buffer.text
   pub left : IsSome merge.closed → components_left merge input ≤ merge.left
 
--- Of both lists, what is up to the greatest key taken was taken, folded key by key, settled where the merge settles, and pushed. What is above it is
--- left. The closed
--- pages have what comes of both up to a key that isn't above that one.
+-- Of both lists, what is up to the greatest key taken was taken, folded key by key, settled where the merge settles, and pushed, so the open page, if
+-- there is one, has an entry. What is above it is left. The closed pages have what comes of both up to a key that isn't above that one.
 pub record IsMerging (settles : Bool) (sizes : Sizes) (file : List ℕ) (space : SpaceState) (merge : MergeState) (input : Option CursorState) (table : Entries) (filter : BitState) (fences : FencesState) (newer_pages older_pages : List ℕ) (newer older : Entries) : Type 0 where
   pub newer_is : IsNewer sizes file space merge.writer.role merge.at input table newer_pages newer
   pub older_is : IsInput sizes file space merge.writer.role merge.at merge.older older_pages older
   pub run : HasRun sizes true file space merge.writer filter fences merge.at
+  pub begun : HasEntries merge.writer
   pub out_is : run.out ≡ kept settles (folded_over (up_to merge.at newer) (up_to merge.at older))
   pub closed_up : IsUpTo merge.closed merge.at
   pub closed_is : closed_entries merge.writer run.out ≡ kept settles (folded_over (up_to merge.closed newer) (up_to merge.closed older))

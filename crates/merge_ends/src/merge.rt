@@ -67,12 +67,14 @@ fn copy_of(key: &Option<Key>) -> Option<Key>
     }
 }
 
-// Up to which key all is on closed pages, once a group was pushed behind this key: up to it where a page was taken for the group, and up to the key
-// of before where none was.
-fn closed_behind(turned: bool, at: &Option<Key>, closed: &Option<Key>) -> Option<Key>
-    ensures { result ≡ (if turned then at.now else closed.now) }
+// Tells up to which key all is on closed pages, once a group was pushed behind this key: up to it where a page was taken for the group, and up to the
+// key of before where none was.
+fn tell_closed(closed: &mut Option<Key>, turned: bool, at: &Option<Key>)
+    ensures { closed.new ≡ (if turned then at.now else closed.old) }
 {
-    copy_of(if turned { at } else { closed })
+    if turned {
+        *closed = copy_of(at);
+    }
 }
 
 // How much was left of the components above the key that is told of the closed pages.
@@ -209,7 +211,7 @@ impl Merge {
         )?;
         let turned = self.writer.component().pages > pages;
         self.left = left_behind(turned, newer, &self.older, &self.at, self.left);
-        self.closed = closed_behind(turned, &self.at, &self.closed);
+        tell_closed(&mut self.closed, turned, &self.at);
         self.at = Some(key.copy());
         Ok(weight)
     }

@@ -11,7 +11,7 @@ ghost use Rattle.record_delta.specs.Records.{settle as settle_of, weight as weig
 ghost use Rattle.page_space.specs.Space.{role_size};
 ghost use Rattle.page_file.specs.Entry.{AreRising};
 ghost use Rattle.page_file.specs.File.{Writes};
-ghost use Rattle.run_writer.specs.Writer.{closed_entries, open_region, role_region, loose_region, HasPushed};
+ghost use Rattle.run_writer.specs.Writer.{closed_entries, open_region, role_region, loose_region, HasEntries, HasPushed};
 ghost use Rattle.merge_ends.specs.Output.{TakesPages, HasFences, HasRoom, has_turned, kept, entry_of, left_at};
 
 use bloom_bits::{Fences, Filter};
@@ -96,6 +96,8 @@ pub fn put<D: Disk>(
         → OnOk result (closed_entries writer.new (out ++ kept settles ((key.now, rec.now) ∷ [])) ≡ (if has_turned writer.old writer.new then out else closed_entries writer.old out)) }
     ensures here { settles ≡ false
         → OnOk result (length writer.new.buffer.text ≡ (if has_turned writer.old writer.new then 0 else length writer.old.buffer.text) + weight_with key.now rec.now) }
+    // An open page that has an entry has one still, and so has a new one.
+    ensures begun { HasEntries writer.old → OnOk result (HasEntries writer.new) }
     ensures room { (left : ℕ) → HasRoom space.old writer.old (weight_with key.now rec.now + left) → OnOk result (HasRoom space.new writer.new left) }
     ensures light { OnOk result (writer.new.component.weight ≤ writer.old.component.weight + weight_with key.now rec.now) }
     ensures size { OnOk result (role_size space.new writer.old.role + writer.old.component.pages ≡ role_size space.old writer.old.role + writer.new.component.pages) }

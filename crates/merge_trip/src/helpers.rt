@@ -235,6 +235,16 @@ pub struct Store {
     ghost seats: { (seat : ℕ) → seat < seat_count → pin_size space seat ≤ 0 },
 }
 
+// Their sum, where none is a million or more.
+fn sum_of(rt: &impl Abort, a: u64, b: u64, c: u64) -> u64
+    ensures { result ≡ a + b + c }
+{
+    assert!(rt; a < 1_000_000);
+    assert!(rt; b < 1_000_000);
+    assert!(rt; c < 1_000_000);
+    a + b + c
+}
+
 impl Store {
     /// The smallest store, with this quantum and no run.
     pub fn blank(rt: &impl Abort, alloc: Global, quantum: u64) -> Store {
@@ -349,13 +359,12 @@ impl Store {
         let mut total = 0u64;
         'quanta: for _ in 0..1_000usize {
             assert!(rt; live < 1_000_000 && total < 1_000_000);
-            assert!(rt; c1x.weight < 1_000_000 && c2.weight < 1_000_000);
             let _pages = space.pages();
             if deep.is_done() {
                 let run = deep.finish(&mut disk, &geo).ok();
                 return ended(File { geo, disk }, space, live, role, run, quanta);
             }
-            let most = total + c1x.weight + c2.weight;
+            let most = sum_of(rt, total, c1x.weight, c2.weight);
             assert!(rt; live + most / 3_577 + 1 <= geo.pages());
             let at = deep.cursor();
             let taken = match deep.quantum(&mut disk, &geo, &mut space, &mut filter, &mut fences) {

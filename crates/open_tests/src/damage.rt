@@ -138,7 +138,7 @@ fn another_length_is_no_store(rt: HostRuntime) {
     let disk = make_rich(&rt, alloc).disk;
     let length = smallest(&rt).length();
     check_opens(&rt, alloc, &front(&rt, alloc, &disk, length));
-    for count in [0, 1, 27, 596, 4_096, 4_097, length.saturating_sub(1)] {
+    for count in [0, 1, 27, 597, 4_096, 4_097, length.saturating_sub(1)] {
         let cut = front(&rt, alloc, &disk, count);
         check_refused(&rt, alloc, &cut, Unreadable::NotAStore);
     }

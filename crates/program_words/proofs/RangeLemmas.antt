@@ -6,7 +6,38 @@ use Rattle.std.specs.Str.{bytes_eq}
 use Rattle.std.specs.Str.Parse.{digits_value, without_leading_plus}
 use Rattle.clap.specs.Words.{Text, Row, one_of, subcommand_of}
 use Rattle.blsm_model.specs.Sizes.{Sizes, IsGeometry}
-use Rattle.program_words.specs.Words.{Number, number_by, number_in, half_number, ratio_number, low_number, quantum_number, seed_number, count_number, geometry_by, geometry_in, make_by, make_in, run_by, run_in, serve_by, serve_in, trial_by, trial_in, callers_number, workers_number, turns_number, file_in, asked_in, asked_by, program, Asked, check, IsInRange}
+use Rattle.program_words.specs.Words.{
+  Number,
+  number_by,
+  number_in,
+  half_number,
+  ratio_number,
+  low_number,
+  quantum_number,
+  seed_number,
+  count_number,
+  geometry_by,
+  geometry_in,
+  make_by,
+  make_in,
+  run_by,
+  run_in,
+  serve_by,
+  serve_in,
+  trial_by,
+  trial_in,
+  callers_number,
+  workers_number,
+  turns_number,
+  file_in,
+  asked_in,
+  asked_by,
+  program,
+  settle,
+  Asked,
+  check,
+  IsInRange,
+}
 
 abbrev value : Text → ℕ
 value text = digits_value 10 (without_leading_plus text)
@@ -43,6 +74,9 @@ serve_fits name callers asked h1 h2 = grind (arith, common_steps, nat_tests)
 check_fits : (name : Option Text) (asked : Asked) → option_map check name ≡ Some asked → IsInRange asked
 check_fits name asked h1 = grind (arith, common_steps, nat_tests)
 
+settle_fits : (name : Option Text) (asked : Asked) → option_map settle name ≡ Some asked → IsInRange asked
+settle_fits name asked h1 = grind (arith, common_steps, nat_tests)
+
 either : (b : Bool) (x y : Option Asked) (asked : Asked) → cond b x y ≡ Some asked → (x ≡ Some asked → IsInRange asked) → (y ≡ Some asked → IsInRange asked) → IsInRange asked
 either b x y asked h1 h2 h3 = grind (arith, common_steps, nat_tests)
 
@@ -59,8 +93,10 @@ command_fits name rows asked is =
     (λ third. either (bytes_eq name (codes "check")) (option_map check (file_in rows)) _ asked third (check_fits (file_in rows) asked)
     (λ fourth. either (bytes_eq name (codes "trial")) (trial_in rows) _ asked fourth
     (trial_fits (number_in seed_number rows) (number_in count_number rows) asked (bounded seed_number rows) (bounded count_number rows))
-    (λ last. either (bytes_eq name (codes "serve")) (serve_in rows) None asked last
-    (serve_fits (file_in rows) (number_in callers_number rows) asked (bounded callers_number rows)) (none_fits asked)))))
+    (λ fifth. either (bytes_eq name (codes "serve")) (serve_in rows) _ asked fifth
+    (serve_fits (file_in rows) (number_in callers_number rows) asked (bounded callers_number rows))
+    (λ last. either (bytes_eq name (codes "settle")) (option_map settle (file_in rows)) None asked last (settle_fits (file_in rows) asked)
+    (none_fits asked))))))
 
 met_fits : (met : Option (Text × List Row)) (asked : Asked) → option_and_then asked_in met ≡ Some asked → IsInRange asked
 met_fits met asked h1 = grind (arith, common_steps, nat_tests, command_fits)

@@ -4,7 +4,7 @@ use Rattle.clap.specs.Words.{Text, Kinds, fault_of}
 use Rattle.clap.specs.declared.error.kind.ErrorKind.TheVariants as kind
 use Rattle.clap.proofs.OnLiterals.{clap_on_literals}
 use Rattle.blsm_model.specs.Sizes.{default_sizes}
-use Rattle.program_words.specs.Words.{program, Asked, make, run, check, trial, serve, asked_by}
+use Rattle.program_words.specs.Words.{program, Asked, make, run, check, trial, serve, settle, asked_by}
 
 abbrev after_name : List Text → List Text
 after_name words = codes "blsm" ∷ words
@@ -73,6 +73,10 @@ serve_file = (refl, refl)
 serve_one : AskFor (codes "serve" ∷ codes "--callers" ∷ codes "1" ∷ codes "F" ∷ []) (serve (codes "F") 1)
 unfolding clap_on_literals
 serve_one = (refl, refl)
+
+settle_file : AskFor (on_file (codes "settle") []) (settle (codes "F"))
+unfolding clap_on_literals
+settle_file = (refl, refl)
 
 -- ---- refused
 
@@ -148,6 +152,10 @@ many_callers = refl
 workers_of_serve : fault (on_file (codes "serve") (codes "--workers" ∷ codes "2" ∷ [])) ≡ kind.UnknownArgument ∷ []
 unfolding clap_on_literals
 workers_of_serve = refl
+
+half_of_settle : fault (on_file (codes "settle") (codes "--half" ∷ codes "17408" ∷ [])) ≡ kind.UnknownArgument ∷ []
+unfolding clap_on_literals
+half_of_settle = refl
 
 serve_nothing : fault (codes "serve" ∷ []) ≡ kind.MissingRequiredArgument ∷ []
 unfolding clap_on_literals

@@ -116,11 +116,13 @@ program = with_subcommand
     (with_subcommand
     (with_subcommand
     (with_subcommand
+    (with_subcommand
     (with_subcommand (record no_command { top = record no_command.top { subcommand_required = true } }) make_command.top)
     run_command.top)
     (on_file (codes "check")).top)
     trial_command.top)
-    serve_command.top
+    serve_command.top)
+    (on_file (codes "settle")).top
 
 -- the argument is read by this rule, and no command but its own has it
 pub record IsRule (rule : Rule) (arg : Arg) : Type 0 where
@@ -135,13 +137,14 @@ pub record IsCommand (app : App) (command : Command) : Type 0 where
 -- ---- what words ask for
 
 -- a store to be made, one to run a script over with so many merge workers, each of which takes so many turns at most, one to
--- look at, one to serve so many callers over, each in the file of a name; a trial, by its seed and its count
+-- look at, one to serve so many callers over, one to settle, each in the file of a name; a trial, by its seed and its count
 pub data Asked : Type 0 where
   make : List ℕ → Sizes → Asked
   run : List ℕ → ℕ → ℕ → Asked
   check : List ℕ → Asked
   trial : ℕ → ℕ → Asked
   serve : List ℕ → ℕ → Asked
+  settle : List ℕ → Asked
 
 -- what is asked for is a store of a geometry, a run with few workers and few turns, a trial of a seed of 64 bits and of a
 -- step to as many as a script has lines, or a session of one caller to sixteen
@@ -151,6 +154,7 @@ IsInRange (run name workers turns) = (workers ≤ most_workers) × (turns ≤ mo
 IsInRange (check name) = ⊤
 IsInRange (trial seed count) = (seed < 2 ^ 64) × (1 ≤ count) × (count ≤ most_lines)
 IsInRange (serve name callers) = (1 ≤ callers) × (callers ≤ most_callers)
+IsInRange (settle name) = ⊤
 
 -- the number that a text is, where it is one in the option's range, by the test that `clap` tries too
 abbrev pub number_by : Number → Text → Option ℕ
@@ -206,7 +210,8 @@ asked_in command = if bytes_eq command.0 (codes "make") then make_in command.1
     else if bytes_eq command.0 (codes "run") then run_in command.1
     else if bytes_eq command.0 (codes "check") then option_map check (file_in command.1)
     else if bytes_eq command.0 (codes "trial") then trial_in command.1
-    else if bytes_eq command.0 (codes "serve") then serve_in command.1 else None
+    else if bytes_eq command.0 (codes "serve") then serve_in command.1
+    else if bytes_eq command.0 (codes "settle") then option_map settle (file_in command.1) else None
 
 -- the request that the reading of the words gives, if any
 abbrev pub asked_by : List Text → Option Asked
@@ -222,6 +227,7 @@ asked_of (request.Run name workers turns) = run name.now workers turns
 asked_of (request.Check name) = check name.now
 asked_of (request.Trial seed count) = trial seed count
 asked_of (request.Serve name callers) = serve name.now callers
+asked_of (request.Settle name) = settle name.now
 
 -- what the reading of the words answers
 abbrev pub ReadsWords : List Text → Result Request Unread → Type 0

@@ -1,4 +1,4 @@
-//! The words of the command line, as `clap` reads them: five commands, with a file or with numbers.
+//! The words of the command line, as `clap` reads them: six commands, with a file or with numbers.
 //!
 //! What words ask for is clap's reading of one table of commands, which stands in `specs/Words.antt`. The program's
 //! `main` hands in the words that it was started with.

@@ -1,4 +1,4 @@
-//! What the program takes: five commands.
+//! What the program takes: six commands.
 ghost use Rattle.std.specs.Prelude.{◌≡◌, IfOk, false};
 ghost use Rattle.clap.specs.Words.{App, Rule, app_of, rule_of, with_rule, with_subcommand};
 ghost use Rattle.program_words.specs.Words.{number_rule, file as file_rule, on_file as on_file_app, make_command as make_app, run_command as run_app, trial_command as trial_app, serve_command as serve_app, program as program_app, IsCommand, IsRule};
@@ -134,5 +134,6 @@ pub(crate) fn program<'a>(alloc: Global) -> Result<Command<'a>, AllocError>
     let with_run = with_command(with_make, run(alloc));
     let with_check = with_command(with_run, on_file(alloc, "check"));
     let with_trial = with_command(with_check, trial(alloc));
-    with_command(with_trial, serve(alloc))
+    let with_serve = with_command(with_trial, serve(alloc));
+    with_command(with_serve, on_file(alloc, "settle"))
 }

@@ -21,6 +21,10 @@ pub enum Request<'a> {
     Check {
         name: &'a str,
     },
+    /// The settling of the store in the file of this name.
+    Settle {
+        name: &'a str,
+    },
     /// A trial of so many steps, from 1 to 65,536, drawn from this seed.
     Trial {
         seed: u64,

@@ -1,7 +1,7 @@
 //! Words are read.
 ghost use Rattle.std.specs.Prelude.{◌≡◌, ◌≢◌, map, option_map, string_bytes};
 ghost use Rattle.clap.specs.Words.{found_of, kind_of, rows_of};
-ghost use Rattle.program_words.specs.Words.{asked_in, asked_of, check, file_in, geometry_in, make_in, run_in, serve_in, trial_in, ReadsWords};
+ghost use Rattle.program_words.specs.Words.{asked_in, asked_of, check, file_in, geometry_in, make_in, run_in, serve_in, settle, trial_in, ReadsWords};
 
 use crate::numbers::{MAX_CALLERS, MAX_COUNT, MAX_TURNS, MAX_WORKERS, MIN_COUNT, number_of};
 use crate::program::program;
@@ -87,6 +87,16 @@ fn check_of<'a>(matches: &ArgMatches<'a>) -> Option<Request<'a>>
     }
 }
 
+// What `settle` asks for.
+fn settle_of<'a>(matches: &ArgMatches<'a>) -> Option<Request<'a>>
+    ensures { option_map asked_of result ≡ option_map settle (file_in (rows_of (found_of matches.now))) }
+{
+    match matches.get_str("FILE") {
+        Some(name) => Some(Request::Settle { name }),
+        None => None,
+    }
+}
+
 // What the command of this name asks for.
 fn request_of<'a>(command: &str, matches: &ArgMatches<'a>) -> Option<Request<'a>>
     ensures { option_map asked_of result ≡ asked_in (command.now, rows_of (found_of matches.now)) }
@@ -97,6 +107,7 @@ fn request_of<'a>(command: &str, matches: &ArgMatches<'a>) -> Option<Request<'a>
         "check" => check_of(matches),
         "trial" => trial_of(matches),
         "serve" => serve_of(matches),
+        "settle" => settle_of(matches),
         _ => None,
     }
 }

@@ -58,7 +58,14 @@ impl Rec {
             value.text.set(text);
             return;
         }
-        *self = base(count, text);
+        *self = Rec::Base(Value {
+            count,
+            text: Text::empty(),
+        });
+        match self {
+            Rec::Base(value) => value.text.set(text),
+            _ => unreachable!(),
+        }
     }
 
     /// Becomes a delta of this amount and tail, of at most 64 bytes. Where it was one, it copies these bytes and no more.
@@ -71,7 +78,11 @@ impl Rec {
             change.text.set(tail);
             return;
         }
-        *self = delta(amount, tail);
+        *self = Rec::added(amount);
+        match self {
+            Rec::Delta(change) => change.text.set(tail),
+            _ => unreachable!(),
+        }
     }
 
     /// The delta that adds this amount.
@@ -114,30 +125,6 @@ impl Rec {
             Write::Del(_) => Rec::Tomb,
         }
     }
-}
-
-// The base of a count and a text.
-fn base(count: u64, text: &[u8]) -> Rec
-    requires { length text.now ≤ most_text }
-    ensures { result ≡ rec.Base (record { count = count; text = text.now }) }
-{
-    match Text::from_bytes(text) {
-        Some(text) => Rec::Base(Value { count, text }),
-        None => unreachable!(),
-    }
-}
-
-// The delta of an amount and a tail.
-fn delta(amount: u64, tail: &[u8]) -> Rec
-    requires { length tail.now ≤ most_tail }
-    ensures { result ≡ rec.Delta (record { count = amount; text = tail.now }) }
-{
-    let mut text = TailPart::empty();
-    text.set(tail);
-    Rec::Delta(Both {
-        count: AddPart::new(amount),
-        text,
-    })
 }
 
 /// The weight of a record with its key, in bytes: 13, the key, which has one byte at least, and the text of a base or the tail of a delta.

@@ -57,6 +57,7 @@ begun light found guides honest file is =
       lanes_are = refl;
       log_of = log_is found tree refl is.roles a.table_is b.table_is a.place_is b.place_is;
       mark = is.head.fits.mark;
+      high = omega (arith, held_a, held_b, ap entries_weight a.table_is);
       full = omega (arith, is.head.fits.full, held_a, held_b, ap entries_weight a.table_is);
       deep = light found.geometry found.catalogue found.space guides;
       reserved_a = omega (arith, is.reserved_a);

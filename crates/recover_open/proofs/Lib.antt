@@ -1,5 +1,6 @@
 mod MakingLemmas
 mod BeginLemmas
+mod CountLemmas
 mod OpeningLemmas
 mod SettledLemmas
 mod TreeLemmas

@@ -5,9 +5,10 @@ ghost use Rattle.disk_trait.specs.Effects.{Affects};
 ghost use Rattle.blsm_model.specs.Geometry.{file_length};
 ghost use Rattle.blsm_model.specs.declared.key.Key.{Key};
 ghost use Rattle.blsm_model.specs.declared.row.Value.{Value};
+ghost use Rattle.record_delta.specs.Entries.{entries_weight};
 ghost use Rattle.tree_reading.specs.Reading.{HoldsFound, IsFound};
-ghost use Rattle.tree_log.specs.Log.{weight_of_tables};
-ghost use Rattle.tree_runs.specs.Runs.{AreGuides, AreRunning};
+ghost use Rattle.tree_runs.specs.Runs.{AreGuides, AreRunning, first_tags, opened};
+ghost use Rattle.tree_settling.specs.Counting.{CountsQuanta, most_merges, quanta_bound, settling_due, settling_least};
 ghost use Rattle.tree_settling.specs.Settling.{
   HasBegun,
   IsSettled,
@@ -19,29 +20,32 @@ ghost use Rattle.tree_settling.specs.Settling.{
   settling_calls,
   settling_weight,
 };
-ghost use Rattle.recover_open.specs.Opening.{BeginsIn, IsReady, TellsSettled, tables_of, weight_found};
+ghost use Rattle.recover_open.specs.Opening.{BeginsIn, IsReady, TellsSettled, weight_found};
+ghost use Rattle.recover_open.specs.Settled.{SettlesWithin};
 
+use core_moves::Settled;
 use disk_trait::Disk;
 use page_file::Broken;
 use tree_log::LoggedTables;
 use tree_reading::{Found, Place, Unreadable};
 use tree_runs::{MergeRoom, Runs};
-use tree_settling::settle;
+use tree_settling::{most_quanta, settle};
 
-/// The components and the log of a store that was read.
+/// The components and the log of a store that was read, and what settling them took.
 #[derive(Drop)]
 pub(crate) struct Begun {
     pub(crate) runs: Runs,
     pub(crate) log: LoggedTables,
+    pub(crate) settled: Settled,
 }
 
 // Begins with what was found. A deep merge runs where C1' has pages.
 fn begin(found: Found, room: MergeRoom) -> Begun
     requires found { (honest : Bool) × (file : List ℕ) × IsFound found honest file }
-    requires guides { AreGuides found.geometry found.guides }
-    ensures sizes { result.runs.sizes ≡ found.geometry }
-    ensures catalogue { result.runs.catalogue ≡ found.catalogue }
-    ensures tables { weight_of_tables result.log ≡ tables_of found }
+    requires guides { AreGuides found.geometry first_tags found.guides }
+    ensures runs { result.runs ≡ opened found.geometry found.catalogue found.space found.guides }
+    ensures log { result.log ≡ record { a = found.a; b = found.b; lanes = found.lanes } }
+    ensures bound { result.settled.bound ≡ quanta_bound result.runs.sizes (settling_due result.runs result.log) }
     ensures numbers { HasBegun result.runs result.log }
     ensures running { (honest : Bool) (file : List ℕ) → AreRunning honest file result.runs }
     ensures lists { (file : List ℕ) → (holds : HoldsFound found file) → BeginsIn result.runs result.log holds.tree file }
@@ -58,7 +62,12 @@ fn begin(found: Found, room: MergeRoom) -> Begun
     } = found;
     let runs = Runs::open(&geometry, catalogue, space, room, guides);
     let log = LoggedTables::open(a, b, lanes);
-    Begun { runs, log }
+    let settled = Settled {
+        version: catalogue.version,
+        quanta: 0,
+        bound: most_quanta(&runs, &log),
+    };
+    Begun { runs, log, settled }
 }
 
 // Settles what was begun with.
@@ -69,13 +78,27 @@ fn settle_begun<D: Disk>(disk: &mut D, begun: Begun) -> Result<Begun, Unreadable
         (D.state disk.new) }
     ensures on { IfOk result (λ ready. SettlesOn begun.runs ready.runs begun.log ready.log (D.state disk.old) (D.state disk.new)) }
     ensures settled { IfOk result (λ ready. IsSettled ready.runs ready.log × (ready.runs.catalogue.version ≤ begun.runs.catalogue.version + 5)) }
+    ensures counts { IfOk result (λ ready. CountsQuanta (1 + most_merges (entries_weight begun.log.a.entries) (entries_weight begun.log.b.entries))
+        (settling_least begun.runs begun.log) (settling_due begun.runs begun.log) begun.runs ready.runs ready.settled.quanta
+        × (ready.settled.bound ≡ begun.settled.bound) × (ready.settled.version ≡ ready.runs.catalogue.version)) }
     ensures why { (pairs : List (Key × Value)) → IsTrue (D.state disk.old).is_honest → ShowsMap begun.runs begun.log pairs (D.state disk.old)
         → IfErr result (λ why. why ≡ Unreadable.Fault) }
     ensures faults { TellsFaultsBy (Err Unreadable.Fault) result (D.state disk.old) (D.state disk.new) }
 {
-    let Begun { mut runs, mut log } = begun;
+    let Begun {
+        mut runs,
+        mut log,
+        settled,
+    } = begun;
     match settle(disk, &mut runs, &mut log) {
-        Ok(()) => Ok(Begun { runs, log }),
+        Ok(quanta) => {
+            let settled = Settled {
+                version: runs.catalogue().version,
+                quanta,
+                bound: settled.bound,
+            };
+            Ok(Begun { runs, log, settled })
+        }
         Err(Broken::Damaged(page)) => Err(Unreadable::Damaged(Place::Page(page))),
         Err(Broken::Fault) => Err(Unreadable::Fault),
     }
@@ -88,9 +111,12 @@ pub(crate) fn settle_found<D: Disk>(
     room: MergeRoom,
 ) -> Result<Begun, Unreadable>
     requires found { (honest : Bool) × (file : List ℕ) × IsFound found honest file }
-    requires guides { AreGuides found.geometry found.guides }
+    requires guides { AreGuides found.geometry first_tags found.guides }
     requires length { IsTrue (D.state disk.old).tells_bytes → length (D.state disk.old).bytes ≡ file_length found.geometry }
     ensures ready { IfOk result (λ begun. IsReady found.geometry found.catalogue.version begun.runs begun.log (D.state disk.new)) }
+    ensures counts { IfOk result (λ begun. SettlesWithin found.geometry found.catalogue (entries_weight found.a.entries)
+        (entries_weight found.b.entries)
+        begun.runs.catalogue begun.settled) }
     ensures tells { IsTrue (D.state disk.old).is_honest → Only (D.state disk.old).bytes (D.state disk.old).images → (holds : HoldsFound found (D.state disk.old).bytes)
         → TellsSettled found.geometry holds.tree result (D.state disk.old) (D.state disk.new) }
     ensures effect { Affects anywhere (file_length found.geometry) (settling_calls found.geometry (weight_found found)) (D.state disk.old)

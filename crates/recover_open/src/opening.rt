@@ -10,7 +10,7 @@ ghost use Rattle.blsm_model.specs.declared.row.Value.{Value};
 ghost use Rattle.tree_file.specs.Tree.{ReadsAsMap};
 ghost use Rattle.tree_reading.specs.Damage.{most_version};
 ghost use Rattle.tree_reading.specs.Reading.{HoldsFound, IsFound, IsWhy, calls_of_reading, reading_calls};
-ghost use Rattle.tree_runs.specs.Runs.{AreGuides};
+ghost use Rattle.tree_runs.specs.Runs.{AreGuides, first_tags};
 ghost use Rattle.tree_settling.specs.Settling.{CallsFew};
 ghost use Rattle.core_moves.specs.Held.{charge_in};
 ghost use Rattle.core_pace.specs.Opening.{IsOpened};
@@ -28,6 +28,7 @@ ghost use Rattle.recover_open.specs.Opening.{
   no_entries,
   why_of,
 };
+ghost use Rattle.recover_open.specs.Settled.{CountsSettling};
 
 use crate::beginning::{Begun, settle_found};
 use blsm_model::{Annals, Room};
@@ -51,7 +52,7 @@ fn read_synced<D: Disk>(alloc: Global, disk: &mut D) -> Result<Found, Unreadable
     ensures only { OnOk result (IsTrue (D.state disk.old).is_honest → Only (D.state disk.new).bytes (D.state disk.new).images) }
     ensures kept { IsTrue (D.state disk.old).is_honest → LeavesOnly (D.state disk.old) (D.state disk.new) (D.state disk.old).images }
     ensures synced { IsTrue (D.state disk.old).is_honest → LeavesOnlyOnceSynced (D.state disk.old) (D.state disk.new) (λ c. c ≡ (D.state disk.old).bytes) }
-    ensures guides { IfOk result (λ found. AreGuides found.geometry found.guides) }
+    ensures guides { IfOk result (λ found. AreGuides found.geometry first_tags found.guides) }
     ensures calls { IfOk result (λ found. CallsFew (1 + reading_calls found.geometry) (D.state disk.old) (D.state disk.new)) }
     ensures few { IfOk result (λ found. CallsFew (1 + calls_of_reading found.catalogue found.records_a found.records_b) (D.state disk.old)
         (D.state disk.new)) }
@@ -64,31 +65,36 @@ fn read_synced<D: Disk>(alloc: Global, disk: &mut D) -> Result<Found, Unreadable
     read_tree(alloc, disk, Purpose::Opening)
 }
 
-// Memory for what reading doesn't fill: the merges, the history, the callers' holds, and the rows of one reply.
+// Memory for what reading doesn't fill, of one size for each store: the merges, the callers' holds, and the rows of one reply.
 #[derive(Drop)]
 struct Memory {
     merges: MergeRoom,
-    annals: Annals,
     holds: Holds,
     rows: RowRoom,
 }
 
-fn reserve(alloc: Global, room: Room) -> Result<Memory, NoMemory>
-    requires entries { sum room.entries ≤ most_entries }
-    requires rows { sum room.rows ≤ most_rows_asked }
-    ensures annals { IfOk result (λ memory. memory.annals ≡ record { entries = []; quanta = []; room = room }) }
-    ensures none { IfOk result (λ memory. memory.holds ≡ replicate callers None) }
+fn reserve(alloc: Global) -> Result<Memory, NoMemory>
+    ensures { IfOk result (λ memory. memory.holds ≡ replicate callers None) }
 {
     Ok(Memory {
         merges: MergeRoom::reserve(alloc)?,
-        annals: Annals::reserve(alloc, room)?,
         holds: Holds::reserve(alloc)?,
         rows: RowRoom::reserve(alloc)?,
     })
 }
 
-// Reads the store on a disk, and settles it.
-fn open_tree<D: Disk>(alloc: Global, disk: &mut D, room: MergeRoom) -> Result<Begun, Unreadable>
+// Reads the store on a disk, and settles it. Between the two the memory for the history is taken, and put where it is to lie: a store that isn't
+// read needs none, and where it is refused nothing is written yet.
+fn open_tree<D: Disk>(
+    alloc: Global,
+    disk: &mut D,
+    merges: MergeRoom,
+    room: Room,
+    history: &mut Option<Annals>,
+) -> Result<Begun, Unreadable>
+    requires entries { sum room.entries ≤ most_entries }
+    requires rows { sum room.rows ≤ most_rows_asked }
+    ensures history { IfOk result (λ begun. history.new ≡ Some (no_entries room)) }
     ensures ready { IfOk result (λ begun. (version : ℕ) × (version ≤ most_version) × IsReady begun.runs.sizes version begun.runs begun.log (D.state disk.new)) }
     ensures stands { IsTrue (D.state disk.old).is_honest → IfOk result (λ begun. HasOpenedOn begun.runs begun.log (D.state disk.old).bytes (D.state disk.new)) }
     ensures refused { IsTrue (D.state disk.old).is_honest → IfErr result (λ why. IsWhy why (D.state disk.old).bytes) }
@@ -98,11 +104,16 @@ fn open_tree<D: Disk>(alloc: Global, disk: &mut D, room: MergeRoom) -> Result<Be
     ensures long { IfOk result (λ begun. HasLengthOf begun.runs.sizes (D.state disk.old)) }
     ensures spares { IsTrue (D.state disk.old).is_honest → IfErr result (λ why. SparesImages why (D.state disk.old) (D.state disk.new)) }
     ensures takes { IfOk result (λ begun. TakesFew begun.runs.sizes (D.state disk.old) (D.state disk.new)) }
+    ensures counts { IfOk result (λ begun. CountsSettling begun.runs.sizes begun.runs.catalogue begun.settled (D.state disk.old) (D.state disk.new)) }
     ensures effect { StaysInside (D.state disk.old) (D.state disk.new) }
     ensures faults { TellsFaultsBy (Err Unreadable.Fault) result (D.state disk.old) (D.state disk.new) }
 {
     let found = read_synced(alloc, disk)?;
-    settle_found(disk, found, room)
+    let Ok(annals) = Annals::reserve(alloc, room) else {
+        return Err(Unreadable::NoMemory);
+    };
+    *history = Some(annals);
+    settle_found(disk, found, merges)
 }
 
 /// Why a store was not opened, and the disk.
@@ -118,7 +129,8 @@ pub struct NotOpened<D: Drop> {
 /// the filters and fences of its components, and settles it by its merges: then C1' and both tables are empty, and the history has no entry.
 ///
 /// `NotAStore`, `Damaged` and `Worn` come as `read_tree` tells them, `Fault` just where the disk's count of faults rose, and `NoMemory` where memory
-/// was refused, also that for tables, filters and fences, whose size is known once the geometry is read. The disk is given back, with what it had.
+/// was refused, also that for tables, filters, fences and the history, whose size is known once the geometry is read: so a damage comes before it.
+/// The disk is given back, with what it had.
 /// Half of the clauses are of the core that it gives, half of what a refusal or a crash leaves, of calls and of faults.
 ///
 /// It stays a call, so that the parts of a core aren't added to the frame of who runs it.
@@ -152,11 +164,14 @@ pub fn open_store<D: Disk + Drop>(
 
     // On every disk no more calls than what was read takes: the pages and the weight that the catalogue says, and the records of the lanes.
     ensures takes { IfOk result (λ core. TakesFew core.held.runs.sizes (D.state disk) (D.state core.disk)) }
+    // And no more quanta than the bound, by the weights of what was found, as the core tells them.
+    ensures counts { IfOk result (λ core. CountsSettling core.held.runs.sizes core.held.runs.catalogue core.held.settled (D.state disk)
+        (D.state core.disk)) }
     ensures effect { StaysInside (D.state disk) (D.state (disk_of result)) }
     ensures faults { TellsFaultsBy (Some Unreadable.Fault) (why_of result) (D.state disk) (D.state (disk_of result)) }
 {
     let mut disk = disk;
-    let Ok(memory) = reserve(alloc, room) else {
+    let Ok(memory) = reserve(alloc) else {
         return Err(NotOpened {
             disk,
             why: Unreadable::NoMemory,
@@ -164,13 +179,16 @@ pub fn open_store<D: Disk + Drop>(
     };
     let Memory {
         merges,
-        annals,
         holds,
         rows,
     } = memory;
-    match open_tree(alloc, &mut disk, merges) {
+    let mut history = None;
+    match open_tree(alloc, &mut disk, merges, room, &mut history) {
         Ok(begun) => {
-            let Begun { runs, log } = begun;
+            let Begun { runs, log, settled } = begun;
+            let Some(annals) = history else {
+                unreachable!()
+            };
             Ok(Core::assemble(Parts {
                 disk,
                 runs,
@@ -178,6 +196,7 @@ pub fn open_store<D: Disk + Drop>(
                 annals,
                 holds,
                 rows,
+                settled,
             }))
         }
         Err(why) => Err(NotOpened { disk, why }),

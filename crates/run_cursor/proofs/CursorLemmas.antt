@@ -339,6 +339,21 @@ taken_kept head page was at end number pages entries weight_left used next_numbe
       subst IsCursor (sym (taken_is head page was at end number pages entries weight_left used next_number now all next es is of used_is number_is)) (turned_cursor now all next es page more of goes),
     )
 
+-- another page in the place of one of which nothing is left
+pub reread : (head : Option (Key × Rec)) (page was : List ℕ) (at end next pages entries weight_left : ℕ) → length was ≡ page_length → IsKept head was
+    at end next pages entries weight_left
+    → between at end was ≡ [] → seen head page at end next pages entries weight_left ≡ seen head was at end next pages entries weight_left
+reread head page was at end next pages entries weight_left long (order, inside, cursor) none =
+    let same : at ≡ end = omega (arith, order, inside, long, ap (length {A = ℕ}) none, length-between was at end (omega (arith, inside, long))) in
+    ap (λ (l : List ℕ). record { head = head; behind = l; next = next; pages = pages; entries = entries; weight = weight_left })
+    (ap (λ n. between at n page) (sym same) ∙ between_none page at ∙ sym none)
+
+pub reread_kept : (head : Option (Key × Rec)) (page was : List ℕ) (at end next pages entries weight_left : ℕ) → length was ≡ page_length → IsKept
+    head was at end next pages entries weight_left
+    → between at end was ≡ [] → IsKept head page at end next pages entries weight_left
+reread_kept head page was at end next pages entries weight_left long kept none =
+    (kept.0, kept.1, subst IsCursor (sym (reread head page was at end next pages entries weight_left long kept none)) kept.2)
+
 -- ---- the next page
 
 pub damage_shown : (sizes : Sizes) (cursor : CursorState) (n : ℕ) (page file : List ℕ) (goes : Bool) → page_count sizes ≤ no_page → n ≡ cursor.next → cursor.behind ≡ [] → 0 < cursor.pages

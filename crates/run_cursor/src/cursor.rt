@@ -207,23 +207,7 @@ impl Cursor {
         self.is_in_number(PageHead::read(page)) && self.rises_to(page)
     }
 
-    // Goes to the front of a page's entries.
-    fn take(&mut self, page: &[u8; PAGE_LEN])
-        requires more_pages { 0 < self.old.pages }
-        requires goes_on { (pages : ℕ) × (next : Option ℕ) × (entries : Entries) × (pages ≤ no_page)
-            × IsPageOf pages next entries page.now × PageGoesOn self.old next entries }
-        ensures { (pages : ℕ) (next : Option ℕ) (entries : Entries) → pages ≤ no_page → IsPageOf pages next entries page.now
-            → self.new ≡ turned next entries self.old }
-    {
-        let head = PageHead::read(page);
-        self.page = *page;
-        self.at = PAGE_HEAD_LEN;
-        self.end = PAGE_HEAD_LEN + head.used as usize;
-        self.next = number_of(head.next);
-        self.pages -= 1;
-    }
-
-    // Reads the next page, and goes to the front of its entries.
+    // Reads the next page where the last one was, of which nothing is left, and goes to the front of its entries.
     fn turn<D: Disk>(&mut self, disk: &mut D, geo: &Geometry) -> Result<(), Broken>
         requires none_left { self.old.behind ≡ [] }
         requires more_pages { 0 < self.old.pages }
@@ -243,12 +227,15 @@ impl Cursor {
         if u64::from(n) >= geo.pages() {
             return Err(Broken::Damaged(n));
         }
-        let mut page = [0; PAGE_LEN];
-        read_page(disk, geo, n, &mut page)?;
-        if !self.goes_on(&page) {
+        read_page(disk, geo, n, &mut self.page)?;
+        if !self.goes_on(&self.page) {
             return Err(Broken::Damaged(n));
         }
-        self.take(&page);
+        let head = PageHead::read(&self.page);
+        self.at = PAGE_HEAD_LEN;
+        self.end = PAGE_HEAD_LEN + head.used as usize;
+        self.next = number_of(head.next);
+        self.pages -= 1;
         Ok(())
     }
 

@@ -7,10 +7,12 @@ ghost use Rattle.run_writer.specs.Writer.{IsInside};
 use crate::asserts::{assert_same, assert_that};
 use crate::samples::{Guide, blank, empty_guide, free_map, guide_of, push_entry, smallest};
 use crate::trips::{entry, finds};
+use bloom_bits::{Fences, Filter};
 use blsm_model::{Component, Geometry};
 use disk_mem::MemDisk;
 use disk_trait::Disk;
 use page_space::{Role, Space};
+use run_cursor::rebuild;
 use run_writer::Writer;
 use std::alloc::Global;
 use std::process::Abort;
@@ -156,4 +158,80 @@ fn the_closed_pages_of_a_run_of_a_hundred(rt: HostRuntime) {
         );
     }
     assert_that(&rt, writer.closed().pages >= 100);
+}
+
+// The filter and the fences of a front, with room for some pages more.
+fn roomy_guide(
+    rt: &impl Abort,
+    alloc: Global,
+    disk: &mut MemDisk,
+    geo: &Geometry,
+    front: &Component,
+) -> Guide
+    requires { length (told disk.old).bytes ≡ file_length geo.now }
+    ensures { length (told disk.new).bytes ≡ file_length geo.now }
+{
+    let mut filter = Filter::with_bits(alloc, front.weight).expect(rt, "memory");
+    let mut fences = Fences::reserve(alloc, front.pages.saturating_add(9)).expect(rt, "memory");
+    let made = rebuild(disk, geo, front, front.weight, &mut filter, &mut fences);
+    assert_same(rt, made, Ok(()));
+    Guide { filter, fences }
+}
+
+// The writer of a run that goes on behind this front with this page.
+fn resume(rt: &impl Abort, geo: &Geometry, front: &Component, page: u32) -> Writer
+    ensures { IsInside (page_count geo.now) result }
+{
+    let pages = u64::from(front.pages);
+    assert!(rt; u64::from(page) < geo.pages());
+    assert!(rt; pages < 1_000);
+    assert!(rt; front.entries <= front.weight);
+    assert!(rt; 3_577 * pages <= front.weight);
+    assert!(rt; front.weight <= 4_088 * pages);
+    Writer::resume(Role::new(1), front, page)
+}
+
+// A run of so many entries is left. Behind its closed pages it is taken up, and becomes what it was; its fences have the page that was begun anew.
+fn is_taken_up(rt: &impl Abort, alloc: Global, count: u32) {
+    let geo = smallest(rt);
+    let mut disk = blank(rt, alloc, &geo, 2_000_000);
+    let mut space = free_map(rt, alloc, &geo);
+    let mut guide = empty_guide(rt, alloc);
+    let mut left = Writer::start(Role::new(1));
+    'entries: for n in 0..count {
+        push_one(
+            rt, alloc, &mut left, &mut disk, &geo, &mut space, &mut guide, n,
+        );
+    }
+    let front = left.closed();
+    let mut guide = roomy_guide(rt, alloc, &mut disk, &geo, &front);
+    let mut writer = resume(rt, &geo, &front, left.next());
+    assert_same(rt, writer.closed(), front);
+    'again: for n in number_of(rt, front.entries) / 2..count {
+        push_one(
+            rt,
+            alloc,
+            &mut writer,
+            &mut disk,
+            &geo,
+            &mut space,
+            &mut guide,
+            n,
+        );
+    }
+    let run = left.component();
+    assert_same(rt, writer.component(), run);
+    assert_same(rt, writer.next(), left.next());
+    assert_same(rt, writer.end(&mut disk, &geo), Ok(run));
+    'keys: for n in 0..count.saturating_mul(2) {
+        finds(rt, &mut disk, &geo, &run, &guide, n, n % 2 == 0);
+    }
+}
+
+// With one entry on the open page, with more, and behind many pages.
+#[test]
+fn a_run_is_taken_up_behind_its_closed_pages(rt: HostRuntime) {
+    for &count in &[12, 40, 200] {
+        is_taken_up(&rt, rt.alloc(), count);
+    }
 }

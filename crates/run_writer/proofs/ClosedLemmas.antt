@@ -1,10 +1,10 @@
 -- The closed pages of a run that is written, as a run of their own.
 use Rattle.std.proofs.lemmas.Bool.Decides.{nat_tests}
 use Rattle.std.proofs.lemmas.Grind.{common_steps}
-use Rattle.std.proofs.Common.{◌≡◌, ◌∙◌, ◌+◌, ◌-◌, ◌<◌, ℕ, Bool, List, [], ◌∷◌, ◌++◌, length, take, Some, None, refl, ap, sym, subst, length-append, arith}
+use Rattle.std.proofs.Common.{◌≡◌, ◌∙◌, ◌+◌, ◌-◌, ◌<◌, ℕ, Bool, false, List, [], ◌∷◌, ◌++◌, length, take, Some, None, refl, ap, sym, subst, length-append, arith}
 use Rattle.std.specs.Prelude.{nat_eq, nat_lt, if◌then◌else◌, IsTrue}
 use Rattle.std.proofs.Math.Seq.{take-append_seam}
-use Rattle.std.proofs.lemmas.List.{take-append-le}
+use Rattle.std.proofs.lemmas.List.{take-append-le, length-map}
 use Rattle.std.specs.List.{AllByRecursion, IsDistinct}
 use Rattle.std.specs.List.Sorted.{IsStrictlySortedBy}
 use Rattle.std.specs.declared.cmp.Ordering.TheVariants.{Less}
@@ -24,9 +24,9 @@ use Rattle.page_file.specs.Entry.{keys_of, AreRising}
 use Rattle.page_file.specs.Page.{page_number}
 use Rattle.page_file.specs.Component.{RunPage, numbers_of, entries_of, first_number, AreChained, ReadsOn}
 use Rattle.page_file.proofs.ComponentLemmas.{entries_join, weight_join, weight_is_length}
-use Rattle.run_writer.specs.Run.{page_of}
+use Rattle.run_writer.specs.Run.{page_of, open_number}
 use Rattle.run_writer.specs.Writer.{WriterState, closed_entries, closed_of, put_in, turned, whole_of, HasPushed}
-use Rattle.run_writer.proofs.RunLemmas.{of_page, no_pages}
+use Rattle.run_writer.proofs.RunLemmas.{of_page}
 
 -- ---- fronts
 
@@ -43,39 +43,38 @@ unfolding IsStrictlySortedBy
 rise_front [] fs rise = tt
 rise_front (e ∷ es) fs rise = (keys_front (λ k. key_cmp e.0 k ≡ Less) es fs rise.0, rise_front es fs rise.1)
 
-numbers_front : (P : ℕ → Type 0) (ps qs : List RunPage) → AllByRecursion P (numbers_of (ps ++ qs)) → AllByRecursion P (numbers_of ps)
-numbers_front P [] qs all = tt
-numbers_front P (p ∷ ps) qs all = (all.0, numbers_front P ps qs all.1)
-
-distinct_front : (ps qs : List RunPage) → IsDistinct nat_eq (numbers_of (ps ++ qs)) → IsDistinct nat_eq (numbers_of ps)
+distinct_front : (ns ms : List ℕ) → IsDistinct nat_eq (ns ++ ms) → IsDistinct nat_eq ns
 unfolding IsDistinct
-distinct_front [] qs apart = tt
-distinct_front (p ∷ ps) qs apart = (numbers_front _ ps qs apart.0, distinct_front ps qs apart.1)
+distinct_front [] ms apart = tt
+distinct_front (n ∷ ns) ms apart = (all_front (λ k. nat_eq n k ≡ false) ns ms apart.0, distinct_front ns ms apart.1)
 
 -- ---- the closed pages
 
 all_entries : (closed : List RunPage) (number : ℕ) (es : Entries) → entries_of (closed ++ page_of number es) ≡ entries_of closed ++ es
 all_entries closed number es = entries_join closed (page_of number es) ∙ ap (λ (l : Entries). entries_of closed ++ l) (of_page number es)
 
+-- behind closed pages there is an open one
+one_open : (p : RunPage) (ps : List RunPage) (number : ℕ) (es : Entries) → open_number (p ∷ ps) number es ≡ number ∷ []
+one_open p ps number [] = refl
+one_open p ps number (e ∷ es) = refl
+
 -- how many there are
-closed_pages : (closed : List RunPage) (number : ℕ) (es : Entries) (pages : ℕ) → (es ≡ [] → closed ≡ []) → length (closed ++ page_of number es) ≡ pages → length closed ≡ pages - 1
-closed_pages closed number [] pages some is = omega (arith, is, no_pages closed number (some refl), ap (λ (l : List RunPage). length l) (some refl))
-closed_pages closed number (e ∷ es) pages some is = omega (arith, is, length-append closed (record { number = number; entries = e ∷ es } ∷ []))
+closed_pages : (closed : List RunPage) (number : ℕ) (es : Entries) (pages : ℕ) → length (numbers_of closed ++ open_number closed number es) ≡ pages → length closed ≡ pages - 1
+closed_pages [] number [] pages is = omega (arith, is)
+closed_pages [] number (e ∷ es) pages is = omega (arith, is)
+closed_pages (p ∷ ps) number es pages is =
+    omega (arith, is, ap (λ (l : List ℕ). length (numbers_of ps ++ l)) (one_open p ps number es), length-append (numbers_of ps) (number ∷ []), length-map ps (λ (q : RunPage). q.number))
 
 more_than_one : (pages first open_one : ℕ) → 1 < pages → (if nat_lt 1 pages then first else open_one) ≡ first
 more_than_one pages first open_one h1 = grind (arith, common_steps, nat_tests)
 
-not_empty : (p : RunPage) (ps : List RunPage) → p ∷ ps ≡ [] → ⊥
-not_empty p ps eq = cc
-
 -- the first of them, or the open one
-closed_first : (closed : List RunPage) (number : ℕ) (es : Entries) (pages first open_one : ℕ) → (es ≡ [] → closed ≡ []) → open_one ≡ number → page_number (first_number (closed ++ page_of number es) None) ≡ first
-    → length (closed ++ page_of number es) ≡ pages → page_number (first_number closed (Some number)) ≡ (if nat_lt 1 pages then first else open_one)
-closed_first [] number [] pages first open_one some same first_is is = subst (λ (n : ℕ). number ≡ (if nat_lt 1 n then first else open_one)) is (sym same)
-closed_first [] number (e ∷ es) pages first open_one some same first_is is = subst (λ (n : ℕ). number ≡ (if nat_lt 1 n then first else open_one)) is (sym same)
-closed_first (p ∷ ps) number [] pages first open_one some same first_is is = absurd (not_empty p ps (some refl))
-closed_first (p ∷ ps) number (e ∷ es) pages first open_one some same first_is is =
-    first_is ∙ sym (more_than_one pages first open_one (omega (arith, is, length-append ps (record { number = number; entries = e ∷ es } ∷ []))))
+closed_first : (closed : List RunPage) (number : ℕ) (es : Entries) (pages first open_one : ℕ) → open_one ≡ number → page_number (first_number (closed ++ page_of number es) None) ≡ first
+    → length (numbers_of closed ++ open_number closed number es) ≡ pages → page_number (first_number closed (Some number)) ≡ (if nat_lt 1 pages then first else open_one)
+closed_first [] number [] pages first open_one same first_is is = subst (λ (n : ℕ). number ≡ (if nat_lt 1 n then first else open_one)) is (sym same)
+closed_first [] number (e ∷ es) pages first open_one same first_is is = subst (λ (n : ℕ). number ≡ (if nat_lt 1 n then first else open_one)) is (sym same)
+closed_first (p ∷ ps) number es pages first open_one same first_is is =
+    first_is ∙ sym (more_than_one pages first open_one (omega (arith, is, ap (λ (l : List ℕ). length (numbers_of ps ++ l)) (one_open p ps number es), length-append (numbers_of ps) (number ∷ []))))
 
 pub closed_reads : (sizes : Sizes) (honest : Bool) (file : List ℕ) (space : SpaceState) (writer : WriterState) (filter : BitState) (fences : FencesState) (entries : Entries)
     → (has : HasPushed sizes honest file space writer filter fences entries) → IsTrue honest → ReadsOn sizes (closed_of writer) has.run.closed (Some writer.number) file
@@ -85,11 +84,11 @@ closed_reads sizes honest file space writer filter fences entries has told =
     let all = all_entries run.closed run.number run.entries in
     record {
       first_is = subst (λ (n : ℕ). page_number (first_number run.closed (Some n)) ≡ (closed_of writer).first) (sym held.number)
-          (closed_first run.closed run.number run.entries writer.component.pages writer.component.first writer.number held.some held.number held.first_is held.pages_is);
+          (closed_first run.closed run.number run.entries writer.component.pages writer.component.first writer.number held.number held.first_is held.pages_is);
       chained = subst (λ (n : ℕ). AreChained sizes run.closed (Some n) file) (sym held.number) (has.stands told);
       rise = rise_front (entries_of run.closed) run.entries (subst AreRising all has.is_run.rise);
-      apart = distinct_front run.closed (page_of run.number run.entries) has.is_run.apart;
-      pages_is = closed_pages run.closed run.number run.entries writer.component.pages held.some held.pages_is;
+      apart = distinct_front (numbers_of run.closed) (open_number run.closed run.number run.entries) has.is_run.apart;
+      pages_is = closed_pages run.closed run.number run.entries writer.component.pages held.pages_is;
       entries_is = omega (arith, ap (λ (l : Entries). length l) all, length-append (entries_of run.closed) run.entries, held.entries_is, held.buffer.count_is);
       weight_is = omega (arith, ap entries_weight all, weight_join (entries_of run.closed) run.entries, held.weight_is, weight_is_length run.entries, ap (λ (l : List ℕ). length l) held.buffer.spelled);
     }

@@ -11,7 +11,7 @@ use Rattle.page_file.specs.Page.{page_head}
 use Rattle.blsm_model.specs.Components.{empty_component}
 use Rattle.page_file.specs.Component.{numbers_of, entries_of}
 use Rattle.run_writer.specs.Buffer.{empty_buffer, with_entry, sealed}
-use Rattle.run_writer.specs.Run.{Run, pages_of, IsRun}
+use Rattle.run_writer.specs.Run.{Run, pages_of, all_numbers, IsRun}
 use Rattle.run_writer.proofs.RunLemmas.{empty_run, pushed_here, pushed_on}
 use Rattle.run_writer.specs.Writer.{WriterState, started, has_place}
 
@@ -43,6 +43,18 @@ keys = refl
 is_run : IsRun three
 unfolding three two a b c IsStrictlySortedBy IsDistinct
 is_run = record { rise = ((refl, (refl, tt)), ((refl, tt), (tt, tt))); apart = ((refl, tt), (tt, tt)) }
+
+-- a and b on page 3 again, behind which the run is taken up: page 7 has no entry yet
+again : Run
+again = record { closed = pages_of two; number = 7; entries = [] }
+
+its_numbers : all_numbers again ≡ 3 ∷ 7 ∷ []
+unfolding again two
+its_numbers = refl
+
+its_keys : keys_of (entries_of (pages_of again)) ≡ a ∷ b ∷ []
+unfolding again two
+its_keys = refl
 
 -- page 3 is no page for c
 page_twice : IsRun (pushed_on 3 c Tomb two) → ⊥

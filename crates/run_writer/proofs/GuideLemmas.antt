@@ -5,7 +5,7 @@ use Rattle.std.proofs.Common.{◌≡◌, ℕ, ◌+◌, List, [], ◌∷◌, ◌+
 use Rattle.std.specs.List.{AllByRecursion}
 use Rattle.std.specs.List.Sorted.{IsStrictlySortedBy}
 use Rattle.std.specs.declared.cmp.Ordering.TheVariants.{Less}
-use Rattle.std.proofs.lemmas.List.{map-append}
+use Rattle.std.proofs.lemmas.List.{append-nil, map-append}
 use Rattle.std.proofs.lemmas.List.Elements.{All-nil, All-append}
 use Rattle.blsm_model.specs.declared.component.Component.{Component}
 use Rattle.blsm_model.specs.declared.key.Key.{Key}
@@ -46,12 +46,10 @@ guide_here filter after fences key rec run adds some guide = record {
   fences_are = guide.fences_are ∙ sym (fences_here 0 0 run.closed run.number run.entries ((key, rec) ∷ []) some);
 }
 
--- the fence of a page that is taken now, behind all entries so far
-abbrev pub next_fence : Key → ℕ → Component → Fence
-next_fence key page run = record { first = key; page = page; entries = run.entries; weight = run.weight }
-
+-- a page's first entry has a fence
 pub guide_on : (filter after : BitState) (fences fences_after : FencesState) (page : ℕ) (key : Key) (rec : Rec) (run : Run) (component : Component) → Adds key filter after
-    → fences_after.list ≡ fences.list ++ next_fence key page component ∷ [] → length (entries_of (pages_of run)) ≡ component.entries → entries_weight (entries_of (pages_of run)) ≡ component.weight
+    → fences_after.list ≡ fences.list ++ record { first = key; page = page; entries = component.entries; weight = component.weight } ∷ []
+    → length (entries_of (pages_of run)) ≡ component.entries → entries_weight (entries_of (pages_of run)) ≡ component.weight
     → Guide filter fences (pages_of run) → Guide after fences_after (pages_of (pushed_on page key rec run))
 guide_on filter after fences fences_after page key rec run component adds fenced count weighs guide =
     let pages = pages_of run in
@@ -61,6 +59,15 @@ guide_on filter after fences fences_after page key rec run component adds fenced
       keys = subst (HasKeys after) (keys_more _ _ key rec (entries_on page key rec run)) (adds (keys_of (entries_of pages)) guide.keys);
       fences_are = fenced ∙ (λ i. guide.fences_are i ++ fence_of (counted i) (weighed i) page ((key, rec) ∷ [])) ∙ sym (fences_join 0 0 pages (page_of page ((key, rec) ∷ [])));
     }
+
+-- also where that page was taken before
+pub guide_first : (filter after : BitState) (fences fences_after : FencesState) (key : Key) (rec : Rec) (closed : List RunPage) (number : ℕ) (component : Component) → Adds key filter after
+    → fences_after.list ≡ fences.list ++ record { first = key; page = number; entries = component.entries; weight = component.weight } ∷ []
+    → length (entries_of (closed ++ [])) ≡ component.entries → entries_weight (entries_of (closed ++ [])) ≡ component.weight
+    → Guide filter fences (closed ++ []) → Guide after fences_after (closed ++ page_of number ((key, rec) ∷ []))
+guide_first filter after fences fences_after key rec closed number component adds fenced count weighs guide =
+    subst (λ (ps : List RunPage). Guide after fences_after (ps ++ page_of number ((key, rec) ∷ []))) (append-nil closed)
+    (guide_on filter after fences fences_after number key rec (record { closed = closed; number = number; entries = [] }) component adds fenced count weighs guide)
 
 -- ---- the key that comes next
 

@@ -1,5 +1,6 @@
 -- What contracts see of a writer, and which run it holds.
-use Rattle.std.specs.Prelude.{◌≡◌, ◌⊎◌, ℕ, ◌+◌, ◌-◌, ◌*◌, ◌<◌, ◌≤◌, Bool, ◌&&◌, nat_lt, nat_le, nat_eq, if◌then◌else◌, IsTrue, List, [], length, take, Some, None}
+use Rattle.std.specs.Prelude.{◌≡◌, ◌⊎◌, ℕ, ◌+◌, ◌-◌, ◌*◌, ◌<◌, ◌≤◌, Bool, true, ◌&&◌, nat_lt, nat_le, nat_eq, if◌then◌else◌, IsTrue, List, [], ◌∷◌, ◌++◌, length, take, Some, None}
+use Rattle.std.specs.List.{Contains, IsDistinct}
 use Rattle.disk_trait.specs.Region.{Region}
 use Rattle.blsm_model.specs.Format.{least_full}
 use Rattle.blsm_model.specs.declared.key.Key.{Key}
@@ -7,18 +8,20 @@ use Rattle.blsm_model.specs.declared.component.Component.{Component}
 use Rattle.blsm_model.specs.Sizes.{Sizes}
 use Rattle.bloom_bits.specs.BitSet.{BitState}
 use Rattle.bloom_bits.specs.Fences.{FencesState}
+use Rattle.bloom_bits.specs.declared.fences.Fence.{Fence}
 use Rattle.bloom_bits.specs.Guides.{Guide}
 use Rattle.record_delta.specs.declared.record.Rec.{Rec}
 use Rattle.record_delta.specs.Records.{weight}
 use Rattle.record_delta.specs.Entries.{Entries, entries_weight}
 use Rattle.page_space.specs.Space.{SpaceState, HasRole, role_count}
 use Rattle.blsm_model.specs.Components.{no_page}
+use Rattle.page_file.specs.Entry.{AreRising}
 use Rattle.page_file.specs.Page.{most_used, page_number}
 use Rattle.page_file.specs.File.{page_region}
 use Rattle.blsm_model.specs.Components.{empty_component}
-use Rattle.page_file.specs.Component.{first_number, entries_of, AreChained}
+use Rattle.page_file.specs.Component.{RunPage, first_number, numbers_of, entries_of, AreChained}
 use Rattle.run_writer.specs.Buffer.{BufferState, empty_buffer, with_entry, IsBufferOf}
-use Rattle.run_writer.specs.Run.{Run, pages_of, IsRun, AreTagged}
+use Rattle.run_writer.specs.Run.{Run, pages_of, all_numbers, IsRun, AreTagged}
 
 -- The role of the run's pages, the component that the run is so far, the number of the open page, and its buffer.
 pub record WriterState : Type 0 where
@@ -34,6 +37,18 @@ started role = record { role = role; component = empty_component; number = no_pa
 -- there is an open page, and an entry of this weight fits into it
 abbrev pub has_place : WriterState → ℕ → Bool
 has_place writer weight = nat_lt 0 writer.component.pages && nat_le (length writer.buffer.text + weight) most_used
+
+-- the open page, if there is one, has an entry
+abbrev pub HasEntries : WriterState → Type 0
+HasEntries writer = 0 < writer.component.pages → 0 < length writer.buffer.text
+
+-- whether an entry of this weight is the first one of its page
+abbrev pub begins_page : WriterState → ℕ → Bool
+begins_page writer weight = if has_place writer weight then nat_eq (length writer.buffer.text) 0 else true
+
+-- how many of the pages have no fence yet: the open one, as long as it has no entry
+abbrev pub unfenced : WriterState → ℕ
+unfenced writer = if nat_eq (length writer.buffer.text) 0 && nat_lt 0 writer.component.pages then 1 else 0
 
 -- the open page, if there is one, is below this number
 abbrev pub IsInside : ℕ → WriterState → Type 0
@@ -66,6 +81,18 @@ turned page writer = record writer {
   buffer = empty_buffer;
 }
 
+-- the fence of the open page, which this key is to begin
+abbrev pub next_fence : Key → WriterState → Fence
+next_fence key writer = record { first = key; page = writer.number; entries = writer.component.entries; weight = writer.component.weight }
+
+-- the fences once this key is put into the open page
+abbrev pub fenced : Key → WriterState → FencesState → FencesState
+fenced key writer fences = if nat_eq (length writer.buffer.text) 0 then record fences { list = fences.list ++ next_fence key writer ∷ [] } else fences
+
+-- the writer of a run that goes on behind these pages with this one, which is empty
+abbrev pub resumed : ℕ → Component → ℕ → WriterState
+resumed role finished page = record { role = role; component = record finished { pages = finished.pages + 1 }; number = page; buffer = empty_buffer }
+
 -- the closed pages as a run of their own, by its numbers, which goes on with the open page; where none is closed that page is its first
 abbrev pub closed_of : WriterState → Component
 closed_of writer = record {
@@ -97,11 +124,9 @@ pub record IsCounted (writer : WriterState) : Type 0 where
 pub record Holds (writer : WriterState) (run : Run) : Type 0 where
   pub buffer : IsBufferOf writer.buffer run.entries
   pub fits : length writer.buffer.text ≤ most_used
-  -- there is no closed page without an open one, and that has an entry at least
-  pub some : run.entries ≡ [] → run.closed ≡ []
   pub number : writer.number ≡ run.number
   pub first_is : page_number (first_number (pages_of run) None) ≡ writer.component.first
-  pub pages_is : length (pages_of run) ≡ writer.component.pages
+  pub pages_is : length (all_numbers run) ≡ writer.component.pages
   pub entries_is : length (entries_of (pages_of run)) ≡ writer.component.entries
   pub weight_is : entries_weight (entries_of (pages_of run)) ≡ writer.component.weight
 
@@ -116,8 +141,21 @@ pub record HasPushed (sizes : Sizes) (honest : Bool) (file : List ℕ) (space : 
   pub held : Holds writer run
   pub is_run : IsRun run
   pub guide : Guide filter fences (pages_of run)
-  pub one_a_page : length fences.list ≡ writer.component.pages
+  pub one_a_page : length fences.list + unfenced writer ≡ writer.component.pages
   pub counted : IsCounted writer
   pub tagged : AreTagged space writer.role run
   pub entries_are : entries_of (pages_of run) ≡ entries
   pub stands : IsTrue honest → Stands sizes run file
+
+-- What a run has that can be taken up behind these pages: they are the component's, each names the one behind it, and the last one this page, which
+-- isn't one of them. All have the role's tag.
+pub record IsResumed (sizes : Sizes) (honest : Bool) (file : List ℕ) (space : SpaceState) (role : ℕ) (finished : Component) (page : ℕ) (closed : List RunPage) : Type 0 where
+  pub some : closed ≡ [] → ⊥
+  pub first_is : page_number (first_number closed (Some page)) ≡ finished.first
+  pub chained : IsTrue honest → AreChained sizes closed (Some page) file
+  pub rise : AreRising (entries_of closed)
+  pub apart : IsDistinct nat_eq (numbers_of closed ++ page ∷ [])
+  pub tagged : (n : ℕ) → Contains (numbers_of closed ++ page ∷ []) n → HasRole space role n
+  pub pages_is : length closed ≡ finished.pages
+  pub entries_is : length (entries_of closed) ≡ finished.entries
+  pub weight_is : entries_weight (entries_of closed) ≡ finished.weight

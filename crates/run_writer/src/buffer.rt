@@ -1,35 +1,36 @@
 //! The page that takes entries.
-ghost use Rattle.std.specs.Prelude.{◌≡◌, ◌+◌, ◌≤◌, ◌++◌, List, ℕ, length, drop, replicate};
-ghost use Rattle.blsm_model.specs.Format.{page_length};
+ghost use Rattle.std.specs.Prelude.{◌≡◌, ◌+◌, ◌-◌, ◌<◌, ◌≤◌, ◌++◌, List, ℕ, length, take, drop, replicate, IsTrue, OnOk};
+ghost use Rattle.blsm_model.specs.Geometry.{page_count, file_length};
 ghost use Rattle.record_delta.specs.Records.{weight};
 ghost use Rattle.entry_codec.specs.Spelling.{spelling, IsEntry};
-ghost use Rattle.page_file.specs.Page.{most_used};
+ghost use Rattle.page_file.specs.File.{page_at, page_region, Writes};
+ghost use Rattle.page_file.specs.Page.{most_used, page_head};
 ghost use Rattle.run_writer.specs.Buffer.{empty_buffer, with_entry, sealed};
 
-use blsm_model::{Key, Op};
+use blsm_model::{Geometry, Key, Op};
+use disk_trait::Disk;
 use entry_codec::encode;
-use page_file::{PAGE_HEAD_LEN, PAGE_LEN, number_of};
+use page_file::{PAGE_HEAD_LEN, PAGE_LEN, number_of, write_page};
 use record_delta::Rec;
+use refusal::Failed;
 use std::marker::Model;
-
-// How many bytes of entries a page has room for.
-const ROOM: usize = PAGE_LEN - PAGE_HEAD_LEN;
 
 /// The entries of a page that isn't closed yet, at most 4,088 bytes of them. Contracts see their count and their bytes.
 #[derive(Debug, Drop)]
 pub struct PageBuffer {
-    bytes: [u8; ROOM],
+    // They stand where the page has them, behind the room of its head, so that it is made in its place.
+    page: [u8; PAGE_LEN],
     used: u16,
     count: u16,
 }
 
 impl Model for PageBuffer {
-    ghost use Rattle.std.specs.Prelude.{take};
+    ghost use Rattle.std.specs.Prelude.{take, drop};
     ghost use Rattle.run_writer.specs.Buffer.{BufferState, IsSmall};
 
     ghost Value = { BufferState };
 
-    ghost view = { λ b. record { count = b.count; text = take b.used b.bytes } };
+    ghost view = { λ b. record { count = b.count; text = take b.used (drop 8 b.page) } };
 
     ghost invariant = { λ b. IsSmall b.count b.used };
 }
@@ -41,6 +42,26 @@ fn put(out: &mut [u8], at: usize, bytes: &[u8])
         → out.new ≡ (front ++ bytes.now) ++ drop (length bytes.now) behind }
 {
     out[at..at + bytes.len()].copy_from_slice(bytes);
+}
+
+// Makes zeros of what stands from a place on.
+fn blank(out: &mut [u8], at: usize)
+    requires { at ≤ length out.old }
+    ensures { out.new ≡ take at out.old ++ replicate (length out.old - at) 0 }
+{
+    out[at..].fill(0);
+}
+
+// Makes of a page that has these bytes of entries the one that names this next page.
+fn seal(page: &mut [u8; PAGE_LEN], count: u16, used: u16, next: Option<u32>)
+    requires { used ≤ most_used }
+    ensures page { page.new ≡ page_head count used next ++ take used (drop 8 page.old) ++ replicate (most_used - used) 0 }
+    ensures kept { take used (drop 8 page.new) ≡ take used (drop 8 page.old) }
+{
+    put(page, 0, &count.to_be_bytes());
+    put(page, 2, &used.to_be_bytes());
+    put(page, 4, &number_of(next).to_be_bytes());
+    blank(page, PAGE_HEAD_LEN + used as usize);
 }
 
 // Spells an entry at a place, and gives its length in bytes. What stands before it stays.
@@ -80,7 +101,7 @@ impl PageBuffer {
         ensures { result ≡ empty_buffer }
     {
         PageBuffer {
-            bytes: [0; ROOM],
+            page: [0; PAGE_LEN],
             used: 0,
             count: 0,
         }
@@ -107,20 +128,28 @@ impl PageBuffer {
         ensures put { self.new ≡ with_entry key.now rec.now self.old }
         ensures entry { IsEntry key.now rec.now }
     {
-        let length = spell(&mut self.bytes, self.used as usize, key, rec);
+        let at = PAGE_HEAD_LEN + self.used as usize;
+        let length = spell(&mut self.page, at, key, rec);
         self.used += length as u16;
         self.count += 1;
     }
 
-    /// Makes of a page of zeros the one of these entries that names this next page.
-    pub fn seal(&self, next: Option<u32>, page: &mut [u8; PAGE_LEN])
-        requires { page.old ≡ replicate page_length 0 }
-        ensures { page.new ≡ sealed next self.now }
+    /// Writes the page of these entries that names this next page. The disk is written once at most, and no memory is taken. It keeps its entries.
+    pub fn write<D: Disk>(
+        &mut self,
+        disk: &mut D,
+        geo: &Geometry,
+        number: u32,
+        next: Option<u32>,
+    ) -> Result<(), Failed>
+        requires page { number < page_count geo.now }
+        requires length { IsTrue (D.state disk.old).tells_bytes → length (D.state disk.old).bytes ≡ file_length geo.now }
+        ensures same { self.new ≡ self.old }
+        ensures reads { OnOk result (IsTrue (D.state disk.old).is_honest → page_at geo.now number (D.state disk.new).bytes ≡ sealed next self.old) }
+        ensures writes { Writes (page_region geo.now number) (file_length geo.now) result (D.state disk.old) (D.state disk.new) }
     {
-        put(page, 0, &self.count.to_be_bytes());
-        put(page, 2, &self.used.to_be_bytes());
-        put(page, 4, &number_of(next).to_be_bytes());
-        put(page, PAGE_HEAD_LEN, &self.bytes[..self.used as usize]);
+        seal(&mut self.page, self.count, self.used, next);
+        write_page(disk, geo, number, &self.page)
     }
 
     /// Drops its entries.

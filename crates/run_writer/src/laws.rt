@@ -12,7 +12,7 @@ ghost use Rattle.record_delta.specs.Records.{weight};
 ghost use Rattle.page_file.specs.Component.{ReadsOn, entries_of};
 ghost use Rattle.page_file.specs.Entry.{AreRising};
 ghost use Rattle.page_space.specs.Space.{SpaceState, HasRole, HasFree, IsSpace};
-ghost use Rattle.run_writer.specs.Writer.{WriterState, closed_entries, closed_of, put_in, turned, whole_of, open_region, role_region, loose_region, IsInside, HasPushed};
+ghost use Rattle.run_writer.specs.Writer.{WriterState, unfenced, closed_entries, closed_of, put_in, turned, whole_of, open_region, role_region, loose_region, IsInside, HasPushed};
 
 /// While there is a free page a run doesn't have all pages, and its open page is one of the store's.
 pub fn a_run_has_room()
@@ -22,10 +22,10 @@ pub fn a_run_has_room()
         → HasPushed sizes honest file space writer filter fences entries → IsSpace space → space.pages ≡ page_count sizes → IsInside (page_count sizes) writer }
 {}
 
-/// A run has a fence for each of its pages, and a key that comes next is above them.
+/// A run has a fence for each of its pages but an open one without entries, and a key that comes next is above them.
 pub fn a_run_has_fences()
     ensures one_a_page { (sizes : Sizes) (honest : Bool) (file : List ℕ) (space : SpaceState) (writer : WriterState) (filter : BitState) (fences : FencesState) (entries : Entries)
-        → HasPushed sizes honest file space writer filter fences entries → length fences.list ≡ writer.component.pages }
+        → HasPushed sizes honest file space writer filter fences entries → length fences.list + unfenced writer ≡ writer.component.pages }
     ensures above { (sizes : Sizes) (honest : Bool) (file : List ℕ) (space : SpaceState) (writer : WriterState) (filter : BitState) (fences : FencesState) (entries : Entries) (key : Key) (rec : Rec)
         → HasPushed sizes honest file space writer filter fences entries → AreRising (entries ++ (key, rec) ∷ []) → IsAboveAll key fences.list }
 {}

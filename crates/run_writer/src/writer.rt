@@ -13,15 +13,15 @@ ghost use Rattle.entry_codec.specs.Spelling.{IsEntry};
 ghost use Rattle.page_space.specs.Space.{SpaceState, HasFree, HasRole, IsLeastFree, Claims};
 ghost use Rattle.page_file.specs.Entry.{AreRising};
 ghost use Rattle.page_file.specs.File.{page_at, Writes};
-ghost use Rattle.page_file.specs.Component.{numbers_of, HasList};
+ghost use Rattle.page_file.specs.Component.{RunPage, numbers_of, entries_of, HasList};
 ghost use Rattle.run_writer.specs.Buffer.{sealed};
-ghost use Rattle.run_writer.specs.Writer.{started, closed_of, has_place, open_region, IsInside, IsCounted, put_in, turned, HasPushed};
+ghost use Rattle.run_writer.specs.Writer.{started, resumed, closed_of, begins_page, has_place, next_fence, fenced, open_region, HasEntries, IsInside, IsCounted, IsResumed, put_in, turned, HasPushed};
 
 use crate::buffer::PageBuffer;
 use bloom_bits::{Fence, Fences, Filter};
 use blsm_model::{Component, Geometry, Key, Op};
 use disk_trait::Disk;
-use page_file::{MOST_USED, PAGE_LEN, no_component, write_page};
+use page_file::{MOST_USED, no_component};
 use page_space::{Role, Space};
 use record_delta::{Rec, weight};
 use refusal::Failed;
@@ -78,6 +78,27 @@ impl Writer {
         }
     }
 
+    /// The writer of a run whose closed pages are these, as a component, and which goes on with this page: the last of them names it, and it has
+    /// the role's tag already. No entry is on it yet; the next one that is pushed begins it.
+    pub fn resume(role: Role, closed: &Component, page: u32) -> Writer
+        requires counted { IsCounted (resumed role closed.now page) }
+        requires few { closed.now.pages + 1 < 2 ^ 32 }
+        ensures resumed { result ≡ resumed role closed.now page }
+        ensures pushed { (sizes : Sizes) (honest : Bool) (file : List ℕ) (space : SpaceState) (filter : BitState) (fences : FencesState) (pages : List RunPage)
+            → IsResumed sizes honest file space role closed.now page pages → Guide filter fences pages → length fences.list ≡ closed.now.pages
+            → HasPushed sizes honest file space result filter fences (entries_of pages) }
+    {
+        Writer {
+            role,
+            component: Component {
+                pages: closed.pages + 1,
+                ..*closed
+            },
+            number: page,
+            buffer: PageBuffer::new(),
+        }
+    }
+
     /// The component that the run is so far: what `end` would give.
     pub fn component(&self) -> Component
         ensures component { result ≡ self.now.component }
@@ -121,24 +142,23 @@ impl Writer {
 
     // Writes the open page, if there is one, with the number of the next one.
     fn write_open<D: Disk>(
-        &self,
+        &mut self,
         disk: &mut D,
         geo: &Geometry,
         next: Option<u32>,
     ) -> Result<(), Failed>
-        requires inside { IsInside (page_count geo.now) self.now }
+        requires inside { IsInside (page_count geo.now) self.old }
         requires length { IsTrue (D.state disk.old).tells_bytes → length (D.state disk.old).bytes ≡ file_length geo.now }
-        ensures reads { OnOk result (IsTrue (D.state disk.old).is_honest → 0 < self.now.component.pages
-            → page_at geo.now self.now.number (D.state disk.new).bytes ≡ sealed next self.now.buffer) }
-        ensures none { self.now.component.pages ≡ 0 → disk.new ≡ disk.old }
-        ensures writes { Writes (open_region geo.now self.now) (file_length geo.now) result (D.state disk.old) (D.state disk.new) }
+        ensures reads { OnOk result (IsTrue (D.state disk.old).is_honest → 0 < self.old.component.pages
+            → page_at geo.now self.old.number (D.state disk.new).bytes ≡ sealed next self.old.buffer) }
+        ensures same { self.new ≡ self.old }
+        ensures none { self.old.component.pages ≡ 0 → disk.new ≡ disk.old }
+        ensures writes { Writes (open_region geo.now self.old) (file_length geo.now) result (D.state disk.old) (D.state disk.new) }
     {
         if self.component.pages == 0 {
             return Ok(());
         }
-        let mut page = [0; PAGE_LEN];
-        self.buffer.seal(next, &mut page);
-        write_page(disk, geo, self.number, &page)
+        self.buffer.write(disk, geo, self.number, next)
     }
 
     // Opens this page, without entries.
@@ -184,13 +204,23 @@ impl Writer {
 
     // The fence of the open page, which this key is to begin: all entries so far stand before it.
     fn fence(&self, first: &Key) -> Fence
-        ensures { result ≡ record { first = first.now; page = self.now.number; entries = self.now.component.entries; weight = self.now.component.weight } }
+        ensures { result ≡ next_fence first.now self.now }
     {
         Fence {
             first: first.copy(),
             page: self.number,
             entries: self.component.entries,
             weight: self.component.weight,
+        }
+    }
+
+    // Pushes the fence of the open page, where that has no entry and this key begins it: it was taken before the run was taken up.
+    fn mark(&self, fences: &mut Fences, first: &Key)
+        requires { length self.now.buffer.text ≡ 0 → (length fences.old.list < fences.old.reserved) × IsAboveAll first.now fences.old.list }
+        ensures { fences.new ≡ fenced first.now self.now fences.old }
+    {
+        if self.buffer.used() == 0 {
+            fences.push(self.fence(first));
         }
     }
 
@@ -209,8 +239,8 @@ impl Writer {
     /// Pushes one entry more: its key goes into the filter, and, where it is a page's first one, into the fences. Where it doesn't fit into the 4,088 bytes of the open page, or there is none, the least free page is
     /// taken and gets the role's tag, the open page is written with its number, and that page is the open one.
     ///
-    /// A page must be free then, and there must be room for its fence. While the run's pages keep their tag the run doesn't have all pages
-    /// (`a_run_has_room`), and has a fence for each of them (`a_run_has_fences`).
+    /// A page must be free then. Where the entry is its page's first one there must be room for the fence. While the run's pages keep their tag the run
+    /// doesn't have all pages (`a_run_has_room`), and has a fence for each of them that has an entry (`a_run_has_fences`).
     ///
     /// After an `Err`, whose cause is a fault of the disk, the writer, the filter and the fences are as they were; the page that was taken keeps its tag, and
     /// nobody knows what the open page's place on the disk has. A clause for each thing that it is lent, with and without an `Err`.
@@ -227,7 +257,7 @@ impl Writer {
         requires pages { space.old.pages ≡ page_count geo.now }
         requires free { has_place self.old (weight key.now rec.now) ≡ false → HasFree space.old }
         requires room { has_place self.old (weight key.now rec.now) ≡ false → self.old.component.pages < page_count geo.now }
-        requires fence { has_place self.old (weight key.now rec.now) ≡ false → (length fences.old.list < fences.old.reserved) × IsAboveAll key.now fences.old.list }
+        requires fence { IsTrue (begins_page self.old (weight key.now rec.now)) → (length fences.old.list < fences.old.reserved) × IsAboveAll key.now fences.old.list }
         requires inside { IsInside (page_count geo.now) self.old }
         requires length { IsTrue (D.state disk.old).tells_bytes → length (D.state disk.old).bytes ≡ file_length geo.now }
 
@@ -253,6 +283,7 @@ impl Writer {
         ensures writes { Writes (open_region geo.now self.old) (file_length geo.now) result (D.state disk.old) (D.state disk.new) }
     {
         if self.has_place(key, rec) {
+            self.mark(fences, key);
             self.put(key, rec);
             filter.add(key);
             return Ok(());
@@ -265,7 +296,7 @@ impl Writer {
     }
 
     /// Writes the open page, if there is one, as the last one, and gives the component that reads as the entries that were pushed, on
-    /// pages that have the role's tag.
+    /// pages that have the role's tag. It must have an entry: a run that was taken up has none until one is pushed.
     ///
     /// The writer stays as it was. After an `Err`, whose cause is a fault of the disk, nobody knows what the open page's place on
     /// the disk has.
@@ -275,7 +306,7 @@ impl Writer {
 
         ensures component { IfOk result (λ c. c ≡ self.old.component) }
         ensures list { (space : SpaceState) (filter : BitState) (fences : FencesState) (entries : Entries) → IsTrue (D.state disk.old).is_honest
-            → HasPushed geo.now (D.state disk.old).is_honest (D.state disk.old).bytes space self.old filter fences entries
+            → HasEntries self.old → HasPushed geo.now (D.state disk.old).is_honest (D.state disk.old).bytes space self.old filter fences entries
             → IfOk result (λ c. (list : HasList geo.now c entries (D.state disk.new).bytes)
             × ((n : ℕ) → Contains (numbers_of list.pages) n → HasRole space self.old.role n) × Guide filter fences list.pages) }
         ensures same { self.new ≡ self.old }

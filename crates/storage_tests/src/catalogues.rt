@@ -22,9 +22,12 @@ const LANES_START: usize = 4_096;
 
 const LANE: usize = 69_632;
 
-// How many images are read at each stop: all that the write of a slot may leave, which has two digits, below 85 and below 2. Those of
+// How many images are read at each stop: all that the write of a slot may leave, which has two digits, below 86 and below 2. Those of
 // two gates are 16.
-const PICKS: u64 = 170;
+const PICKS: u64 = 172;
+
+// Where in a slot its flag stands.
+const FLAG_AT: u64 = 84;
 
 // A component that has no pages.
 const NOTHING: [u8; 24] = [
@@ -103,7 +106,7 @@ fn third() -> Catalog
 // A slot's gate, version, lanes and C1; or that it is zeros.
 type Words = Option<(u8, u8, [u8; 3], [u8; 24])>;
 
-// A slot of 84 bytes, with no other component.
+// A slot of 85 bytes, with no other component and no flag.
 fn slot(words: Words) -> [u8; SLOT_LEN] {
     let mut slot = [0; SLOT_LEN];
     if let Some(words) = words {
@@ -240,6 +243,17 @@ fn reads_as(
 fn the_open_slot_of_the_higher_version_counts(rt: HostRuntime) {
     for &(odd, even, outcome) in &SLOTS {
         reads_as(&rt, rt.alloc(), odd, even, outcome);
+    }
+}
+
+// A flag but 0 is in no valid body, whichever open slot has it.
+#[test]
+fn a_slot_with_a_flag_is_damaged(rt: HostRuntime) {
+    let geo = smallest(&rt);
+    for &(slot, flag) in &[(ODD_SLOT, 1), (ODD_SLOT, 2), (EVEN_SLOT, 1), (EVEN_SLOT, 2)] {
+        let mut disk = make_disk(&rt, rt.alloc(), &geo, ODD, EVEN);
+        assert_that(&rt, disk.write(slot + FLAG_AT, &[flag]).is_ok());
+        assert_same(&rt, newest(&mut disk, &geo), Err(SlotsBroken::Damaged));
     }
 }
 

@@ -99,12 +99,12 @@ const CHANGES: [(u64, u8, Reads); 25] = [
     (511, 1, Store),
     (512, 0, Store),
     (520, 3, Store),
-    (595, 1, Store),
     (596, 1, Store),
+    (597, 1, Store),
     (1_023, 1, Store),
     (1_024, 1, Store),
-    (1_107, 1, Store),
     (1_108, 1, Store),
+    (1_109, 1, Store),
     (4_096, 1, Store),
 ];
 

@@ -15,7 +15,7 @@ use Rattle.blsm_model.specs.Format.{head_length}
 use Rattle.blsm_model.specs.Sizes.{Sizes, IsGeometry}
 use Rattle.blsm_model.specs.Geometry.{file_length, IsFirstFault}
 use Rattle.blsm_model.specs.declared.geometry.GeometryFault.{GeometryFault}
-use Rattle.catalog_swap.specs.Text.{slot_text, first_catalog, body_text, component_text}
+use Rattle.catalog_swap.specs.Text.{slot_text, first_catalog, body_text, numbers_text, component_text}
 use Rattle.store_file.specs.Layout.{superblock_text, superblock, IsStore, zeros, IsMade, first_file}
 use Rattle.store_file.proofs.LayoutLaws.{sizes_same}
 use Rattle.store_file.specs.declared.layout.TheConstants.{FIRST_CATALOGUE}
@@ -29,11 +29,11 @@ length-superblock_text sizes = refl
 
 -- as the code has it
 pub first_catalogue_is : FIRST_CATALOGUE ≡ slot_text first_catalog
-unfolding body_text component_text
+unfolding body_text numbers_text component_text
 first_catalogue_is = refl
 
-pub length-first_catalogue : length (slot_text first_catalog) ≡ 84
-unfolding body_text component_text
+pub length-first_catalogue : length (slot_text first_catalog) ≡ 85
+unfolding body_text numbers_text component_text
 length-first_catalogue = refl
 
 -- ---- files that are no store
@@ -76,37 +76,37 @@ shut_half sizes file shut = record { store = inl (shut_no_store (file_length siz
 front : ℕ → Sizes → List ℕ
 front gate sizes = superblock gate sizes ++ zeros 485 ++ slot_text first_catalog
 
-length-front : (gate : ℕ) (sizes : Sizes) → length (front gate sizes) ≡ 596
-unfolding front superblock_text body_text component_text
+length-front : (gate : ℕ) (sizes : Sizes) → length (front gate sizes) ≡ 597
+unfolding front superblock_text body_text numbers_text component_text
 length-front gate sizes = refl
 
-as_front : (gate : ℕ) (sizes : Sizes) → first_file gate sizes ≡ front gate sizes ++ zeros (file_length sizes - 596)
+as_front : (gate : ℕ) (sizes : Sizes) → first_file gate sizes ≡ front gate sizes ++ zeros (file_length sizes - 597)
 unfolding front first_file
 as_front gate sizes = refl
 
-pub length-first_file : (gate : ℕ) (sizes : Sizes) → 596 ≤ file_length sizes → length (first_file gate sizes) ≡ file_length sizes
+pub length-first_file : (gate : ℕ) (sizes : Sizes) → 597 ≤ file_length sizes → length (first_file gate sizes) ≡ file_length sizes
 length-first_file gate sizes le =
     ap (length {A = ℕ}) (as_front gate sizes)
-    ∙ omega (arith, length-append (front gate sizes) (zeros (file_length sizes - 596)), length-front gate sizes, length-replicate {A = ℕ} (file_length sizes - 596) 0)
+    ∙ omega (arith, length-append (front gate sizes) (zeros (file_length sizes - 597)), length-front gate sizes, length-replicate {A = ℕ} (file_length sizes - 597) 0)
 
 begins : (gate : ℕ) (sizes : Sizes) → part (first_file gate sizes) 0 27 ≡ superblock gate sizes
 unfolding first_file superblock_text
 begins gate sizes = refl
 
-odd : (gate : ℕ) (sizes : Sizes) → part (first_file gate sizes) 512 84 ≡ slot_text first_catalog
-unfolding first_file superblock_text body_text component_text
+odd : (gate : ℕ) (sizes : Sizes) → part (first_file gate sizes) 512 85 ≡ slot_text first_catalog
+unfolding first_file superblock_text body_text numbers_text component_text
 odd gate sizes = refl
 
 -- zeros behind the catalogue
-behind : (gate : ℕ) (sizes : Sizes) (at n : ℕ) → 596 ≤ at → at + n ≤ file_length sizes → part (first_file gate sizes) at n ≡ zeros n
+behind : (gate : ℕ) (sizes : Sizes) (at n : ℕ) → 597 ≤ at → at + n ≤ file_length sizes → part (first_file gate sizes) at n ≡ zeros n
 behind gate sizes at n le fits =
-    let place : at ≡ 596 + (at - 596) = omega arith in
+    let place : at ≡ 597 + (at - 597) = omega arith in
     ap (λ (l : List ℕ). part l at n) (as_front gate sizes)
-    ∙ ap (λ (k : ℕ). part (front gate sizes ++ zeros (file_length sizes - 596)) k n) place
-    ∙ ap (take n) (sym (drop-drop (at - 596) 596 (front gate sizes ++ zeros (file_length sizes - 596)))
-    ∙ ap (drop (at - 596)) (drop_at (front gate sizes) (zeros (file_length sizes - 596)) 596 (length-front gate sizes))
-    ∙ drop-replicate (at - 596) (file_length sizes - 596) 0)
-    ∙ take-replicate n (file_length sizes - 596 - (at - 596)) 0 (omega arith)
+    ∙ ap (λ (k : ℕ). part (front gate sizes ++ zeros (file_length sizes - 597)) k n) place
+    ∙ ap (take n) (sym (drop-drop (at - 597) 597 (front gate sizes ++ zeros (file_length sizes - 597)))
+    ∙ ap (drop (at - 597)) (drop_at (front gate sizes) (zeros (file_length sizes - 597)) 597 (length-front gate sizes))
+    ∙ drop-replicate (at - 597) (file_length sizes - 597) 0)
+    ∙ take-replicate n (file_length sizes - 597 - (at - 597)) 0 (omega arith)
 
 zero_is_closed : ◌≡◌ {A = ℕ} 0 open_byte → ⊥
 zero_is_closed same = omega arith
@@ -128,7 +128,7 @@ first_file_made sizes geometry =
     let least = store_length sizes geometry in
     record {
       store = record { geometry = geometry; long = length-first_file open_byte sizes (omega (arith, least)); begins = begins open_byte sizes };
-      slots = record { odd = odd open_byte sizes; even = behind open_byte sizes 1024 84 (omega arith) (omega (arith, least)) };
+      slots = record { odd = odd open_byte sizes; even = behind open_byte sizes 1024 85 (omega arith) (omega (arith, least)) };
       lanes = no_entries open_byte sizes geometry;
     }
 
@@ -149,19 +149,19 @@ over_front text catalogue tail long =
     ∙ sym (append_assoc (0 ∷ text) (zeros 485 ++ catalogue) tail)
     ∙ ap (λ (l : List ℕ). l ++ tail) (sym (append_assoc (0 ∷ text) (zeros 485) catalogue))
 
-pub parts_written : (sizes : Sizes) (file : List ℕ) → 596 ≤ file_length sizes → file ≡ zeros (file_length sizes)
+pub parts_written : (sizes : Sizes) (file : List ℕ) → 597 ≤ file_length sizes → file ≡ zeros (file_length sizes)
     → overwritten (overwritten file 512 (slot_text first_catalog)) 1 (superblock_text sizes) ≡ first_file 0 sizes
 unfolding first_file
 parts_written sizes file le blank =
     ap (λ (l : List ℕ). overwritten (overwritten l 512 (slot_text first_catalog)) 1 (superblock_text sizes)) blank
     ∙ ap (λ (l : List ℕ). overwritten l 1 (superblock_text sizes)) placed
-    ∙ over_front (superblock_text sizes) (slot_text first_catalog) (zeros (file_length sizes - 596)) (length-superblock_text sizes)
+    ∙ over_front (superblock_text sizes) (slot_text first_catalog) (zeros (file_length sizes - 597)) (length-superblock_text sizes)
   where
-    placed : overwritten (zeros (file_length sizes)) 512 (slot_text first_catalog) ≡ zeros 512 ++ slot_text first_catalog ++ zeros (file_length sizes - 596)
+    placed : overwritten (zeros (file_length sizes)) 512 (slot_text first_catalog) ≡ zeros 512 ++ slot_text first_catalog ++ zeros (file_length sizes - 597)
     placed =
         ap (λ (l : List ℕ). l ++ slot_text first_catalog ++ drop (512 + length (slot_text first_catalog)) (zeros (file_length sizes))) (take-replicate 512 (file_length sizes) 0 (omega arith))
         ∙ ap (λ (l : List ℕ). zeros 512 ++ slot_text first_catalog ++ l)
-        (ap (λ (n : ℕ). drop (512 + n) (zeros (file_length sizes))) length-first_catalogue ∙ drop-replicate 596 (file_length sizes) 0)
+        (ap (λ (n : ℕ). drop (512 + n) (zeros (file_length sizes))) length-first_catalogue ∙ drop-replicate 597 (file_length sizes) 0)
 
 pub gate_opened : (sizes : Sizes) → overwritten (first_file 0 sizes) 0 (open_byte ∷ []) ≡ first_file open_byte sizes
 unfolding first_file

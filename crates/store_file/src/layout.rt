@@ -3,8 +3,8 @@
 //! | At | Length | What |
 //! |---|---|---|
 //! | 0 | 27 | superblock |
-//! | 512 | 84 | catalogue slot of the odd versions |
-//! | 1,024 | 84 | catalogue slot of the even versions |
+//! | 512 | 85 | catalogue slot of the odd versions |
+//! | 1,024 | 85 | catalogue slot of the even versions |
 //! | 4,096 | 3 times 4 halves | the lanes of the log |
 //! | behind them | 4,096 each | the pages |
 //!
@@ -37,11 +37,13 @@ pub const QUANTUM_AT: usize = 23;
 
 const FORMAT: u16 = 1;
 
-/// The catalogue of a store that was just made: its gate open, version 1, lanes 0, 1 and 2, and three components without pages.
+/// The catalogue of a store that was just made: its gate open, version 1, lanes 0, 1 and 2, three components without pages, and
+/// the flag 0.
 pub const FIRST_CATALOGUE: [u8; SLOT_LEN] = [
     1, 0, 0, 0, 0, 0, 0, 0, 1, 0, 1, 2, 0xff, 0xff, 0xff, 0xff, 0, 0, 0, 0, 0, 0, 0, 0, 0, 0, 0, 0,
     0, 0, 0, 0, 0, 0, 0, 0, 0xff, 0xff, 0xff, 0xff, 0, 0, 0, 0, 0, 0, 0, 0, 0, 0, 0, 0, 0, 0, 0, 0,
     0, 0, 0, 0, 0xff, 0xff, 0xff, 0xff, 0, 0, 0, 0, 0, 0, 0, 0, 0, 0, 0, 0, 0, 0, 0, 0, 0, 0, 0, 0,
+    0,
 ];
 
 /// What the superblock of a store of this geometry says behind its gate.

@@ -4,5 +4,8 @@
 
 mod ending;
 mod run;
+mod settling;
 
+pub use core_moves::Settled;
 pub use run::{Ending, Finished, finish, run_in_order, run_over};
+pub use settling::settle_over;

@@ -2,7 +2,7 @@
 use Rattle.std.specs.Prelude.{is_some, slice_index, nat_lt}
 use Rattle.std.proofs.lemmas.Grind.{common_steps}
 use Rattle.std.proofs.lemmas.Bool.Decides.{nat_tests}
-use Rattle.std.proofs.Common.{◌≡◌, ◌≢◌, ⊎_elim, ℕ, ◌+◌, ◌≤◌, Bool, true, false, cond, not, ◌&&◌, replicate, sym, subst, arith}
+use Rattle.std.proofs.Common.{◌≡◌, ◌≢◌, ⊎_elim, ℕ, ◌+◌, ◌≤◌, Bool, true, false, cond, not, ◌&&◌, replicate, refl, sym, subst, arith}
 use Rattle.blsm_model.specs.Facts.{Follows}
 use Rattle.blsm_model.specs.Format.{callers}
 use Rattle.blsm_model.specs.declared.key.Key.{Key}
@@ -11,7 +11,7 @@ use Rattle.blsm_model.specs.declared.history.Why.{Why}
 use Rattle.blsm_model.specs.declared.history.Reply.{Reply}
 use Rattle.blsm_model.specs.declared.history.Reply.TheVariants.{Done}
 use Rattle.disk_trait.specs.Disk.{DiskState}
-use Rattle.gear_sched.specs.Gears.{GearState, first_debt, second_debt, entered, pass_ended, rotated}
+use Rattle.gear_sched.specs.Gears.{GearState, first_debt, second_debt, entered, passing, pass_ended, rotated}
 use Rattle.record_delta.specs.declared.record.Rec.{Rec}
 use Rattle.seat_book.specs.State.{BookState, noted_in, stopped_in}
 use Rattle.seat_book.specs.Seats.{KeepsSeats}
@@ -59,6 +59,9 @@ pass_end_eases seat gears = record { first = λ other apart. omega (arith, none_
 rotated_pass_eases : (seat input : ℕ) (gears : GearState) → Eases seat gears (rotated (pass_ended gears) input)
 rotated_pass_eases seat input gears = record { first = λ other apart. omega (arith, none_owed other); second = λ other apart. omega (arith, none_owed other) }
 
+begin_eases : (seat c1 memory : ℕ) (gears : GearState) → Eases seat gears (passing gears c1 memory)
+begin_eases seat c1 memory gears = record { first = λ other apart. omega (arith, none_owed other); second = λ other apart. omega arith }
+
 entry_eases : (seat w : ℕ) (gears : GearState) → Eases seat gears (entered gears seat w)
 entry_eases seat w gears = grind (arith, common_steps, nat_tests)
 
@@ -84,7 +87,8 @@ begin_leaves : (seat w : ℕ) (held : Held) → LeavesOthers seat held (begun_in
 begin_leaves seat w held = by (not (is_some held.runs.pass) && nat_lt held.runs.sizes.low (held.spring + w))
   where
     by : (b : Bool) → LeavesOthers seat held (cond b (with_pass_begun held) held)
-    by b = grind (arith, common_steps, nat_tests)
+    by true = leaves_by seat held (with_pass_begun held) _ _ refl refl (begin_eases seat _ _ held.gears) (keeps_itself seat held.book)
+    by false = leaves_itself seat held
 
 readied_leaves : (seat w : ℕ) (old new : Held) → IsReadied w old new → LeavesOthers seat old new
 readied_leaves seat w old new is =

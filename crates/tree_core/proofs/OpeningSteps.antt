@@ -20,6 +20,7 @@ use Rattle.tree_machine.specs.Machine.{opened}
 use Rattle.tree_runs.specs.Runs.{RunsState}
 use Rattle.tree_runs.specs.Holding.{StandOver}
 use Rattle.core_moves.specs.declared.held.Held.{Held}
+use Rattle.core_moves.specs.declared.held.Settled.{Settled}
 use Rattle.core_moves.specs.Held.{IsOne}
 use Rattle.core_pace.specs.Opening.{IsOpened}
 use Rattle.core_pace.proofs.OpeningLemmas.{opening_is_paced}
@@ -34,13 +35,13 @@ use Rattle.tree_core.proofs.ToldLemmas.{told_of_paced}
 use Rattle.tree_core.proofs.LastLemmas.{since_now}
 use Rattle.pacing.proofs.Terms.{no_fronts}
 
-module _ {D : Type 0} (state : D → DiskState) (disk : D) (runs : RunsState) (log : LogState) (annals : Book) (holds : List (Option HoldState)) (gears : GearState) (book : BookState) (none : holds ≡ replicate callers None) (settled : AreSettled runs log annals (state disk)) (at : gears ≡ at_rest runs.sizes)
+module _ {D : Type 0} (state : D → DiskState) (disk : D) (runs : RunsState) (log : LogState) (annals : Book) (holds : List (Option HoldState)) (gears : GearState) (book : BookState) (counts : Settled) (none : holds ≡ replicate callers None) (settled : AreSettled runs log annals (state disk)) (at : gears ≡ at_rest runs.sizes)
     (fresh : book ≡ opened_in annals (runs.catalogue.c1.weight + runs.catalogue.c2.weight) (state disk).faults) where
   abbrev d : DiskState
   d = state disk
 
   abbrev held : Held
-  held = record { runs = runs; log = log; gears = gears; spring = 0; book = book }
+  held = record { runs = runs; log = log; gears = gears; spring = 0; book = book; settled = counts }
 
   abbrev core : CoreState D
   core = record { disk = disk; held = held; holds = holds }

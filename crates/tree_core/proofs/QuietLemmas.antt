@@ -31,6 +31,8 @@ use Rattle.seat_book.specs.State.{BookState, book_of}
 use Rattle.tree_file.specs.Tree.{Tree, HoldsTree}
 use Rattle.tree_file.proofs.StandLemmas.{stands_read}
 use Rattle.tree_runs.specs.Holding.{AreOf, StandOver}
+use Rattle.tree_runs.specs.Laws.{IsBesideRuns}
+use Rattle.tree_runs.specs.Runs.{RunsState, AreRunning}
 use Rattle.tree_runs.proofs.BesideLemmas.{runs_stay}
 use Rattle.core_moves.specs.declared.held.Held.{Held}
 use Rattle.core_moves.specs.Held.{IsOne}
@@ -79,8 +81,17 @@ read_holds held space b pace d d2 holds counts stopped told on = record {
       record { paced = mapped_paced (with_book b held) space pace (book_is_paced held b pace live.paced counts told); on = record { running = still.running; long = still.long } };
 }
 
+same_beside : (runs : RunsState) (old new : List ℕ) → new ≡ old → IsBesideRuns runs old new
+same_beside runs old new same = subst (λ (l : List ℕ). IsBesideRuns runs old l) (sym same) (record { no_shorter = omega arith; bytes = λ i outside. refl })
+
 pub reads_on : {end most : ℕ} {d d2 : DiskState} (held : Held) → OnlyReads end most d d2 → IsOn held d → IsOn held d2
-reads_on {end} {most} {d} {d2} held reads on = grind (arith, common_steps, nat_tests, runs_stay)
+reads_on {end} {most} {d} {d2} held reads on = record {
+  running = subst (λ (b : Bool). AreRunning b d2.bytes held.runs) (sym reads.effect.goes_on.is_honest)
+      (runs_stay held.runs d.is_honest d.bytes d2.bytes (λ honest. same_beside held.runs d.bytes d2.bytes (reads.same.same.bytes honest)) on.running);
+  long = λ tells.
+      reads.same.same.length (subst (λ (b : Bool). IsTrue b) reads.effect.goes_on.tells_bytes tells)
+      ∙ on.long (subst (λ (b : Bool). IsTrue b) reads.effect.goes_on.tells_bytes tells);
+}
 
 -- ---- by lists
 

@@ -59,7 +59,10 @@ begun_keeps w held = grind (arith, common_steps, nat_tests)
 
 -- and the merges are in order on the disk still
 pub begun_on : (w : ℕ) (held begun : Held) (d : DiskState) → begun ≡ begun_in w held → IsOn held d → AreRunning d.is_honest d.bytes begun.runs → IsOn begun d
-begun_on w held begun d is on running = grind (arith, common_steps, nat_tests)
+begun_on w held begun d is on running = record {
+  running = running;
+  long = λ tells. on.long tells ∙ ap file_length (sym (ap (λ (h : Held). h.runs.sizes) is ∙ (begun_keeps w held).sizes));
+}
 
 -- ---- the write
 

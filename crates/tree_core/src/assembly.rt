@@ -18,7 +18,7 @@ ghost use Rattle.tree_core.specs.Steps.{StandsSince};
 
 use crate::Core;
 use blsm_model::Annals;
-use core_moves::Held;
+use core_moves::{Held, Settled};
 use disk_trait::Disk;
 use gear_sched::Gears;
 use scan_view::{Holds, RowRoom};
@@ -41,6 +41,8 @@ pub struct Parts<D: Disk + Drop> {
     pub holds: Holds,
     /// The room for the rows of one reply.
     pub rows: RowRoom,
+    /// What settling the store took.
+    pub settled: Settled,
 }
 
 impl<D: Disk + Drop> Core<D> {
@@ -53,6 +55,7 @@ impl<D: Disk + Drop> Core<D> {
         ensures runs { result.held.runs ≡ parts.runs }
         ensures log { result.held.log ≡ parts.log }
         ensures holds { result.holds ≡ parts.holds }
+        ensures settled { result.held.settled ≡ parts.settled }
         ensures begins { StandsSince D.state result result }
         ensures opened { IsOpened parts.annals (D.state parts.disk).faults result.held }
 
@@ -77,6 +80,7 @@ impl<D: Disk + Drop> Core<D> {
                 gears,
                 spring: 0,
                 book,
+                settled: parts.settled,
             },
             holds: parts.holds,
             rows: parts.rows,

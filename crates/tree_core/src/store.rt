@@ -8,7 +8,7 @@ ghost use Rattle.tree_core.specs.Holds.{AreFew};
 ghost use Rattle.tree_core.specs.Steps.{StandsSince};
 
 use blsm_model::{Annals, Geometry, Totals};
-use core_moves::Held;
+use core_moves::{Held, Settled};
 use disk_trait::Disk;
 use scan_view::{Holds, RowRoom};
 use std::marker::Model;
@@ -50,6 +50,13 @@ impl<D: Disk + Drop> Core<D> {
         ensures { result ≡ charge_in self.now.held }
     {
         self.held.charge()
+    }
+
+    /// What settling took when the store was opened: the version of the newest catalogue behind it, the quanta, and how many they may be at most.
+    pub fn settle_counts(&self) -> Settled
+        ensures { result ≡ self.now.held.settled }
+    {
+        self.held.settled
     }
 
     /// The history so far, the quanta of each entry, and the room that is left.

@@ -1,13 +1,15 @@
 -- The walks over three components, one behind the other.
 use Rattle.std.proofs.lemmas.Bool.Decides.{nat_tests}
 use Rattle.std.proofs.lemmas.Grind.{common_steps}
-use Rattle.std.proofs.Common.{◌≡◌, ◌⊎◌, ◌≢◌, ◌↔◌, ℕ, List, [], ◌++◌, refl, sym, subst, ◌∙◌, arith, Bool, true, false, Result, Err}
+use Rattle.std.proofs.Common.{◌≡◌, ◌⊎◌, ◌≢◌, ◌↔◌, ℕ, List, [], ◌++◌, refl, sym, subst, ◌∙◌, arith, inl, inr, Bool, true, false, Result, Err}
 use mathlib.Core.Path.{subst₂}
 use Rattle.std.specs.List.{Contains}
 use Rattle.blsm_model.specs.declared.component.Component.{Component}
+use Rattle.blsm_model.specs.Components.{empty_component}
 use Rattle.blsm_model.specs.Sizes.{Sizes}
 use Rattle.blsm_model.specs.Geometry.{page_count}
 use Rattle.catalog_swap.specs.declared.catalog.Catalog.{Catalog}
+use Rattle.catalog_swap.specs.Text.{IsComponent}
 use Rattle.page_file.specs.declared.file.Broken.{Broken}
 use Rattle.page_file.specs.declared.file.Broken.TheVariants.{Fault, Damaged}
 use Rattle.page_file.specs.Component.{numbers_of}
@@ -76,3 +78,8 @@ tells_run {sizes} {catalogue} space {file} {broken = broken} is damage = subst (
     told : (b : Broken) → ((n : ℕ) → b ≡ Damaged n → IsDamagedRun sizes catalogue n file) → TellsComponents sizes catalogue space file (Err b)
     told Fault run = tt
     told (Damaged n) run = run n refl
+
+-- a catalogue's component without pages is empty
+pub empty_without_pages : (pages : ℕ) (run : Component) → IsComponent pages run → run.pages ≡ 0 → run ≡ empty_component
+empty_without_pages pages run (inl is) none = λ j. record { first = is.first j; pages = is.pages j; entries = is.entries j; weight = is.weight j }
+empty_without_pages pages run (inr is) none = absurd (omega (arith, is.some_page, none))

@@ -1,11 +1,16 @@
 -- What an answer tells of the count of faults, through an answer of another type, and behind calls that didn't fail.
 use Rattle.std.proofs.lemmas.Bool.Decides.{nat_tests}
 use Rattle.std.proofs.lemmas.Grind.{common_steps}
-use Rattle.std.proofs.Common.{◌≡◌, ◌∙◌, ap, sym, subst, Result, Ok, Err, arith}
+use Rattle.std.proofs.Common.{◌≡◌, ◌∙◌, ℕ, ap, sym, subst, Result, Ok, Err, arith}
 use Rattle.std.specs.Result.{IsErrAnd}
 use Rattle.std.proofs.lemmas.Result.{err_from_is_err_and}
 use Rattle.refusal.specs.Count.{HasRisen}
 use Rattle.disk_trait.specs.Disk.{DiskState, TellsFaultsBy}
+use Rattle.page_file.specs.declared.file.Broken.{Broken}
+use Rattle.page_file.specs.declared.file.Broken.TheVariants as broken
+use Rattle.page_file.specs.File.{Reads}
+use Rattle.tree_reading.specs.declared.found.Place.{Place}
+use Rattle.tree_reading.specs.declared.found.Unreadable.{Unreadable}
 
 pub same_error : {A E : Type 0} (a b : E) → ◌≡◌ {A = Result A E} (Err a) (Err b) → a ≡ b
 same_error a b same = cc
@@ -30,3 +35,17 @@ calm a told = told.stands (λ wrong. absurd (cc))
 
 pub faults_none : {A E : Type 0} {old new : DiskState} {fault : E} (a : A) → new.faults ≡ old.faults → TellsFaultsBy {R = Result A E} (Err fault) (Ok a) old new
 faults_none a still = record { stands = λ other. still; failed = λ wrong. absurd (cc) }
+
+-- what the pages' answer tells of the count of faults is told by the answer that is made of it
+pub faults_of_ok : {end most : ℕ} {r : Result (Unit {0}) Broken} {old new : DiskState} → r ≡ Ok tt → Reads end most r old new
+    → TellsFaultsBy {R = Result (Unit {0}) Unreadable} (Err Unreadable.Fault) (Ok tt) old new
+faults_of_ok h1 h2 = grind (arith, common_steps, nat_tests)
+
+pub faults_of_damage : {end most n : ℕ} {r : Result (Unit {0}) Broken} {old new : DiskState} (place : Place) → r ≡ Err (broken.Damaged n)
+    → Reads end most r old new
+    → TellsFaultsBy {R = Result (Unit {0}) Unreadable} (Err Unreadable.Fault) (Err (Unreadable.Damaged place)) old new
+faults_of_damage place h1 h2 = grind (arith, common_steps, nat_tests)
+
+pub faults_of_fault : {end most : ℕ} {r : Result (Unit {0}) Broken} {old new : DiskState} → r ≡ Err broken.Fault → Reads end most r old new
+    → TellsFaultsBy {R = Result (Unit {0}) Unreadable} (Err Unreadable.Fault) (Err Unreadable.Fault) old new
+faults_of_fault h1 h2 = grind (arith, common_steps, nat_tests)

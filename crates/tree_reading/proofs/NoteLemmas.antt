@@ -38,7 +38,7 @@ use Rattle.blsm_model.specs.declared.key.Key.{Key}
 use Rattle.blsm_model.specs.Components.{no_page}
 use Rattle.blsm_model.specs.Keys.{key_cmp}
 use Rattle.blsm_model.specs.Sizes.{Sizes}
-use Rattle.blsm_model.specs.Geometry.{capacity, page_count}
+use Rattle.blsm_model.specs.Geometry.{page_count}
 use Rattle.record_delta.specs.declared.record.Rec.{Rec}
 use Rattle.record_delta.specs.Entries.{Entries, entries_weight}
 use Rattle.page_file.specs.Entry.{AreRising, keys_of}
@@ -52,8 +52,9 @@ use Rattle.bloom_bits.proofs.PartLemmas.{fences_join, rising_apart}
 use Rattle.run_cursor.specs.Cursor.{CursorState}
 use Rattle.run_cursor.specs.Given.{HasGiven}
 use Rattle.tree_runs.specs.declared.guides.PageStart.{PageStart}
-use Rattle.tree_runs.specs.Noting.{AreRooms, KeepsRooms, Notes, fence_at}
-use Rattle.tree_runs.specs.Runs.{GuideState, IsFilled, guide_at}
+use Rattle.tree_runs.specs.Noting.{HasSameRoom, KeepsRooms, Notes, fence_at}
+use Rattle.tree_runs.specs.Runs.{GuideState, IsFilled, IsReserved, guide_at}
+use Rattle.tree_runs.proofs.GuideLemmas.{reserved_still}
 use Rattle.tree_reading.specs.Walk.{IsClear, IsGuideAt, StartsAt}
 use Rattle.tree_reading.proofs.PagesLemmas.{rise_front, same_pages}
 use Rattle.tree_reading.proofs.WalkLemmas.{last_push, none_here, pages_stay, pages_turn, same_or_not, still}
@@ -71,21 +72,28 @@ rooms_then one two = record {
   fences = two.fences ∙ one.fences;
 }
 
-pub rooms_kept : {tag : ℕ} {old new : List GuideState} (sizes : Sizes) → KeepsRooms tag old new → AreRooms sizes old → AreRooms sizes new
-rooms_kept {tag} {old} {new} sizes keeps are = record {
-  each = λ other below.
-      let was = are.each other (omega (arith, below, keeps.many)) in
-      elim (same_or_not other tag) [
-        | inl same ↦ record {
-          bits = ap (λ t. (guide_at new t).filter.reserved) same ∙ keeps.bits ∙ ap (λ t. (guide_at old t).filter.reserved) (sym same) ∙ was.bits;
-          pages = ap (λ t. (guide_at new t).fences.reserved) same ∙ keeps.fences ∙ ap (λ t. (guide_at old t).fences.reserved) (sym same) ∙ was.pages;
-        }
-        | inr differs ↦ record {
-          bits = ap (λ (g : GuideState). g.filter.reserved) (keeps.others other differs) ∙ was.bits;
-          pages = ap (λ (g : GuideState). g.fences.reserved) (keeps.others other differs) ∙ was.pages;
-        }
-      ];
+pub same_room : {tag : ℕ} {old new : List GuideState} → KeepsRooms tag old new → HasSameRoom old new
+same_room {tag} {old} {new} keeps = record {
+  many = keeps.many;
+  bits = λ other. elim (same_or_not other tag) [
+    | inl same ↦ subst (λ (t : ℕ). (guide_at new t).filter.reserved ≡ (guide_at old t).filter.reserved) (sym same) keeps.bits
+    | inr differs ↦ ap (λ (g : GuideState). g.filter.reserved) (keeps.others other differs)
+  ];
+  fences = λ other. elim (same_or_not other tag) [
+    | inl same ↦ subst (λ (t : ℕ). (guide_at new t).fences.reserved ≡ (guide_at old t).fences.reserved) (sym same) keeps.fences
+    | inr differs ↦ ap (λ (g : GuideState). g.fences.reserved) (keeps.others other differs)
+  ];
 }
+
+pub room_then : {old mid new : List GuideState} → HasSameRoom old mid → HasSameRoom mid new → HasSameRoom old new
+room_then one two = record { many = two.many ∙ one.many; bits = λ tag. two.bits tag ∙ one.bits tag; fences = λ tag. two.fences tag ∙ one.fences tag }
+
+-- there is room for a component still whose tag has this number
+pub room_kept : {old new : List GuideState} {weight : ℕ} (tag number : ℕ) → HasSameRoom old new → number ≡ tag → (tag < length old
+    → IsReserved weight (guide_at old tag))
+    → number < length new → IsReserved weight (guide_at new number)
+room_kept {old} {new} {weight} tag number same is had below =
+    subst (λ (t : ℕ). IsReserved weight (guide_at new t)) (sym is) (reserved_still tag same (had (omega (arith, below, is, same.many))))
 
 -- ---- a page's first key is above those of the pages before
 
@@ -262,10 +270,8 @@ noted_end sizes run cursor tag guides given file read pages few noted h there li
     }
 
 -- a component that reads has no more pages than there is room for
-pub pages_fit : (sizes : Sizes) (run : Component) (tag : ℕ) (guides : List GuideState) → AreRooms sizes guides → tag < length guides → run.weight ≤
-    capacity sizes → IsFilled run
-    → run.pages ≤ (guide_at guides tag).fences.reserved
-pages_fit sizes run tag guides are below light filled = omega (arith, (are.each tag below).pages, filled.full, light)
+pub pages_fit : (run : Component) (guide : GuideState) → IsReserved run.weight guide → IsFilled run → run.pages ≤ guide.fences.reserved
+pages_fit run guide is filled = omega (arith, is.pages, filled.full)
 
 -- ---- tag by tag
 

@@ -1,7 +1,7 @@
 -- What was found of a store is a tree that fits.
 use Rattle.std.proofs.lemmas.Bool.Decides.{nat_tests}
 use Rattle.std.proofs.lemmas.Grind.{common_steps}
-use Rattle.std.proofs.Common.{◌≡◌, ◌∙◌, ℕ, ◌+◌, ◌-◌, ◌≤◌, List, Bool, IsTrue, length, take, refl, subst, arith, Result, Ok, Err, IfOk}
+use Rattle.std.proofs.Common.{◌≡◌, ℕ, ◌+◌, ◌-◌, ◌≤◌, List, Bool, IsTrue, take, refl, subst, arith, Result, Ok, Err, IfOk}
 use Rattle.std.specs.Prelude.{min}
 use Rattle.disk_trait.specs.Disk.{DiskState}
 use Rattle.disk_trait.proofs.ReadLemmas.{only_reads_wider}
@@ -11,18 +11,24 @@ use Rattle.record_delta.specs.Entries.{Entries, entries_weight, replayed}
 use Rattle.catalog_swap.specs.declared.catalog.Catalog.{Catalog}
 use Rattle.tree_file.specs.Tree.{Tree}
 use Rattle.tree_runs.specs.Noting.{AreRooms}
-use Rattle.tree_runs.specs.Runs.{AreGuides, GuideState}
+use Rattle.tree_runs.specs.Runs.{AreGuides, GuideState, IsReserved, first_tags, guide_at}
+use Rattle.tree_runs.proofs.GuideLemmas.{reserved_less}
 use Rattle.tree_reading.specs.declared.found.Found.{Found}
 use Rattle.tree_reading.specs.declared.lane.LaneEnd.{LaneEnd}
 use Rattle.tree_reading.specs.declared.lanes.Ends.{Ends}
 use Rattle.tree_reading.specs.declared.found.Unreadable.{Unreadable}
-use Rattle.tree_reading.specs.Damage.{HasCatalogue, catalogue_weight}
+use Rattle.tree_reading.specs.Damage.{FitsMarks, HasCatalogue, catalogue_weight}
 use Rattle.tree_reading.specs.Reading.{AreReplayed, AreTagged, GuidesTree, HasLooked, HoldsFound, IsFound, at_superblock, calls_of_reading, within}
 use Rattle.tree_reading.proofs.LanesLemmas.{within_room}
 
 -- what holds at all is so of each value of Ok
 pub on_any_ok : {A E : Type 0} {P : Type 0} (r : Result A E) → P → IfOk r (λ a. P)
 on_any_ok r h1 = grind (arith, common_steps, nat_tests)
+
+-- what follows for each value of Ok
+pub on_each_ok : {A E : Type 0} {P Q : A → Type 0} (r : Result A E) → ((a : A) → P a → Q a) → IfOk r P → IfOk r Q
+on_each_ok (Ok a) more has = more a has
+on_each_ok (Err e) more has = tt
 
 pub looked_more : {most more : Sizes → ℕ} {old new : DiskState} → ((s : Sizes) → most s ≤ more s) → HasLooked most old new → HasLooked more old new
 looked_more less (at_superblock reads) = at_superblock reads
@@ -96,14 +102,16 @@ pub replayed_in : (sizes : Sizes) (catalogue : Catalog) (a b : Entries) (end_a e
     → (IsTrue was → IsTrue honest) → (IsTrue was → bytes ≡ file) → AreReplayed sizes catalogue a b end_a end_b was file
 replayed_in sizes catalogue a b end_a end_b honest was bytes file h1 h2 h3 = grind (arith, common_steps, nat_tests)
 
--- all pairs that were reserved are there still
-pub guides_still : (sizes : Sizes) (old new : List GuideState) → AreGuides sizes old → length new ≡ length old → AreRooms sizes new → AreGuides sizes
-    new
-guides_still sizes old new are many rooms = record {
-  five = many ∙ are.five;
-  each = λ tag below. rooms.each tag
-      (omega (arith, below, many, are.five));
+-- filters and fences that were reserved have room for what the catalogue has
+pub rooms_reserved : {E : Type 0} (sizes : Sizes) (catalogue : Catalog) → FitsMarks sizes catalogue → (r : Result (List GuideState) E)
+    → IfOk r (AreGuides sizes first_tags)
+    → IfOk r (λ guides. IsReserved catalogue.c1x.weight (guide_at guides first_tags.c1x)) → IfOk r (AreRooms catalogue)
+rooms_reserved sizes catalogue fits (Ok guides) are c1x = record {
+  c1 = λ below. reserved_less (omega (arith, fits.mark)) are.c1;
+  c1x = λ below. c1x;
+  c2 = λ below. reserved_less (omega (arith, fits.full)) are.c2;
 }
+rooms_reserved sizes catalogue fits (Err e) are c1x = tt
 
 -- the calls of the lanes behind those of the pages
 pub calls_on : (r : Result Ends Unreadable) (catalogue : Catalog) (old mid new : ℕ) → mid ≤ old +

@@ -64,7 +64,8 @@ pub record AreTagged (sizes : Sizes) (catalogue : Catalog) (space : SpaceState) 
 -- Filters and fences, where there are those of five tags: those of 0, 1 and 2 are of the pages as which the components read.
 abbrev pub GuidesTree : Sizes → Catalog → List GuideState → List ℕ → Type 0
 GuidesTree sizes catalogue guides file =
-    AreGuides sizes guides → (tree : Tree) → ReadsAs sizes catalogue.c1 tree.c1 file → ReadsAs sizes catalogue.c1x tree.c1x file → ReadsAs sizes
+    AreGuides sizes first_tags guides → (tree : Tree) → ReadsAs sizes catalogue.c1 tree.c1 file → ReadsAs sizes catalogue.c1x tree.c1x file
+    → ReadsAs sizes
     catalogue.c2 tree.c2 file
     → AreGuided guides first_tags tree
 
@@ -110,7 +111,7 @@ pub record HoldsFound (found : Found) (file : List ℕ) : Type 0 where
   pub end_b : end_of found.lanes (b_of found.catalogue.lanes) ≡ length (blocks tree.lane_b)
   pub records_a : found.records_a ≡ length tree.lane_a
   pub records_b : found.records_b ≡ length tree.lane_b
-  pub guided : AreGuides found.geometry found.guides → AreGuided found.guides first_tags tree
+  pub guided : AreGuides found.geometry first_tags found.guides → AreGuided found.guides first_tags tree
 
 -- how many calls a reading takes at most: those of its head, one for each page, and those of two lanes
 abbrev pub head_calls : Sizes → ℕ

@@ -5,7 +5,7 @@ ghost use Rattle.disk_trait.specs.Reads.{OnlyReads};
 ghost use Rattle.blsm_model.specs.Geometry.{file_length, page_count};
 ghost use Rattle.page_file.specs.File.{Reads};
 ghost use Rattle.page_space.specs.Space.{IsSpace, unused};
-ghost use Rattle.tree_runs.specs.Noting.{AreRooms};
+ghost use Rattle.tree_runs.specs.Noting.{AreRooms, HasSameRoom};
 ghost use Rattle.tree_runs.specs.Runs.{AreRead};
 ghost use Rattle.tree_reading.specs.Damage.{HasCatalogue};
 ghost use Rattle.tree_reading.specs.Reading.{AreTagged, GuidesTree, IsHead, IsWhy, TellsComponents};
@@ -28,13 +28,12 @@ fn walk_all<D: Disk>(
     requires right { IsHead head.now.geometry head.now.catalogue }
     requires unused { space.old ≡ unused (page_count head.now.geometry) }
     requires shape { IsSpace space.old }
-    requires rooms { AreRooms head.now.geometry guides.old }
+    requires rooms { AreRooms head.now.catalogue guides.old }
     requires length { IsTrue (D.state disk.old).tells_bytes → length (D.state disk.old).bytes ≡ file_length head.now.geometry }
     ensures tags { OnOk result (AreRead head.now.geometry head.now.catalogue space.new) }
     ensures tells { IsTrue (D.state disk.old).is_honest
         → TellsComponents head.now.geometry head.now.catalogue space.new (D.state disk.old).bytes result }
-    ensures rooms { length guides.new ≡ length guides.old }
-    ensures reserved { AreRooms head.now.geometry guides.new }
+    ensures reserved { OnOk result (HasSameRoom guides.old guides.new) }
     ensures guided { IsTrue (D.state disk.old).is_honest
         → OnOk result (GuidesTree head.now.geometry head.now.catalogue guides.new (D.state disk.old).bytes) }
     ensures once { OnOk result ((D.state disk.new).clock
@@ -84,13 +83,12 @@ pub(crate) fn read_components<D: Disk>(
     requires right { IsHead head.now.geometry head.now.catalogue }
     requires unused { space.old ≡ unused (page_count head.now.geometry) }
     requires shape { IsSpace space.old }
-    requires rooms { AreRooms head.now.geometry guides.old }
+    requires rooms { AreRooms head.now.catalogue guides.old }
     requires length { IsTrue (D.state disk.old).tells_bytes → length (D.state disk.old).bytes ≡ file_length head.now.geometry }
     ensures tags { OnOk result (AreRead head.now.geometry head.now.catalogue space.new) }
     ensures found { IsTrue (D.state disk.old).is_honest
         → OnOk result (AreTagged head.now.geometry head.now.catalogue space.new (D.state disk.old).bytes) }
-    ensures rooms { length guides.new ≡ length guides.old }
-    ensures reserved { AreRooms head.now.geometry guides.new }
+    ensures reserved { OnOk result (HasSameRoom guides.old guides.new) }
     ensures guided { IsTrue (D.state disk.old).is_honest
         → OnOk result (GuidesTree head.now.geometry head.now.catalogue guides.new (D.state disk.old).bytes) }
     ensures once { OnOk result ((D.state disk.new).clock

@@ -1,13 +1,13 @@
 //! The pages of a component, walked from the first.
 ghost use Rattle.std.specs.Prelude.{◌≡◌, ◌↔◌, ℕ, ◌+◌, ◌*◌, ◌^◌, ◌<◌, ◌≤◌, List, [], ◌∷◌, length, IsTrue, IsErr, IfErr, OnOk};
 ghost use Rattle.blsm_model.specs.Components.{empty_component, no_page};
-ghost use Rattle.blsm_model.specs.Geometry.{capacity, page_count, file_length};
+ghost use Rattle.blsm_model.specs.Geometry.{page_count, file_length};
 ghost use Rattle.page_file.specs.Component.{RunPage, ReadsAs};
 ghost use Rattle.page_file.specs.File.{Reads};
 ghost use Rattle.page_space.specs.Space.{HasRole, IsSpace};
 ghost use Rattle.tree_runs.specs.Laws.{TakesFree};
-ghost use Rattle.tree_runs.specs.Noting.{AreRooms, KeepsRooms};
-ghost use Rattle.tree_runs.specs.Runs.{IsFilled};
+ghost use Rattle.tree_runs.specs.Noting.{KeepsRooms};
+ghost use Rattle.tree_runs.specs.Runs.{IsFilled, IsReserved, guide_at};
 ghost use Rattle.tree_reading.specs.Pages.{AreAllowed};
 ghost use Rattle.tree_reading.specs.Walk.{ChangesOnly, Enters, IsClear, IsGuideAt, IsStoppedAt, StartsAt, TakesUp, TellsBroken, TellsPages};
 ghost use Rattle.tree_reading.specs.Walk.{TellsStop};
@@ -163,8 +163,7 @@ pub(crate) fn walk<D: Disk>(
     guides: &mut GuideRoom,
 ) -> Result<(), Broken>
     requires empty { run.now.pages ≡ 0 → run.now ≡ empty_component }
-    requires light { run.now.weight ≤ capacity geo.now }
-    requires rooms { AreRooms geo.now guides.old }
+    requires rooms { role < length guides.old → IsReserved run.now.weight (guide_at guides.old role) }
     requires pages { space.old.pages ≡ page_count geo.now }
     requires shape { IsSpace space.old }
     requires none { (page : ℕ) → HasRole space.old role page → ⊥ }

@@ -7,8 +7,8 @@ ghost use Rattle.blsm_model.specs.Geometry.{file_length, high_mark, page_count};
 ghost use Rattle.blsm_model.specs.Lanes.{a_of, b_of, region_length};
 ghost use Rattle.page_space.specs.Space.{IsSpace, unused};
 ghost use Rattle.gated_log.specs.Lanes.{end_of};
-ghost use Rattle.tree_runs.specs.Noting.{AreRooms};
-ghost use Rattle.tree_runs.specs.Runs.{AreGuides, AreRead};
+ghost use Rattle.tree_runs.specs.Noting.{AreRooms, HasSameRoom};
+ghost use Rattle.tree_runs.specs.Runs.{AreGuides, AreRead, first_tags};
 ghost use Rattle.tree_reading.specs.Damage.{HasCatalogue};
 ghost use Rattle.tree_reading.specs.Lane.{lane_calls};
 ghost use Rattle.tree_reading.specs.Reading.{AreReplayed, AreTagged, GuidesTree, HasLooked, HoldsFound, IsFound, IsHead, IsWhy};
@@ -49,36 +49,34 @@ pub struct Room {
     pub guides: GuideRoom,
 }
 
-// Filters and fences for a store of this geometry that is to be opened, or none.
-fn reserve_guides(
-    alloc: Global,
-    geometry: &Geometry,
-    purpose: Purpose,
-) -> Result<GuideRoom, NoMemory>
-    ensures rooms { IfOk result (AreRooms geometry.now) }
-    ensures guides { purpose ≡ Purpose.Opening → IfOk result (AreGuides geometry.now) }
+// Filters and fences for a store with this head that is to be opened, or none.
+fn reserve_guides(alloc: Global, head: &Head, purpose: Purpose) -> Result<GuideRoom, NoMemory>
+    requires right { IsHead head.now.geometry head.now.catalogue }
+    ensures rooms { IfOk result (AreRooms head.now.catalogue) }
+    ensures guides { purpose ≡ Purpose.Opening → IfOk result (AreGuides head.now.geometry first_tags) }
 {
     match purpose {
-        Purpose::Opening => GuideRoom::reserve(alloc, geometry),
+        Purpose::Opening => GuideRoom::reserve(alloc, &head.geometry, head.catalogue.c1x.weight),
         Purpose::Check => Ok(GuideRoom::none(alloc)),
     }
 }
 
-// Memory for what a store of this geometry has, with nothing in it. The record that passes the high mark is folded in before it is seen to.
-fn reserve(alloc: Global, geometry: &Geometry, purpose: Purpose) -> Result<Room, NoMemory>
-    ensures space { IfOk result (λ room. room.space ≡ unused (page_count geometry.now)) }
+// Memory for what a store with this head has, with nothing in it. The record that passes the high mark is folded in before it is seen to.
+fn reserve(alloc: Global, head: &Head, purpose: Purpose) -> Result<Room, NoMemory>
+    requires right { IsHead head.now.geometry head.now.catalogue }
+    ensures space { IfOk result (λ room. room.space ≡ unused (page_count head.now.geometry)) }
     ensures shape { IfOk result (λ room. IsSpace room.space) }
-    ensures a { IfOk result (λ room. room.a ≡ record { entries = []; reserved = high_mark geometry.now + most_weight; arrived = [] }) }
-    ensures b { IfOk result (λ room. room.b ≡ record { entries = []; reserved = high_mark geometry.now + most_weight; arrived = [] }) }
-    ensures rooms { IfOk result (λ room. AreRooms geometry.now room.guides) }
-    ensures guides { purpose ≡ Purpose.Opening → IfOk result (λ room. AreGuides geometry.now room.guides) }
+    ensures a { IfOk result (λ room. room.a ≡ record { entries = []; reserved = high_mark head.now.geometry + most_weight; arrived = [] }) }
+    ensures b { IfOk result (λ room. room.b ≡ record { entries = []; reserved = high_mark head.now.geometry + most_weight; arrived = [] }) }
+    ensures rooms { IfOk result (λ room. AreRooms head.now.catalogue room.guides) }
+    ensures guides { purpose ≡ Purpose.Opening → IfOk result (λ room. AreGuides head.now.geometry first_tags room.guides) }
 {
-    let most = geometry.high_mark() + Op::MAX_WEIGHT;
+    let most = head.geometry.high_mark() + Op::MAX_WEIGHT;
     Ok(Room {
-        space: Space::reserve(alloc, geometry.pages() as u32)?,
+        space: Space::reserve(alloc, head.geometry.pages() as u32)?,
         a: Table::reserve(alloc, most)?,
         b: Table::reserve(alloc, most)?,
-        guides: reserve_guides(alloc, geometry, purpose)?,
+        guides: reserve_guides(alloc, head, purpose)?,
     })
 }
 
@@ -87,7 +85,7 @@ fn read_parts<D: Disk>(disk: &mut D, head: &Head, room: &mut Room) -> Result<End
     requires right { IsHead head.now.geometry head.now.catalogue }
     requires unused { room.old.space ≡ unused (page_count head.now.geometry) }
     requires shape { IsSpace room.old.space }
-    requires rooms { AreRooms head.now.geometry room.old.guides }
+    requires rooms { AreRooms head.now.catalogue room.old.guides }
     requires empty_a { room.old.a ≡ record { entries = []; reserved = high_mark head.now.geometry + most_weight; arrived = [] } }
     requires empty_b { room.old.b ≡ record { entries = []; reserved = high_mark head.now.geometry + most_weight; arrived = [] } }
     requires length { IsTrue (D.state disk.old).tells_bytes → length (D.state disk.old).bytes ≡ file_length head.now.geometry }
@@ -97,8 +95,7 @@ fn read_parts<D: Disk>(disk: &mut D, head: &Head, room: &mut Room) -> Result<End
     ensures replayed { IfOk result (λ ends. AreReplayed head.now.geometry head.now.catalogue room.new.a.entries room.new.b.entries ends.a ends.b
         (D.state disk.old).is_honest (D.state disk.old).bytes) }
     ensures reserved { IfOk result (λ ends. (room.new.a.reserved ≡ room.old.a.reserved) × (room.new.b.reserved ≡ room.old.b.reserved)) }
-    ensures guides { length room.new.guides ≡ length room.old.guides }
-    ensures rooms { AreRooms head.now.geometry room.new.guides }
+    ensures guides { IfOk result (λ ends. HasSameRoom room.old.guides room.new.guides) }
     ensures guided { IsTrue (D.state disk.old).is_honest
         → IfOk result (λ ends. GuidesTree head.now.geometry head.now.catalogue room.new.guides (D.state disk.old).bytes) }
     ensures calls { IfOk result (λ ends. (D.state disk.new).clock + 4
@@ -147,12 +144,12 @@ pub fn read_tree<D: Disk>(
     ensures faults { TellsFaultsBy (Err Unreadable.Fault) result (D.state disk.old) (D.state disk.new) }
     ensures effect { IfOk result (λ found. OnlyReads (file_length found.geometry) (reading_calls found.geometry) (D.state disk.old) (D.state disk.new)) }
     ensures looked { IsErr result → HasLooked reading_calls (D.state disk.old) (D.state disk.new) }
-    ensures guides { purpose ≡ Purpose.Opening → IfOk result (λ found. AreGuides found.geometry found.guides) }
+    ensures guides { purpose ≡ Purpose.Opening → IfOk result (λ found. AreGuides found.geometry first_tags found.guides) }
     ensures calls { IfOk result (λ found. (D.state disk.new).clock
         ≤ (D.state disk.old).clock + calls_of_reading found.catalogue found.records_a found.records_b) }
 {
     let head = read_head(disk)?;
-    let Ok(mut room) = reserve(alloc, &head.geometry, purpose) else {
+    let Ok(mut room) = reserve(alloc, &head, purpose) else {
         return Err(Unreadable::NoMemory);
     };
     let ends = read_parts(disk, &head, &mut room)?;

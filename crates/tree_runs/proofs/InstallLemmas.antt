@@ -80,7 +80,14 @@ runs_for_deep old next mid after are parts first second = record {
     );
     seats = pins_same old.space after _ (second.pins ∙ first.pins) are.within.seats;
   };
-  guides = are.guides;
+  guides = record {
+    five = are.guides.five;
+    c1 = are.guides.c1;
+    c1x = are.guides.c1x;
+    pass = are.guides.pass;
+    c2 = are.guides.deep;
+    deep = are.guides.c2;
+  };
 }
   where
     tags : Tags
@@ -119,7 +126,14 @@ runs_for_pass old next after are parts gone = record {
     );
     seats = pins_same old.space after _ gone.pins are.within.seats;
   };
-  guides = are.guides;
+  guides = record {
+    five = are.guides.five;
+    c1 = are.guides.pass;
+    c1x = are.guides.c1x;
+    pass = are.guides.c1;
+    c2 = are.guides.c2;
+    deep = are.guides.deep;
+  };
 }
   where
     tags : Tags
@@ -131,7 +145,7 @@ c1x_empty old are rests = subst (λ (d : Option DeepState). RestsEmpty d old.cat
 
 -- or it becomes C1', and C1 is empty
 pub runs_for_rotated_pass : (old : RunsState) (next : Catalog) (after : SpaceState) (guides : List GuideState) → AreRuns old → HasParts next empty_component (made_by_pass old.pass) old.catalogue.c2 → old.deep ≡ None
-    → Released old.tags.c1 old.space after → AreGuides old.sizes guides
+    → Released old.tags.c1 old.space after → AreGuides old.sizes old.tags guides
     → AreRuns (record {
       sizes = old.sizes;
       catalogue = next;
@@ -171,7 +185,7 @@ runs_for_rotated_pass old next after guides are parts rests gone reserved = reco
     );
     seats = pins_same old.space after _ gone.pins are.within.seats;
   };
-  guides = reserved;
+  guides = record { five = reserved.five; c1 = reserved.c1x; c1x = reserved.pass; pass = reserved.c1; c2 = reserved.c2; deep = reserved.deep };
 }
   where
     tags : Tags
@@ -185,7 +199,7 @@ runs_for_rotated_pass old next after guides are parts rests gone reserved = reco
 
 -- ---- C1 becomes C1'
 
-pub runs_for_rotation : (old : RunsState) (next : Catalog) (guides : List GuideState) → AreRuns old → HasParts next empty_component old.catalogue.c1 old.catalogue.c2 → old.deep ≡ None → AreGuides old.sizes guides
+pub runs_for_rotation : (old : RunsState) (next : Catalog) (guides : List GuideState) → AreRuns old → HasParts next empty_component old.catalogue.c1 old.catalogue.c2 → old.deep ≡ None → AreGuides old.sizes old.tags guides
     → AreRuns (record {
       sizes = old.sizes;
       catalogue = next;

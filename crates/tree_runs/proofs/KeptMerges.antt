@@ -87,6 +87,7 @@ module _ {sizes : Sizes} {region : Region} {old new : List ℕ} {space after : S
     newer_is = over.newer_is;
     older_is = input_still c1 keeps role stays tagged over.older_is;
     run = run_still keeps role over.run;
+    begun = over.begun;
     out_is = over.out_is;
     closed_up = over.closed_up;
     closed_is = over.closed_is;
@@ -102,6 +103,7 @@ module _ {sizes : Sizes} {region : Region} {old new : List ℕ} {space after : S
     newer_is = input_still c1x keeps role newer tagged over.newer_is;
     older_is = input_still c2 keeps role older tagged_c2 over.older_is;
     run = run_still keeps role over.run;
+    begun = over.begun;
     out_is = over.out_is;
     closed_up = over.closed_up;
     closed_is = over.closed_is;

@@ -6,7 +6,7 @@ mod StayLemmas
 mod QuantumLemmas
 mod FindLemmas
 mod ToldLemmas
-mod GuideLemmas
+pub mod GuideLemmas
 pub mod BesideLemmas
 mod HoldLemmas
 mod PartLemmas

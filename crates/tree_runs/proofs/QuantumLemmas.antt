@@ -22,7 +22,7 @@ use Rattle.tree_file.specs.Tree.{Tree, HoldsTree}
 use Rattle.tree_file.specs.Places.{StandsOn}
 use Rattle.tree_file.proofs.StandLemmas.{stands_beside}
 use Rattle.scan_view.proofs.StayLemmas.{unpinned_on}
-use Rattle.tree_runs.specs.Runs.{GuideState, RunsState, Tags, AreGuides, AreRuns, AreRunning, Fits, HasOneTag, IsFilled, PassRuns, DeepRuns, PassHasTag, DeepHasTag, guide_at, left_for_deep, left_for_pass, made_by_pass, made_by_deep, pages_in_use, page_share}
+use Rattle.tree_runs.specs.Runs.{GuideState, RunsState, Tags, AreGuides, AreRuns, AreRunning, Fits, HasOneTag, IsFilled, PassRuns, DeepRuns, PassHasTag, DeepHasTag, guide_at, left_for_deep, left_for_pass, made_by_pass, made_by_deep, pages_in_use, page_share, run_most}
 use Rattle.tree_runs.specs.Holding.{IsPassOver, IsDeepOver, StandOver, KeepsAllButPass, KeepsAllButDeep, PassTook, DeepTook}
 use Rattle.tree_runs.proofs.CountLemmas.{within_more, other_size}
 use Rattle.tree_runs.proofs.GuideLemmas.{WritesGuide, all_guided_still}
@@ -64,8 +64,8 @@ tree_stays runs tree a role most after old new are tag shape works honest timed 
 
 -- ---- room
 
--- a run and what is left for it weigh the capacity at most
-pub pass_light : (runs : RunsState) (snow : SnowState) (a : Entries) → runs.pass ≡ Some snow → Fits runs a → snow.writer.component.weight + left_for_pass (Some snow) a ≤ capacity runs.sizes
+-- a run and what is left for it weigh no more than their filter and fences have room for
+pub pass_light : (runs : RunsState) (snow : SnowState) (a : Entries) → runs.pass ≡ Some snow → Fits runs a → snow.writer.component.weight + left_for_pass (Some snow) a ≤ run_most runs.sizes
 pass_light runs snow a is fits = grind (arith, common_steps, nat_tests)
 
 pub deep_light : (runs : RunsState) (merge : DeepState) (a : Entries) → runs.deep ≡ Some merge → Fits runs a → merge.writer.component.weight + left_for_deep (Some merge) ≤ capacity runs.sizes
@@ -104,7 +104,8 @@ pass_works runs after guide guide_after snow next a result old new is are quantu
 
 pass_in_order : (runs : RunsState) (after : SpaceState) (guides : List GuideState) (snow next : SnowState) → runs.pass ≡ Some snow → AreRuns runs → IsSpace after
     → TakesPages runs.tags.pass runs.space after → role_size after runs.tags.pass + snow.writer.component.pages ≡ role_size runs.space runs.tags.pass + next.writer.component.pages
-    → next.writer.role ≡ runs.tags.pass → IsFilled next.writer.component → AreGuides runs.sizes guides → AreRuns (passed runs after guides next)
+    → next.writer.role ≡ runs.tags.pass → IsFilled next.writer.component → AreGuides runs.sizes runs.tags guides
+    → AreRuns (passed runs after guides next)
 pass_in_order runs after guides snow next is are shape takes size role filled reserved =
     let made = ap (λ (p : Option SnowState). (made_by_pass p).pages) is in
     record {
@@ -129,7 +130,7 @@ pass_in_order runs after guides snow next is are shape takes size role filled re
 
 -- On any disk.
 pub pass_ran : (runs : RunsState) (after : SpaceState) (guides : List GuideState) (guide : GuideState) (snow next : SnowState) (a : Entries) (result : Result ℕ Broken) (old new : DiskState) → runs.pass ≡ Some snow
-    → AreRunning old.is_honest old.bytes runs → IsSpace after → WritesGuide runs.sizes runs.tags.pass runs.guides guides guide
+    → AreRunning old.is_honest old.bytes runs → IsSpace after → WritesGuide runs.sizes runs.tags runs.tags.pass runs.guides guides guide
     → PassQuantum runs.sizes runs.space after (guide_at runs.guides runs.tags.pass) guide snow next a result old new
     → OnOk result (AreRunning new.is_honest new.bytes (passed runs after guides next))
 pass_ran runs after guides guide snow next a result old new is running shape writes quantum =
@@ -154,7 +155,9 @@ pass_ran runs after guides guide snow next a result old new is running shape wri
 
 -- On an honest disk.
 pub pass_stands : (runs : RunsState) (after : SpaceState) (guides : List GuideState) (guide : GuideState) (snow next : SnowState) (a : Entries) (result : Result ℕ Broken) (old new : DiskState) → runs.pass ≡ Some snow → AreRuns runs → IsSpace after
-    → WritesGuide runs.sizes runs.tags.pass runs.guides guides guide → PassQuantum runs.sizes runs.space after (guide_at runs.guides runs.tags.pass) guide snow next a result old new → IsTimed new → (tree : Tree) → IsTrue old.is_honest → StandOver runs tree a old → result ≢ Err Fault
+    → WritesGuide runs.sizes runs.tags runs.tags.pass runs.guides guides guide
+    → PassQuantum runs.sizes runs.space after (guide_at runs.guides runs.tags.pass) guide snow next a result old new → IsTimed new → (tree : Tree)
+    → IsTrue old.is_honest → StandOver runs tree a old → result ≢ Err Fault
     → (n : ℕ) × (result ≡ Ok n) × StandOver (passed runs after guides next) tree a new × PassTook runs.sizes.quantum runs.pass (Some next) a (entries_of tree.c1) n
 pass_stands runs after guides guide snow next a result old new is are shape writes quantum timed tree honest stand other =
     let over = subst (λ (p : Option SnowState). IsPassOver runs.sizes old.bytes runs.space (guide_at runs.guides runs.tags.pass) p a tree.c1) is stand.are_of.pass in
@@ -212,7 +215,8 @@ deep_works runs after guide guide_after merge next result old new is are quantum
 
 deep_in_order : (runs : RunsState) (after : SpaceState) (guides : List GuideState) (merge next : DeepState) → runs.deep ≡ Some merge → AreRuns runs → IsSpace after → TakesPages runs.tags.deep runs.space after
     → role_size after runs.tags.deep + merge.writer.component.pages ≡ role_size runs.space runs.tags.deep + next.writer.component.pages
-    → next.writer.role ≡ runs.tags.deep → IsFilled next.writer.component → AreGuides runs.sizes guides → AreRuns (deepened runs after guides next)
+    → next.writer.role ≡ runs.tags.deep → IsFilled next.writer.component → AreGuides runs.sizes runs.tags guides
+    → AreRuns (deepened runs after guides next)
 deep_in_order runs after guides merge next is are shape takes size role filled reserved =
     let made = ap (λ (d : Option DeepState). (made_by_deep d).pages) is in
     record {
@@ -237,7 +241,7 @@ deep_in_order runs after guides merge next is are shape takes size role filled r
 
 -- On any disk.
 pub deep_ran : (runs : RunsState) (after : SpaceState) (guides : List GuideState) (guide : GuideState) (merge next : DeepState) (result : Result ℕ Broken) (old new : DiskState) → runs.deep ≡ Some merge
-    → AreRunning old.is_honest old.bytes runs → IsSpace after → WritesGuide runs.sizes runs.tags.deep runs.guides guides guide
+    → AreRunning old.is_honest old.bytes runs → IsSpace after → WritesGuide runs.sizes runs.tags runs.tags.deep runs.guides guides guide
     → DeepQuantum runs.sizes runs.space after (guide_at runs.guides runs.tags.deep) guide merge next result old new
     → OnOk result (AreRunning new.is_honest new.bytes (deepened runs after guides next))
 deep_ran runs after guides guide merge next result old new is running shape writes quantum =
@@ -262,7 +266,9 @@ deep_ran runs after guides guide merge next result old new is running shape writ
 
 -- On an honest disk.
 pub deep_stands : (runs : RunsState) (after : SpaceState) (guides : List GuideState) (guide : GuideState) (merge next : DeepState) (result : Result ℕ Broken) (old new : DiskState) → runs.deep ≡ Some merge → AreRuns runs → IsSpace after
-    → WritesGuide runs.sizes runs.tags.deep runs.guides guides guide → DeepQuantum runs.sizes runs.space after (guide_at runs.guides runs.tags.deep) guide merge next result old new → IsTimed new → (tree : Tree) (a : Entries) → IsTrue old.is_honest → StandOver runs tree a old → result ≢ Err Fault
+    → WritesGuide runs.sizes runs.tags runs.tags.deep runs.guides guides guide
+    → DeepQuantum runs.sizes runs.space after (guide_at runs.guides runs.tags.deep) guide merge next result old new → IsTimed new
+    → (tree : Tree) (a : Entries) → IsTrue old.is_honest → StandOver runs tree a old → result ≢ Err Fault
     → (n : ℕ) × (result ≡ Ok n) × StandOver (deepened runs after guides next) tree a new × DeepTook runs.sizes.quantum runs.deep (Some next) (entries_of tree.c1x) (entries_of tree.c2) n
 deep_stands runs after guides guide merge next result old new is are shape writes quantum timed tree a honest stand other =
     let over = subst (λ (d : Option DeepState). IsDeepOver runs.sizes old.bytes runs.space (guide_at runs.guides runs.tags.deep) d tree.c1x tree.c2) is stand.are_of.deep in

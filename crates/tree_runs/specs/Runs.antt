@@ -1,10 +1,10 @@
 -- What contracts see of the components of a tree and of its merges, and what they keep on every disk. Weights are in bytes.
-use Rattle.std.specs.Prelude.{◌≡◌, ◌≢◌, ⊤, ℕ, ◌+◌, ◌-◌, ◌*◌, ◌/◌, ◌<◌, ◌≤◌, Bool, List, [], ◌∷◌, length, Option, Some, None, if◌then◌else◌, min, nat_eq, slice_index_or, slice_set}
+use Rattle.std.specs.Prelude.{◌≡◌, ◌≢◌, ⊤, ℕ, ◌+◌, ◌-◌, ◌*◌, ◌/◌, ◌<◌, ◌≤◌, Bool, List, [], ◌∷◌, length, Option, Some, None, if◌then◌else◌, max, min, nat_eq, slice_index_or, slice_set}
 use Rattle.blsm_model.specs.declared.component.Component.{Component}
 use Rattle.blsm_model.specs.Components.{empty_component}
 use Rattle.blsm_model.specs.Format.{least_full}
 use Rattle.blsm_model.specs.Sizes.{Sizes, IsGeometry}
-use Rattle.blsm_model.specs.Geometry.{page_count, capacity}
+use Rattle.blsm_model.specs.Geometry.{page_count, c1_mark, capacity}
 use Rattle.bloom_bits.specs.BitSet.{BitState, cleared}
 use Rattle.bloom_bits.specs.Fences.{FencesState}
 use Rattle.bloom_bits.specs.Filter.{rounded}
@@ -58,27 +58,42 @@ empty_guide bits guide = record { filter = cleared guide.filter.reserved (rounde
 abbrev pub emptied : ℕ → ℕ → List GuideState → List GuideState
 emptied tag bits guides = slice_set guides tag (empty_guide bits (guide_at guides tag))
 
+-- how much a pass's run weighs at most: C1 is below its mark, and the pass takes no more than three half springs beside it
+abbrev pub run_most : Sizes → ℕ
+run_most sizes = c1_mark sizes + 3 * sizes.half
+
 -- The bits of a run's filter are as many as its input weighs bytes, and never more than there is room for: for a pass C1, the memory table
 -- and one half that may come while it runs, for a deep merge C1' and C2.
 abbrev pub pass_bits : Sizes → Component → ℕ → ℕ
-pass_bits sizes c1 memory = min (c1.weight + memory + sizes.half) (capacity sizes)
+pass_bits sizes c1 memory = min (c1.weight + memory + sizes.half) (run_most sizes)
 
 abbrev pub deep_bits : Sizes → (c1x c2 : Component) → ℕ
 deep_bits sizes c1x c2 = min (c1x.weight + c2.weight) (capacity sizes)
 
--- there is room for as many bits as the components may weigh bytes, and for the fences of as many pages as so much may fill
-pub record IsReserved (sizes : Sizes) (guide : GuideState) : Type 0 where
-  pub bits : guide.filter.reserved ≡ rounded (capacity sizes)
-  pub pages : guide.fences.reserved ≡ most_pages (capacity sizes)
+-- there is room for as many bits as a run of this weight has bytes, and for the fences of as many pages as so much may fill
+pub record IsReserved (weight : ℕ) (guide : GuideState) : Type 0 where
+  pub bits : rounded weight ≤ guide.filter.reserved
+  pub pages : most_pages weight ≤ guide.fences.reserved
 
 -- one that was just reserved
-abbrev pub fresh_guide : Sizes → GuideState
-fresh_guide sizes = record { filter = cleared (rounded (capacity sizes)) (rounded 0); fences = record { reserved = most_pages (capacity sizes); list = [] } }
+abbrev pub fresh_guide : ℕ → GuideState
+fresh_guide weight = record { filter = cleared (rounded weight) (rounded 0); fences = record { reserved = most_pages weight; list = [] } }
 
--- so for each tag
-pub record AreGuides (sizes : Sizes) (guides : List GuideState) : Type 0 where
+-- Five that were just reserved, for a store whose C1' has this weight. C1' alone may be heavier than a pass's run, and only until it is merged.
+abbrev pub fresh_guides : Sizes → ℕ → List GuideState
+fresh_guides sizes c1x =
+    fresh_guide (run_most sizes) ∷ fresh_guide (max (run_most sizes) c1x) ∷ fresh_guide (capacity sizes) ∷ fresh_guide (run_most sizes)
+    ∷ fresh_guide (capacity sizes) ∷ []
+
+-- There are five. A pass's run becomes C1 or C1', and a deep merge's run C2: so the tags of C1, C1' and the pass go round among themselves, with
+-- room for the heaviest run of a pass, and those of C2 and the deep merge, with room for all that the components may weigh.
+pub record AreGuides (sizes : Sizes) (tags : Tags) (guides : List GuideState) : Type 0 where
   pub five : length guides ≡ role_count
-  pub each : (tag : ℕ) → tag < role_count → IsReserved sizes (guide_at guides tag)
+  pub c1 : IsReserved (run_most sizes) (guide_at guides tags.c1)
+  pub c1x : IsReserved (run_most sizes) (guide_at guides tags.c1x)
+  pub pass : IsReserved (run_most sizes) (guide_at guides tags.pass)
+  pub c2 : IsReserved (capacity sizes) (guide_at guides tags.c2)
+  pub deep : IsReserved (capacity sizes) (guide_at guides tags.deep)
 
 -- ---- beginnings
 
@@ -216,7 +231,7 @@ pub record AreRuns (runs : RunsState) : Type 0 where
   pub deep_unpinned : IsUnpinned runs.space runs.tags.deep
   -- the tags' pages are these, and no seat pins more than its share
   pub within : IsWithin (pages_in_use runs) (page_share runs.sizes) runs.space
-  pub guides : AreGuides runs.sizes runs.guides
+  pub guides : AreGuides runs.sizes runs.tags runs.guides
 
 -- What a reader of a store's file knows on every disk: the pages of C1, C1' and C2, and no others, have the tags 0, 1 and 2, none of them
 -- two, and no seat pins one.
@@ -246,7 +261,8 @@ pub record AreRunning (honest : Bool) (file : List ℕ) (runs : RunsState) : Typ
   pub pass : PassRuns runs.sizes honest file runs.space (guide_at runs.guides runs.tags.pass) runs.pass
   pub deep : DeepRuns runs.sizes honest file runs.space (guide_at runs.guides runs.tags.deep) runs.deep
 
--- what the pages must hold: the components, and the two runs with what is left for them
+-- what the pages must hold: the components, and the two runs with what is left for them, that of the pass within the room of its filter and fences
 pub record Fits (runs : RunsState) (a : Entries) : Type 0 where
   pub live : runs.catalogue.c1.weight + runs.catalogue.c1x.weight + runs.catalogue.c2.weight ≤ capacity runs.sizes
   pub made : (made_by_pass runs.pass).weight + left_for_pass runs.pass a + ((made_by_deep runs.deep).weight + left_for_deep runs.deep) ≤ capacity runs.sizes
+  pub pass : (made_by_pass runs.pass).weight + left_for_pass runs.pass a ≤ run_most runs.sizes

@@ -1,6 +1,6 @@
 //! Filters and fences, one pair for the pages of each tag. A run's pair is filled while it is written, and stays under its tag: a swap
 //! exchanges tags, and no pair.
-ghost use Rattle.std.specs.Prelude.{◌≡◌, ◌<◌, ◌≤◌, [], ℕ, Bool, List, Some, length, replicate, IfOk};
+ghost use Rattle.std.specs.Prelude.{◌≡◌, ◌<◌, ◌≤◌, ◌^◌, [], ℕ, Bool, List, Some, length, IfOk};
 ghost use Rattle.blsm_model.specs.Components.{empty_component};
 ghost use Rattle.blsm_model.specs.Geometry.{capacity};
 ghost use Rattle.blsm_model.specs.Sizes.{Sizes};
@@ -10,9 +10,9 @@ ghost use Rattle.page_space.specs.Space.{SpaceState, role_count};
 ghost use Rattle.page_file.specs.Component.{RunPage, ReadsAs};
 ghost use Rattle.snow_merge.specs.Pass.{started};
 ghost use Rattle.deep_merge.specs.Merge.{started as deep_started};
-ghost use Rattle.tree_runs.specs.Runs.{AreGuides, PassRuns, DeepRuns, fresh_guide, deep_bits, empty_guide, emptied, guide_at, pass_bits};
+ghost use Rattle.tree_runs.specs.Runs.{AreGuides, IsReserved, PassRuns, DeepRuns, fresh_guide, fresh_guides, first_tags, deep_bits, empty_guide, emptied, guide_at, pass_bits, run_most};
 ghost use Rattle.tree_runs.specs.Holding.{AreElsewhere, IsDeepOver, IsPassOver, KeepsOtherGuides};
-ghost use Rattle.tree_runs.specs.Noting.{AreRooms, KeepsRooms, Notes};
+ghost use Rattle.tree_runs.specs.Noting.{KeepsRooms, Notes};
 
 use bloom_bits::{Fence, Fences, Filter};
 use blsm_model::{Component, Geometry, Key};
@@ -48,14 +48,14 @@ impl Model for Guide {
 }
 
 impl Guide {
-    // Room for the bits and the fences of a run as heavy as the capacity.
-    fn reserve(alloc: Global, geo: &Geometry) -> Result<Guide, NoMemory>
-        ensures { IfOk result (λ guide. guide ≡ fresh_guide geo.now) }
+    // Room for the bits and the fences of a run of this weight, in bytes.
+    fn reserve(alloc: Global, weight: u64) -> Result<Guide, NoMemory>
+        requires { weight ≤ 2 ^ 33 }
+        ensures { IfOk result (λ guide. guide ≡ fresh_guide weight) }
     {
-        let capacity = geo.capacity();
-        let pages = capacity / u64::from(LEAST_FULL) + 1;
+        let pages = weight / u64::from(LEAST_FULL) + 1;
         Ok(Guide {
-            filter: Filter::with_bits(alloc, capacity)?,
+            filter: Filter::with_bits(alloc, weight)?,
             fences: Fences::reserve(alloc, pages as u32)?,
         })
     }
@@ -89,13 +89,24 @@ impl Guide {
     }
 }
 
-// Five pairs, one for each tag.
-fn reserve_all(alloc: Global, geo: &Geometry) -> Result<Vec<Guide>, NoMemory>
-    ensures { IfOk result (λ guides. guides.items ≡ replicate role_count (fresh_guide geo.now)) }
+// How much a pass's run weighs at most.
+fn run_most(geo: &Geometry) -> u64
+    ensures most { result ≡ run_most geo.now }
+    ensures bound { result ≤ 2 ^ 33 }
 {
+    geo.c1_mark() + 3 * geo.half()
+}
+
+// Five pairs, one for each tag.
+fn reserve_all(alloc: Global, geo: &Geometry, c1x: u64) -> Result<Vec<Guide>, NoMemory>
+    requires { c1x ≤ capacity geo.now }
+    ensures { IfOk result (λ guides. guides.items ≡ fresh_guides geo.now c1x) }
+{
+    let run = run_most(geo);
+    let all = geo.capacity();
     let mut guides = Vec::with_capacity(alloc, Role::COUNT as usize)?;
-    for _ in 0..Role::COUNT {
-        guides.push(Guide::reserve(alloc, geo)?)?;
+    for weight in [run, run.max(c1x), all, run, all] {
+        guides.push(Guide::reserve(alloc, weight)?)?;
     }
     Ok(guides)
 }
@@ -117,13 +128,17 @@ impl Model for GuideRoom {
 }
 
 impl GuideRoom {
-    /// Takes the memory for all that the store may come to, or tells that it was refused: for each of five tags a filter with as many bits as the
-    /// components may weigh bytes, and the fences of as many pages as so much may fill.
-    pub fn reserve(alloc: Global, geo: &Geometry) -> Result<GuideRoom, NoMemory>
-        ensures { IfOk result (AreGuides geo.now) }
+    /// Takes the memory for all that a store may come to whose C1' weighs so many bytes, or tells that it was refused: for each of five tags a
+    /// filter with as many bits as the heaviest run that may have the tag weighs bytes, and the fences of as many pages as so much may fill. For C2
+    /// and the deep merge's run that is as much as the components may weigh, for C1, C1' and the pass's run C1's mark and three half springs. A C1'
+    /// that was read may be heavier than these, and has the room that it needs.
+    pub fn reserve(alloc: Global, geo: &Geometry, c1x: u64) -> Result<GuideRoom, NoMemory>
+        requires { c1x ≤ capacity geo.now }
+        ensures guides { IfOk result (AreGuides geo.now first_tags) }
+        ensures c1x { IfOk result (λ guides. IsReserved c1x (guide_at guides first_tags.c1x)) }
     {
         Ok(GuideRoom {
-            guides: reserve_all(alloc, geo)?,
+            guides: reserve_all(alloc, geo, c1x)?,
         })
     }
 
@@ -139,7 +154,7 @@ impl GuideRoom {
     /// Takes all keys and fences out of what a tag has, before the pages of a run are read that has it. Its filter has so many bits then; as many
     /// as the run weighs bytes make it tell keys apart.
     pub fn begin(&mut self, role: Role, bits: u64)
-        requires { (sizes : Sizes) × AreRooms sizes self.old × (bits ≤ capacity sizes) }
+        requires { role < length self.old → rounded bits ≤ (guide_at self.old role).filter.reserved }
         ensures begun { role < length self.old → (guide_at self.new role ≡ empty_guide bits (guide_at self.old role)) × HasKeys
             (guide_at self.new role).filter [] }
         ensures rooms { KeepsRooms role self.old self.new }
@@ -171,18 +186,18 @@ pub(crate) fn begin_snow(
     role: Role,
     guides: &mut Vec<Guide>,
 ) -> Snow
-    requires guides { AreGuides geo.now guides.old.items }
+    requires five { length guides.old.items ≡ role_count }
+    requires room { IsReserved (run_most geo.now) (guide_at guides.old.items role) }
     requires empty { c1.now.pages ≡ 0 → c1.now ≡ empty_component }
     ensures started { result ≡ started role c1.now }
     ensures guides { guides.new.items ≡ emptied role (pass_bits geo.now c1.now memory) guides.old.items }
-    ensures reserved { AreGuides geo.now guides.new.items }
     ensures others { KeepsOtherGuides role guides.old.items guides.new.items }
     ensures running { (sizes : Sizes) (honest : Bool) (file : List ℕ) (space : SpaceState) → PassRuns sizes honest file space (guide_at guides.new.items role) (Some result) }
     ensures pass { (sizes : Sizes) (file : List ℕ) (space : SpaceState) (a : Entries) (pages : List RunPage) → ReadsAs sizes c1.now pages file → AreElsewhere space role pages
         → IsPassOver sizes file space (guide_at guides.new.items role) (Some result) a pages }
 {
     let weight = c1.weight.saturating_add(memory).saturating_add(geo.half());
-    let bits = weight.min(geo.capacity());
+    let bits = weight.min(run_most(geo));
     let guide = &mut guides[role.number() as usize];
     Snow::begin(c1, role, bits, &mut guide.filter, &mut guide.fences)
 }
@@ -195,12 +210,12 @@ pub(crate) fn begin_deep(
     role: Role,
     guides: &mut Vec<Guide>,
 ) -> Deep
-    requires guides { AreGuides geo.now guides.old.items }
+    requires five { length guides.old.items ≡ role_count }
+    requires room { IsReserved (capacity geo.now) (guide_at guides.old.items role) }
     requires newer { c1x.now.pages ≡ 0 → c1x.now ≡ empty_component }
     requires older { c2.now.pages ≡ 0 → c2.now ≡ empty_component }
     ensures started { result ≡ deep_started role c1x.now c2.now }
     ensures guides { guides.new.items ≡ emptied role (deep_bits geo.now c1x.now c2.now) guides.old.items }
-    ensures reserved { AreGuides geo.now guides.new.items }
     ensures others { KeepsOtherGuides role guides.old.items guides.new.items }
     ensures running { (sizes : Sizes) (honest : Bool) (file : List ℕ) (space : SpaceState) → DeepRuns sizes honest file space (guide_at guides.new.items role) (Some result) }
     ensures merge { (sizes : Sizes) (file : List ℕ) (space : SpaceState) (newer older : List RunPage)

@@ -92,7 +92,7 @@ impl Runs {
         guides: GuideRoom,
     ) -> Runs
         requires read { AreRead geometry.now catalogue space }
-        requires guides { AreGuides geometry.now guides }
+        requires guides { AreGuides geometry.now first_tags guides }
         ensures opened { result ≡ opened geometry.now catalogue space guides }
         ensures running { (honest : Bool) (file : List ℕ) → AreRunning honest file result }
         ensures lists { (tree : Tree) (a : Entries) (file : List ℕ) → HoldsTree geometry.now tree file → tree.catalogue ≡ catalogue
@@ -206,12 +206,12 @@ fn begin_due(
     role: Role,
     guides: &mut Vec<Guide>,
 )
-    requires guides { AreGuides geo.now guides.old.items }
+    requires guides { AreGuides geo.now first_tags guides.old.items }
     requires role { role ≡ first_tags.deep }
     requires older { catalogue.now.c2.pages ≡ 0 → catalogue.now.c2 ≡ empty_component }
     ensures begun { slot.new ≡ due_deep role catalogue.now }
     ensures guides { guides.new.items ≡ due_guides geo.now catalogue.now guides.old.items }
-    ensures reserved { AreGuides geo.now guides.new.items }
+    ensures reserved { AreGuides geo.now first_tags guides.new.items }
     ensures others { KeepsOtherGuides role guides.old.items guides.new.items }
     ensures running { (sizes : Sizes) (honest : Bool) (file : List ℕ) (space : SpaceState) → DeepRuns sizes honest file space (guide_at guides.new.items role) slot.new }
     ensures merge { (sizes : Sizes) (file : List ℕ) (space : SpaceState) (c1x c2 : List RunPage)

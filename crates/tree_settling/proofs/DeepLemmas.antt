@@ -116,6 +116,7 @@ module _ {done : Bool} {a : Contents} {runs mid new : RunsState} {log : LogState
           lanes_are = refl;
           log_of = log_keeps may.begun.lanes (record may.begun.lanes { catalogue = new.catalogue }) log (ap (λ (c : Catalog). c.lanes) catalogue ∙ ap (λ (c : Catalog). c.lanes) (sym may.begun.lanes_are)) refl refl may.begun.log_of;
           mark = omega (arith, ap (λ (c : Catalog). c.c1.weight) catalogue, ap c1_mark sizes, may.begun.mark);
+          high = omega (arith, ap high_mark sizes, may.begun.high);
           full = omega (arith, deep_light may.begun.deep none swaps, ap capacity sizes, may.begun.full);
           deep = omega (arith, ap (λ (o : Option DeepState). (made_by_deep o).weight + left_for_deep o) swaps.deep);
           reserved_a = omega (arith, ap high_mark sizes, may.begun.reserved_a);

@@ -1,9 +1,8 @@
 -- Tables without an entry, and their lanes.
-use Rattle.std.proofs.Common.{◌≡◌, ◌∙◌, ℕ, [], ◌∷◌, None, Ok, Err, refl, ap, sym, arith, length}
+use Rattle.std.proofs.Common.{◌≡◌, ◌∙◌, ℕ, [], ◌∷◌, None, refl, ap, sym, arith, length}
 use Rattle.std.proofs.lemmas.Grind.{common_steps}
 use Rattle.std.proofs.lemmas.Bool.Decides.{nat_tests}
-use Rattle.std.specs.Prelude.{OnOk, fold}
-use Rattle.std.specs.declared.result.Result.{Result}
+use Rattle.std.specs.Prelude.{fold}
 use Rattle.std.specs.declared.cmp.Ordering.{Ordering}
 use Rattle.std.specs.FinMap.{put}
 use Rattle.std.specs.FinMap.Entries.{by_order}
@@ -44,16 +43,20 @@ empty_lane table lane is none = (replays_to_none [] lane (sym is ∙ none)).0
 ends_at_none : (end : ℕ) (lane : Entries) → end ≡ length (blocks lane) → lane ≡ [] → end ≡ 0
 ends_at_none end lane is none = is ∙ ap (λ (l : Entries). length (blocks l)) none
 
--- Where no deep merge runs and both tables are empty all is settled. Table A is empty then where B was before the last pass.
-pub is_settled : {T E : Type 0} (result : Result T E) (old new : RunsState) (log log' : LogState) (d e : DiskState) → log.b.entries ≡ [] → OnOk result (SettlesOn old new log log' d e)
-    → OnOk result (new.deep ≡ None) → OnOk result (log.b.entries ≡ [] → log'.a.entries ≡ []) → OnOk result (log'.b.entries ≡ []) → OnOk result (IsSettled new log')
-is_settled (Ok value) old new log log' d e none on rests a b = record {
-  pass = on.may.begun.pass;
-  deep = rests;
-  a = a none;
-  b = b;
-  end_a = ends_at_none (end_of_a log') on.may.begun.lanes.lane_a on.may.begun.log_of.end_a (empty_lane log'.a.entries on.may.begun.lanes.lane_a on.may.begun.log_of.a (a none));
-  end_b = ends_at_none (end_of_b log') on.may.begun.lanes.lane_b on.may.begun.log_of.end_b (empty_lane log'.b.entries on.may.begun.lanes.lane_b on.may.begun.log_of.b b);
-  lanes = λ tree is. (empty_lane log'.a.entries tree.lane_a is.a (a none), empty_lane log'.b.entries tree.lane_b is.b b);
-}
-is_settled (Err error) old new log log' d e none on rests a b = tt
+-- Where no deep merge runs and both tables are empty all is settled. Table A is what B was before the last pass, which was empty.
+pub is_settled : (old new : RunsState) (log log' : LogState) (d e : DiskState) → log.b.entries ≡ [] → SettlesOn old new log log' d e
+    → new.deep ≡ None → log'.a.entries ≡ log.b.entries → log'.b.entries ≡ []
+    → IsSettled new log'
+is_settled old new log log' d e none on rests a b =
+    let lanes = on.may.begun.lanes in
+    let is_of = on.may.begun.log_of in
+    let empty = a ∙ none in
+    record {
+      pass = on.may.begun.pass;
+      deep = rests;
+      a = empty;
+      b = b;
+      end_a = ends_at_none (end_of_a log') lanes.lane_a is_of.end_a (empty_lane log'.a.entries lanes.lane_a is_of.a empty);
+      end_b = ends_at_none (end_of_b log') lanes.lane_b is_of.end_b (empty_lane log'.b.entries lanes.lane_b is_of.b b);
+      lanes = λ tree is. (empty_lane log'.a.entries tree.lane_a is.a empty, empty_lane log'.b.entries tree.lane_b is.b b);
+    }

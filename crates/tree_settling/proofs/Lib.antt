@@ -1,3 +1,4 @@
+pub mod CountLemmas
 pub mod DeepLemmas
 pub mod EmptyLemmas
 pub mod MapLemmas

@@ -19,6 +19,7 @@ use Rattle.deep_merge.specs.Merge.{DeepState, started as deep_started}
 use Rattle.mem_table.specs.Tables.{Contents}
 use Rattle.page_file.specs.Component.{RunPage, entries_of}
 use Rattle.record_delta.specs.Entries.{Entries, entries_weight, folded_over, replayed}
+use Rattle.merge_ends.proofs.GroupLemmas.{above_none}
 use Rattle.snow_merge.specs.Pass.{SnowState}
 use Rattle.snow_merge.proofs.PassLemmas.{above_light, pushed_all}
 use Rattle.tree_file.specs.Tree.{Tree, HoldsTree, FitsSizes}
@@ -26,6 +27,7 @@ use Rattle.tree_file.specs.Places.{HoldsEither, StandsOn, TurnsRoles}
 use Rattle.tree_log.specs.Log.{LogState, IsLogOf, turned_log, weight_of_tables}
 use Rattle.tree_runs.specs.Runs.{GuideState, RunsState, AreRunning, Fits, guide_at, left_for_deep, left_for_pass, made_by_deep, made_by_pass, pass_begun}
 use Rattle.tree_runs.specs.Holding.{AreOf, IsDeepOver, IsPassOver, IsPassSwapped, LeavesSwapped, StandOver, SwapsPass, is_full, with_pass_run}
+use Rattle.tree_settling.specs.Counting.{CountsQuanta, HasPassed, TakeQuanta}
 use Rattle.tree_settling.specs.Settling.{
   CallsFew,
   merge_calls,
@@ -57,13 +59,28 @@ pub begun_fits : (memory : ℕ) (runs begun : RunsState) (log : LogState) (a : C
 begun_fits memory runs begun log a d is table may =
     subst (λ (r : RunsState). Fits r a.entries) (sym is)
     (subst (λ (t : Contents). Fits (pass_begun memory runs) t.entries) (sym table)
-    (record { live = omega (arith, may.begun.full); made = omega (arith, may.begun.full, may.begun.deep, above_light None log.a.entries) }))
+    (record {
+      live = omega (arith, may.begun.full);
+      made = omega (arith, may.begun.full, may.begun.deep, above_light None log.a.entries);
+      pass = omega (arith, may.begun.mark, may.begun.high, above_light None log.a.entries);
+    }))
 
 -- its run will weigh no more than what it takes
 pub begun_light : (memory : ℕ) (runs begun : RunsState) (a : Entries) → begun ≡ pass_begun memory runs
     → (made_by_pass begun.pass).weight + left_for_pass begun.pass a ≤ entries_weight a + runs.catalogue.c1.weight
 begun_light memory runs begun a is =
     subst (λ (r : RunsState). (made_by_pass r.pass).weight + left_for_pass r.pass a ≤ entries_weight a + runs.catalogue.c1.weight) (sym is) (omega (arith, above_light None a))
+
+-- all of which is left for it
+begun_all : (memory : ℕ) (runs begun : RunsState) (a : Entries) → begun ≡ pass_begun memory runs
+    → entries_weight a + runs.catalogue.c1.weight ≤ left_for_pass begun.pass a
+begun_all memory runs begun a is =
+    subst (λ (r : RunsState). entries_weight a + runs.catalogue.c1.weight ≤ left_for_pass r.pass a) (sym is)
+    (omega (arith, ap entries_weight (above_none a)))
+
+-- and weighs nothing yet
+begun_empty : (memory : ℕ) (runs begun : RunsState) → begun ≡ pass_begun memory runs → (made_by_pass begun.pass).weight ≡ 0
+begun_empty memory runs begun is = ap (λ (r : RunsState). (made_by_pass r.pass).weight) is
 
 -- ---- a pass that is done
 
@@ -92,6 +109,15 @@ next_deep : (sizes : Sizes) (tag : ℕ) (made : Component) (now : Catalog) (deep
     → (made_by_deep (if is_full sizes made then Some (deep_started tag made now.c2) else deep)).weight + left_for_deep (if is_full sizes made then Some (deep_started tag made now.c2) else deep)
     ≤ (with_pass_run sizes made now).c1x.weight + (with_pass_run sizes made now).c2.weight
 next_deep sizes tag made now deep rests = grind (arith, common_steps, nat_tests)
+
+-- C1 is the run, or nothing
+next_first : (sizes : Sizes) (made : Component) (now : Catalog) → (with_pass_run sizes made now).c1.weight ≤ made.weight
+next_first sizes made now = grind (arith, common_steps, nat_tests)
+
+-- a deep merge begins only where the run is as heavy as C1's mark
+next_marks : (sizes : Sizes) (tag : ℕ) (made : Component) (now : Catalog) (deep : Option DeepState) → deep ≡ None
+    → IsTrue (is_some (if is_full sizes made then Some (deep_started tag made now.c2) else deep)) → c1_mark sizes ≤ made.weight
+next_marks sizes tag made now deep rests runs = grind (arith, common_steps, nat_tests)
 
 -- ---- the swap
 
@@ -192,9 +218,24 @@ module _ {done : Bool} {memory : ℕ} {a : Contents} {runs begun mid new : RunsS
   pub next_catalogue : SwapsPass mid new → new.catalogue ≡ with_pass_run mid.sizes (made_by_pass mid.pass) runs.catalogue
   next_catalogue swaps = swaps.catalogue ∙ ap (with_pass_run mid.sizes (made_by_pass mid.pass)) same_catalogue
 
+  -- what the pass had before it
+  made_light : (made_by_pass mid.pass).weight ≤ left_for_pass begun.pass a.entries
+  made_light = omega (arith, swap.goes.pass, swap.none, begun_empty memory runs begun swap.begins)
+
+  left_within : left_for_pass begun.pass a.entries ≤ runs.catalogue.c1.weight + entries_weight log.a.entries
+  left_within = omega (arith, begun_light memory runs begun a.entries swap.begins, ap (λ (t : Contents). entries_weight t.entries) swap.table)
+
   -- its run weighs no more than table A and C1, which give place to it
   pub pass_light : (log' : LogState) → SwapsPass mid new → log' ≡ turned_log log → components_of new.catalogue + weight_of_tables log' ≤ components_of runs.catalogue + weight_of_tables log
-  pass_light log' swaps turned = grind (arith, common_steps, nat_tests, next_weighs, begun_light)
+  pass_light log' swaps turned =
+      omega (
+        arith,
+        ap components_of (next_catalogue swaps),
+        next_weighs mid.sizes (made_by_pass mid.pass) runs.catalogue,
+        ap weight_of_tables turned,
+        made_light,
+        left_within,
+      )
 
   pub pass_may : (log' : LogState) → MaySettle runs log before → SwapsPass mid new
       → ((tree next : Tree) → TurnsRoles tree.catalogue next.catalogue → next.lane_a ≡ tree.lane_b → next.lane_b ≡ [] → IsLogOf tree log → IsLogOf next log')
@@ -224,6 +265,7 @@ module _ {done : Bool} {memory : ℕ} {a : Contents} {runs begun mid new : RunsS
                 ap c1_mark same_sizes,
                 ap c1_mark sizes,
               );
+          high = omega (arith, ap high_mark sizes, ap weight_of_tables turned, may.begun.high);
           full = omega (arith, pass_light log' swaps turned, ap capacity sizes, may.begun.full);
           deep =
               omega (
@@ -236,3 +278,44 @@ module _ {done : Bool} {memory : ℕ} {a : Contents} {runs begun mid new : RunsS
           reserved_b = omega (arith, ap high_mark sizes, ap (λ (l : LogState). l.b.reserved) turned, may.begun.reserved_a);
         };
       }
+
+  left_all : runs.catalogue.c1.weight + entries_weight log.a.entries ≤ left_for_pass begun.pass a.entries
+  left_all = omega (arith, begun_all memory runs begun a.entries swap.begins, ap (λ (t : Contents). entries_weight t.entries) swap.table)
+
+  pub pass_counts : SwapsPass mid new → (quanta : ℕ) → TakeQuanta begun.sizes 1 quanta (left_for_pass begun.pass a.entries)
+      → CountsQuanta 1 (runs.catalogue.c1.weight + entries_weight log.a.entries) (runs.catalogue.c1.weight + entries_weight log.a.entries) runs new
+      quanta
+  pass_counts swaps quanta takes = record {
+    taken = left_for_pass begun.pass a.entries;
+    takes = subst (λ (s : Sizes). TakeQuanta s 1 quanta (left_for_pass begun.pass a.entries)) (ap (λ (r : RunsState). r.sizes) swap.begins) takes;
+    all = left_all;
+    within = left_within;
+    grows =
+        omega (
+          arith,
+          ap components_of (next_catalogue swaps),
+          next_weighs mid.sizes (made_by_pass mid.pass) runs.catalogue,
+          made_light,
+        );
+  }
+
+  pub pass_passed : SwapsPass mid new → HasPassed (runs.catalogue.c1.weight + entries_weight log.a.entries) runs.sizes new
+  pass_passed swaps = record {
+    c1 =
+        omega (
+          arith,
+          ap (λ (k : Catalog). k.c1.weight) (next_catalogue swaps),
+          next_first mid.sizes (made_by_pass mid.pass) runs.catalogue,
+          made_light,
+          left_within,
+        );
+    deep = λ runs_now.
+        omega (
+          arith,
+          next_marks mid.sizes mid.tags.deep (made_by_pass mid.pass) mid.catalogue mid.deep rests_still
+              (subst (λ (o : Option DeepState). IsTrue (is_some o)) swaps.deep runs_now),
+          ap c1_mark same_sizes,
+          made_light,
+          left_within,
+        );
+  }

@@ -108,7 +108,8 @@ settles_run effect step rest = record {
   calm = rest.calm ∙ step.calm;
 }
 
-pub told_run : {result : Result Unit Broken} {old mid new : DiskState} → mid.faults ≡ old.faults → TellsFaultsBy (Err Fault) result mid new → TellsFaultsBy (Err Fault) result old new
+pub told_run : {result : Result ℕ Broken} {old mid new : DiskState} → mid.faults ≡ old.faults → TellsFaultsBy (Err Fault) result mid new
+    → TellsFaultsBy (Err Fault) result old new
 told_run {new = new} calm told = record {
   stands = λ other. told.stands other ∙ calm;
   failed = λ fault. subst (λ (n : ℕ). HasRisen n new.faults) calm (told.failed fault);
@@ -117,15 +118,22 @@ told_run {new = new} calm told = record {
 -- ---- what a step tells
 
 -- it is done
-pub step_done : {most : ℕ} {runs runs' : RunsState} {log log' : LogState} {old new : DiskState} → LeavesMaps
+pub step_done : {most : ℕ} (n : ℕ) {runs runs' : RunsState} {log log' : LogState} {old new : DiskState} → LeavesMaps
     (most * merge_calls runs.sizes (settling_weight runs log)) runs log old new → SettlesOn runs runs' log log' old new
-    → runs'.catalogue.version ≤ runs.catalogue.version + most → Settles most runs runs' log log' (Ok tt) old new
-step_done {old = old} {new} leaves on version = record { leaves = leaves; on = on; ends = λ pairs honest shows other. refl; version = version; faults = well_told old new on.calm }
+    → runs'.catalogue.version ≤ runs.catalogue.version + most → Settles most runs runs' log log' (Ok n) old new
+step_done n {old = old} {new} leaves on version = record {
+  leaves = leaves;
+  on = on;
+  ends = λ pairs honest shows other. refl;
+  version = version;
+  faults = well_told n old new on.calm;
+}
 
 -- nothing was due
-pub step_none : {most : ℕ} {runs : RunsState} {log : LogState} {d : DiskState} → IsTimed d → MaySettle runs log d → Settles most runs runs log log (Ok tt) d d
+pub step_none : {most : ℕ} {runs : RunsState} {log : LogState} {d : DiskState} → IsTimed d → MaySettle runs log d
+    → Settles most runs runs log log (Ok 0) d d
 step_none {runs = runs} {d = d} timed may =
-    step_done
+    step_done 0
     (record {
       keeps = λ pairs honest shows.
           let stands = shows.over.stands in
@@ -135,7 +143,8 @@ step_none {runs = runs} {d = d} timed may =
     (record { shows = λ pairs honest shows. shows; may = may; light = omega arith; sizes = refl; calm = refl }) (omega arith)
 
 -- a fault of the disk ended it, behind calls that went well
-pub step_faulted : {most : ℕ} {runs runs' : RunsState} {log log' : LogState} {result : Result Unit Broken} {old new : DiskState} (mid : DiskState) → mid.faults ≡ old.faults
+pub step_faulted : {most : ℕ} {runs runs' : RunsState} {log log' : LogState} {result : Result ℕ Broken} {old new : DiskState} (mid : DiskState)
+    → mid.faults ≡ old.faults
     → IsErrAnd result (λ (x : Broken). x ≡ Fault) → HasRisen mid.faults new.faults → LeavesMaps
     (most * merge_calls runs.sizes (settling_weight runs log)) runs log old new → Settles most runs runs' log log' result old new
 step_faulted mid calm failed rises leaves = record {
@@ -148,7 +157,7 @@ step_faulted mid calm failed rises leaves = record {
 
 -- its merge failed, which began over the trees of these components
 pub step_untaken : {a : Contents} {weight : ℕ} {runs begun mid runs' : RunsState} {log log' : LogState} {e : Broken}
-    {result inner : Result Unit Broken} {old new : DiskState} → inner ≡ Err e
+    {result inner : Result ℕ Broken} {old new : DiskState} → inner ≡ Err e
     → IsErrAnd result (λ (x : Broken). x ≡ e) → a ≡ log.a → begun.sizes ≡ runs.sizes → ((tree : Tree) → StandOver runs tree a.entries old → StandOver begun tree a.entries old)
     → TakesAll a.entries weight begun mid inner old new → weight ≤ settling_weight runs log → Settles 1 runs runs' log log' result old new
 step_untaken {a} {weight} {runs} {begun} {log = log} {old = old} {new} was failed table same begins takes light = record {
@@ -169,7 +178,8 @@ step_untaken {a} {weight} {runs} {begun} {log = log} {old = old} {new} was faile
     over pairs shows = begins shows.tree (subst (λ (t : Contents). StandOver runs shows.tree t.entries old) (sym table) shows.over)
 
 -- what is handed on of one that failed
-pub step_failed : {n : ℕ} (more : ℕ) {runs runs' : RunsState} {log log' : LogState} {e : Broken} {result inner : Result Unit Broken} {old new : DiskState} → inner ≡ Err e
+pub step_failed : {n : ℕ} (more : ℕ) {runs runs' : RunsState} {log log' : LogState} {e : Broken} {result inner : Result ℕ Broken}
+    {old new : DiskState} → inner ≡ Err e
     → IsErrAnd result (λ (x : Broken). x ≡ e) → Settles n runs runs' log log' inner old new → Settles (n + more) runs runs' log log' result old new
 step_failed {n} more {runs} {log = log} was failed step = record {
   leaves = record {
@@ -184,7 +194,8 @@ step_failed {n} more {runs} {log = log} was failed step = record {
 }
 
 -- and of one behind another that was done
-pub step_then : {n m : ℕ} {old mid new : RunsState} {log log' log'' : LogState} {result : Result Unit Broken} {before d after : DiskState} → IsTimed d → Settles n old mid log log' (Ok tt) before d
+pub step_then : {n m : ℕ} {old mid new : RunsState} {log log' log'' : LogState} {result : Result ℕ Broken} {took : ℕ} {before d after : DiskState}
+    → IsTimed d → Settles n old mid log log' (Ok took) before d
     → Settles m mid new log' log'' result d after → Settles (n + m) old new log log'' result before after
 step_then {n} {m} {old} {result = result} timed one two = record {
   leaves = leaves_run n m timed one.leaves one.on two.leaves;
@@ -193,3 +204,9 @@ step_then {n} {m} {old} {result = result} timed one two = record {
   version = on_ok_weaker result (λ more. omega (arith, more, one.version)) two.version;
   faults = told_run one.on.calm two.faults;
 }
+
+-- whatever it counts
+pub step_counts : {most : ℕ} {runs runs' : RunsState} {log log' : LogState} {old new : DiskState} {n : ℕ} (other : ℕ)
+    → Settles most runs runs' log log' (Ok n) old new
+    → Settles most runs runs' log log' (Ok other) old new
+step_counts other step = step_done other step.leaves step.on step.version

@@ -10,6 +10,7 @@ use Rattle.disk_trait.proofs.EffectLemmas.{affects_counted, affects_start, affec
 use Rattle.disk_trait.specs.Moments.{IsTimed, LeavesOnly}
 use Rattle.disk_trait.proofs.MomentLemmas.{leaves_only_start, leaves_only_run}
 use Rattle.disk_trait.specs.Region.{Region}
+use Rattle.blsm_model.specs.Format.{most_weight}
 use Rattle.blsm_model.specs.Sizes.{QuantumFits, Sizes}
 use Rattle.blsm_model.specs.Geometry.{file_length}
 use Rattle.record_delta.specs.Entries.{Entries}
@@ -33,6 +34,13 @@ deep_took old new least n h1 = grind (arith, common_steps, nat_tests)
 pub pass_took : (old new : Option SnowState) (a : Entries) (least n : ℕ) → PassTakes least old new a n
     → ((made_by_pass new).weight + left_for_pass new a ≤ (made_by_pass old).weight + left_for_pass old a) × (n + left_for_pass new a ≡ left_for_pass old a) × ((least ≤ n) ⊎ (left_for_pass new a ≡ 0))
 pass_took old new a least n h1 = grind (arith, common_steps, nat_tests)
+
+-- no more than one takes
+pub deep_bound : (old new : Option DeepState) (least n : ℕ) → DeepTakes least old new n → n + 1 ≤ least + 2 * most_weight
+deep_bound old new least n h1 = grind (arith, common_steps, nat_tests)
+
+pub pass_bound : (old new : Option SnowState) (a : Entries) (least n : ℕ) → PassTakes least old new a n → n + 1 ≤ least + 2 * most_weight
+pass_bound old new a least n h1 = grind (arith, common_steps, nat_tests)
 
 -- so less is left than there was
 pub less_left : (left old least n : ℕ) → 1 ≤ least → old ≢ 0 → n + left ≡ old → (least ≤ n) ⊎ (left ≡ 0) → left < old
@@ -128,20 +136,20 @@ more {most} {n} {after = after} timed so_far told sizes catalogue pass deep = re
 }
 
 -- all was taken
-pub took_all : {a : Entries} {old mid : RunsState} {before d : DiskState} (weight first left : ℕ) → MergesGoOn a old mid before d → CallsSoFar
+pub took_all : {a : Entries} {old mid : RunsState} {before d : DiskState} (quanta weight first left : ℕ) → MergesGoOn a old mid before d → CallsSoFar
     old.sizes first left before d → first ≤ weight
-    → TakesAll a weight old mid (Ok tt) before d
-took_all {old = old} {before = before} {d} weight first left so_far calls within = record {
+    → TakesAll a weight old mid (Ok quanta) before d
+took_all {old = old} {before = before} {d} quanta weight first left so_far calls within = record {
   keeps = λ tree honest over. (subst (λ (s : Sizes). StandsOn s tree d) so_far.sizes (so_far.stands tree honest over).stands, so_far.leaves tree honest over);
   ends = λ tree honest over other. refl;
   goes_on = so_far;
   effect = affects_counted (calls_done old.sizes weight first left before d calls within) so_far.effect;
-  faults = well_told before d so_far.calm;
+  faults = well_told quanta before d so_far.calm;
 }
 
 -- a quantum failed
 pub took_less : {most : ℕ} {took : Tree → ℕ → Type 0} {is_damage : ℕ → List ℕ → Type 0} {a : Entries} {old mid new : RunsState} {before d after : DiskState} {e : Broken} {inner : Result ℕ Broken}
-    {result : Result Unit Broken} (weight first left : ℕ) → IsTimed d → MergesGoOn a old mid before d → CallsSoFar old.sizes first left before d →
+    {result : Result ℕ Broken} (weight first left : ℕ) → IsTimed d → MergesGoOn a old mid before d → CallsSoFar old.sizes first left before d →
     left ≢ 0 → first ≤ weight → QuantumFits old.sizes
     → TellsQuantum a a most took is_damage mid new inner d after → most ≤ mid.sizes.quantum / 4 + 3 → inner ≡ Err e → IsErrAnd result
     (λ (x : Broken). x ≡ e) → TakesAll a weight old new result before after

@@ -1,5 +1,5 @@
 -- What settling a tree takes, keeps and reaches. Weights are in bytes.
-use Rattle.std.specs.Prelude.{◌≡◌, ◌≢◌, ⊤, ℕ, ◌+◌, ◌*◌, ◌/◌, ◌<◌, ◌≤◌, [], List, None, Result, Ok, Err, IsTrue, OnOk, length}
+use Rattle.std.specs.Prelude.{◌≡◌, ◌≢◌, ⊤, ℕ, ◌+◌, ◌*◌, ◌/◌, ◌<◌, ◌≤◌, [], List, None, Result, Err, IsOk, IsTrue, OnOk, length}
 use Rattle.disk_trait.specs.Disk.{DiskState, TellsFaultsBy}
 use Rattle.disk_trait.specs.Effects.{Affects}
 use Rattle.disk_trait.specs.Moments.{LeavesOnly}
@@ -77,9 +77,9 @@ pub record MergesGoOn (a : Entries) (old new : RunsState) (before after : DiskSt
   pub calm : after.faults ≡ before.faults
 
 -- What going on with a merge tells until it has taken all of so many bytes: over each tree that stood, which stands whatever is answered.
-pub record TakesAll (a : Entries) (weight : ℕ) (runs runs' : RunsState) (result : Result Unit Broken) (old new : DiskState) : Type 0 where
+pub record TakesAll (a : Entries) (weight : ℕ) (runs runs' : RunsState) (result : Result ℕ Broken) (old new : DiskState) : Type 0 where
   pub keeps : (tree : Tree) → IsTrue old.is_honest → StandOver runs tree a old → StandsOn runs.sizes tree new × LeavesOnly old new (HoldsTree runs.sizes tree)
-  pub ends : (tree : Tree) → IsTrue old.is_honest → StandOver runs tree a old → result ≢ Err Fault → result ≡ Ok tt
+  pub ends : (tree : Tree) → IsTrue old.is_honest → StandOver runs tree a old → result ≢ Err Fault → IsOk result
   pub goes_on : OnOk result (MergesGoOn a runs runs' old new)
   pub effect : Affects anywhere (file_length runs.sizes) (taking_calls runs.sizes weight) old new
   pub faults : TellsFaultsBy (Err Fault) result old new
@@ -90,8 +90,8 @@ pub record TakesAll (a : Entries) (weight : ℕ) (runs runs' : RunsState) (resul
 abbrev pub IsDeepLight : RunsState → Type 0
 IsDeepLight runs = due_to_deep runs ≤ runs.catalogue.c1x.weight + runs.catalogue.c2.weight
 
--- On any disk: components and a log that were read, or are being settled; no pass runs. C1 is below its mark, all is within the capacity, and the
--- tables are what some lanes replay to, behind which they end.
+-- On any disk: components and a log that were read, or are being settled; no pass runs. C1 is below its mark, the tables are within the high mark
+-- and all is within the capacity. The tables are what some lanes replay to, behind which they end.
 pub record HasBegun (runs : RunsState) (log : LogState) : Type 0 where
   pub pass : runs.pass ≡ None
   pub roles : AreRoles runs.catalogue.lanes
@@ -100,6 +100,7 @@ pub record HasBegun (runs : RunsState) (log : LogState) : Type 0 where
   pub lanes_are : lanes.catalogue ≡ runs.catalogue
   pub log_of : IsLogOf lanes log
   pub mark : runs.catalogue.c1.weight < c1_mark runs.sizes
+  pub high : weight_of_tables log ≤ high_mark runs.sizes
   pub full : components_of runs.catalogue + weight_of_tables log ≤ capacity runs.sizes
   pub deep : IsDeepLight runs
   pub reserved_a : high_mark runs.sizes ≤ log.a.reserved
@@ -139,10 +140,10 @@ pub record SettlesOn (runs runs' : RunsState) (log log' : LogState) (old new : D
 
 -- What a step of settling tells, which takes so many merges and commits at most: what it leaves, whatever it answers; what it reaches; and that on an
 -- honest disk which shows a map nothing but a fault of the disk keeps it from being done.
-pub record Settles (most : ℕ) (runs runs' : RunsState) (log log' : LogState) (result : Result Unit Broken) (old new : DiskState) : Type 0 where
+pub record Settles (most : ℕ) (runs runs' : RunsState) (log log' : LogState) (result : Result ℕ Broken) (old new : DiskState) : Type 0 where
   pub leaves : LeavesMaps (most * merge_calls runs.sizes (settling_weight runs log)) runs log old new
   pub on : OnOk result (SettlesOn runs runs' log log' old new)
-  pub ends : (pairs : List (Key × Value)) → IsTrue old.is_honest → ShowsMap runs log pairs old → result ≢ Err Fault → result ≡ Ok tt
+  pub ends : (pairs : List (Key × Value)) → IsTrue old.is_honest → ShowsMap runs log pairs old → result ≢ Err Fault → IsOk result
   pub version : OnOk result (runs'.catalogue.version ≤ runs.catalogue.version + most)
   pub faults : TellsFaultsBy (Err Fault) result old new
 

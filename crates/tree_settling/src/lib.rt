@@ -7,4 +7,4 @@ mod settling;
 mod taking;
 
 pub use laws::an_opening_has_all_before_it;
-pub use settling::settle;
+pub use settling::{most_quanta, settle};

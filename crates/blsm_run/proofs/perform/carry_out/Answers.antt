@@ -28,11 +28,44 @@ returns-in_err-check_on_shelf-in-Check-clause-cause g c = λ words accepted aske
     let state = g.H.D.Disk.state in
     let o = outside words (g.S.Source.state c.args.source.now) (g.S.Source.state c.args.source.now) (g.H.Shelf.state c.args.shelf.now) (g.H.Shelf.state c.check_on_shelf.new.shelf) in
     passed_on state o c.from_residual-in_err-check_on_shelf-in-Check.result (refusal_of_store c.in_err-check_on_shelf-in-Check.field-0.0) c.from_residual-in_err-check_on_shelf-in-Check.ensures.1
-    (stopped state o c.in_err-check_on_shelf-in-Check.field-0.0 (inr (inr (record { name = c.in-Check.name.now; asked = (accepted, rw c.in-Check.is at asked); unread = refl; checks = c.in_err-check_on_shelf-in-Check.ensures }))))
+    (stopped state o c.in_err-check_on_shelf-in-Check.field-0.0 (inr (inr
+    (inl (record {
+      name = c.in-Check.name.now;
+      asked = (accepted, rw c.in-Check.is at asked);
+      unread = refl;
+      checks
+          = c.in_err-check_on_shelf-in-Check.ensures;
+    })))))
 
 pub returns-in_ok-check_on_shelf-in-Check-clause-cause : goal.returns-in_ok-check_on_shelf-in-Check-clause-cause
 returns-in_ok-check_on_shelf-in-Check-clause-cause g c = λ words accepted asked.
     record { name = c.in-Check.name.now; asked = (accepted, rw c.in-Check.is at asked); unread = refl; checks = c.in_ok-check_on_shelf-in-Check.ensures }
+
+pub returns-in_err-settle_on_shelf-in-Settle-clause-cause : goal.returns-in_err-settle_on_shelf-in-Settle-clause-cause
+returns-in_err-settle_on_shelf-in-Settle-clause-cause g c = λ words accepted asked.
+    let state = g.H.D.Disk.state in
+    let o = outside words (g.S.Source.state c.args.source.now) (g.S.Source.state c.args.source.now) (g.H.Shelf.state c.args.shelf.now)
+    (g.H.Shelf.state c.settle_on_shelf.new.shelf) in
+    passed_on state o c.from_residual-in_err-settle_on_shelf-in-Settle.result (refusal_of_store c.in_err-settle_on_shelf-in-Settle.field-0.0)
+    c.from_residual-in_err-settle_on_shelf-in-Settle.ensures.1
+    (stopped state o c.in_err-settle_on_shelf-in-Settle.field-0.0 (inr (inr
+    (inr (record {
+      name = c.in-Settle.name.now;
+      asked = (accepted, rw c.in-Settle.is at asked);
+      unread = refl;
+      settles
+          = c.in_err-settle_on_shelf-in-Settle.ensures;
+    })))))
+
+pub returns-in_ok-settle_on_shelf-in-Settle-clause-cause : goal.returns-in_ok-settle_on_shelf-in-Settle-clause-cause
+returns-in_ok-settle_on_shelf-in-Settle-clause-cause g c = λ words accepted asked.
+    record {
+      name = c.in-Settle.name.now;
+      asked = (accepted, rw c.in-Settle.is at asked);
+      unread = refl;
+      settles
+          = c.in_ok-settle_on_shelf-in-Settle.ensures;
+    }
 
 pub try_seed-requires : goal.try_seed-requires
 try_seed-requires g c = (rw c.in-Trial.is at c.requires.range).2
@@ -71,6 +104,11 @@ returns-in-Run-clause-told g c = c.run.ensures.told (g.K.Sink.state c.args.sink.
 pub returns-in_err-check_on_shelf-in-Check-clause-told : goal.returns-in_err-check_on_shelf-in-Check-clause-told
 returns-in_err-check_on_shelf-in-Check-clause-told g c =
     not_told c.from_residual-in_err-check_on_shelf-in-Check.result (refusal_of_store c.in_err-check_on_shelf-in-Check.field-0.0) (g.K.Sink.state c.args.sink.now) c.from_residual-in_err-check_on_shelf-in-Check.ensures.1
+
+pub returns-in_err-settle_on_shelf-in-Settle-clause-told : goal.returns-in_err-settle_on_shelf-in-Settle-clause-told
+returns-in_err-settle_on_shelf-in-Settle-clause-told g c =
+    not_told c.from_residual-in_err-settle_on_shelf-in-Settle.result (refusal_of_store c.in_err-settle_on_shelf-in-Settle.field-0.0)
+    (g.K.Sink.state c.args.sink.now) c.from_residual-in_err-settle_on_shelf-in-Settle.ensures.1
 
 pub returns-in_err-try_seed-in-Trial-clause-told : goal.returns-in_err-try_seed-in-Trial-clause-told
 returns-in_err-try_seed-in-Trial-clause-told g c =

@@ -10,7 +10,7 @@ use Rattle.run_writer.proofs.ClosedLemmas.{closed_pushed, text_more}
 use Rattle.run_writer.proofs.GrowthLemmas.{next_above, room_for_more}
 use Rattle.run_writer.proofs.RegionLemmas.{open_inside, open_tagged}
 use Rattle.merge_ends.specs.Output.{entry_of, has_turned, kept}
-use Rattle.merge_ends.proofs.OutputLemmas.{closed_none, closed_put, fence_for_one, not_kept, opens_put, room_for_one, room_put, same_kept, takes_put, text_put}
+use Rattle.merge_ends.proofs.OutputLemmas.{begun_put, closed_none, closed_put, fence_for_one, not_kept, opens_put, room_for_one, room_put, same_kept, takes_put, text_put}
 use Rattle.merge_ends.proofs.WorkLemmas.{room_less}
 use Rattle.merge_ends.proofs.output.put.Goals as goal
 use Rattle.merge_ends.proofs.output.put.Goals.{In-Some, In_default}
@@ -41,12 +41,12 @@ push-requires-clause-room g c = λ none.
     (room_for_more c.args.geo.now d.is_honest d.bytes c.args.space.now c.args.writer.now c.args.filter.now c.args.fences.now c.requires.run.0 c.requires.run.1 c.pages-pages.ensures.shape free)
 
 pub push-requires-clause-fence : goal.push-requires-clause-fence
-push-requires-clause-fence g c = λ none.
+push-requires-clause-fence g c = λ begins.
     let d = g.D.Disk.state c.args.disk.now in
     let one = c.requires.run.1.one_a_page in
     let above =
     next_above c.args.geo.now d.is_honest d.bytes c.args.space.now c.args.writer.now c.args.filter.now c.args.fences.now c.requires.run.0 c.args.key.now c.in-Some.rec.now c.requires.run.1 (c.requires.run.2 c.in-Some.rec.now) in (
-      fence_for_one c.args.writer.now (weight c.args.key.now c.in-Some.rec.now) c.args.fences.now.reserved (length c.args.fences.now.list) c.requires.run.1.counted (omega arith) none
+      fence_for_one c.args.writer.now (weight c.args.key.now c.in-Some.rec.now) c.args.fences.now.reserved (length c.args.fences.now.list) c.requires.run.1.counted (omega arith) begins
           (omega (arith, c.requires.fences, is_light g (goal.at.push-requires-clause-fence g c).In-Some c.args.key.now)) one,
       above,
     )
@@ -95,6 +95,13 @@ returns-clause-opens g c =
 
 pub returns-in_default-clause-closed : goal.returns-in_default-clause-closed
 returns-in_default-clause-closed g c = λ out has. closed_none c.args.writer.now out _ (none_kept g (goal.at.returns-in_default-clause-closed g c).In_default c.args.key.now)
+
+pub returns-clause-begun : goal.returns-clause-begun
+returns-clause-begun g c = λ begun.
+    let key = c.args.key.now in
+    let rec = c.in-Some.rec.now in
+    begun_put (has_place c.args.writer.now (weight key rec)) c.push.result c.args.space.now c.push.new.space c.args.writer.now c.push.new.self key rec
+    (λ place. let h = c.push.ensures.here place in (h.1, h.3)) c.push.ensures.claimed text_more
 
 pub returns-in_default-clause-here : goal.returns-in_default-clause-here
 returns-in_default-clause-here g c = λ plain. absurd (not_kept c.args.settles c.args.key.now c.args.rec.now plain (none_kept g (goal.at.returns-in_default-clause-here g c).In_default c.args.key.now))

@@ -15,4 +15,7 @@ returns c =
     let third : IfOk c.with_command-with_check.result (λ new. app_of new ≡ of_check) = c.with_command-with_check.ensures of_run (on_file_app (codes "check")) second c.on_file.ensures in
     let of_trial : App = with_subcommand of_check trial_command.top in
     let fourth : IfOk c.with_command-with_trial.result (λ new. app_of new ≡ of_trial) = c.with_command-with_trial.ensures of_check trial_command third c.trial.ensures in
-    c.with_command.ensures of_trial serve_command fourth c.serve.ensures
+    let of_serve : App = with_subcommand of_trial serve_command.top in
+    let fifth : IfOk c.with_command-with_serve.result (λ new. app_of new ≡ of_serve) = c.with_command-with_serve.ensures of_trial serve_command
+    fourth c.serve.ensures in
+    c.with_command.ensures of_serve (on_file_app (codes "settle")) fifth c.on_file-2.ensures

@@ -1,4 +1,5 @@
-use Rattle.std.proofs.Common.{refl}
+use Rattle.std.proofs.Common.{ap, refl}
+use Rattle.catalog_swap.specs.declared.catalog.Catalog.{Catalog}
 use Rattle.recover_open.proofs.beginning.settle_begun.Goals as goal
 
 pub returns-in-Err-Damaged-clause-why : goal.returns-in-Err-Damaged-clause-why
@@ -14,3 +15,6 @@ returns-in-Err-Damaged-clause-faults g c = record { stands = λ other. c.settle.
 
 pub returns-clause-faults : goal.returns-clause-faults
 returns-clause-faults g c = record { stands = λ other. absurd (other refl); failed = λ same. c.settle.ensures.step.faults.failed cc }
+
+pub returns-in-Ok-clause-counts : goal.returns-in-Ok-clause-counts
+returns-in-Ok-clause-counts g c = (c.in-Ok.ensures.counts, refl, ap (λ (k : Catalog). k.version) c.catalogue.ensures)

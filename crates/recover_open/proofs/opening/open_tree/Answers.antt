@@ -1,12 +1,13 @@
-use Rattle.std.proofs.Common.{◌≤◌, sym, subst, IsTrue, List, ℕ}
-use Rattle.std.specs.Prelude.{IfErr, IfOk}
+use Rattle.std.proofs.Common.{◌≤◌, ap, sym, subst, IsTrue, List, Some, ℕ}
+use Rattle.std.specs.Prelude.{IfErr, IfOk, Result, Ok, Err}
 use Rattle.blsm_model.specs.Geometry.{capacity}
 use Rattle.tree_settling.proofs.LightLemmas.{all_before_it}
 use Rattle.recover_open.proofs.BeginLemmas.{found_full}
 use Rattle.tree_file.proofs.OneTree.{one_map, one_size}
 use Rattle.tree_reading.specs.Reading.{HoldsFound, IsWhy}
 use Rattle.tree_settling.specs.Settling.{CallsFew}
-use Rattle.recover_open.specs.Opening.{StandsEmpty, TellsSettled, most_opening_calls, weight_found}
+use Rattle.recover_open.specs.Opening.{HasOpenedOn, StandsEmpty, TellsSettled, most_opening_calls, weight_found}
+use Rattle.recover_open.proofs.CountLemmas.{counted_as}
 use Rattle.recover_open.proofs.TreeLemmas.{
   found_reads,
   long_as,
@@ -33,6 +34,34 @@ returns-in_err-found-clause-keeps g c = λ sizes pairs honest reads.
 pub returns-in_err-found-clause-spares : goal.returns-in_err-found-clause-spares
 returns-in_err-found-clause-spares g c = λ honest. spares_all c.from_residual.result (c.read_synced.ensures.kept honest)
 
+-- ---- there is no memory for the history
+
+pub returns-in_default-clause-keeps : goal.returns-in_default-clause-keeps
+returns-in_default-clause-keeps g c = λ sizes pairs honest reads.
+    let r = c.read_synced.ensures in
+    keeps_read sizes pairs reads (r.same honest) (r.kept honest) (r.synced honest)
+
+pub returns-in_default-clause-spares : goal.returns-in_default-clause-spares
+returns-in_default-clause-spares g c = λ honest calm. c.read_synced.ensures.kept honest
+
+pub returns-in_default-clause-untouched : goal.returns-in_default-clause-untouched
+returns-in_default-clause-untouched g c = λ honest none. c.read_synced.ensures.kept honest
+
+pub returns-in_default-clause-faults : goal.returns-in_default-clause-faults
+returns-in_default-clause-faults g c = record {
+  stands = λ other. c.in_ok-found.ensures.faults.stands (λ wrong. absurd cc);
+  failed = λ wrong. absurd cc;
+}
+
+-- ---- it is settled
+
+whatever : {A E P : Type 0} (result : Result A E) → P → IfOk result (λ done. P)
+whatever (Ok done) holds = holds
+whatever (Err why) holds = tt
+
+pub returns-clause-history : goal.returns-clause-history
+returns-clause-history g c = whatever c.settle_found.result (ap Some c.in-Ok.ensures)
+
 pub settle_found-requires-clause-length : goal.settle_found-requires-clause-length
 settle_found-requires-clause-length g c = λ tells.
     c.in_ok-found.ensures.length (subst IsTrue c.read_synced.ensures.effect.effect.goes_on.tells_bytes tells)
@@ -54,14 +83,20 @@ told g c honest holds = c.settle_found.ensures.tells (subst IsTrue (sym c.read_s
 still : (g : _) (c : goal.After-settle_found g) → IsTrue (g.D.Disk.state c.args.disk.now).is_honest → HoldsFound c.in_ok-found.found (g.D.Disk.state c.read_synced.new.disk).bytes
 still g c honest = subst (HoldsFound c.in_ok-found.found) (sym (c.read_synced.ensures.same honest)) (c.in_ok-found.ensures.holds honest)
 
-pub returns-clause-stands : goal.returns-clause-stands
-returns-clause-stands g c = λ honest.
+stands : (g : _) (c : goal.After-settle_found g) → IsTrue (g.D.Disk.state c.args.disk.now).is_honest
+    → IfOk c.settle_found.result (λ begun. HasOpenedOn begun.runs begun.log (g.D.Disk.state c.args.disk.now).bytes
+    (g.D.Disk.state c.settle_found.new.disk))
+stands g c = λ honest.
     let f = c.in_ok-found.found in
     let holds = c.in_ok-found.ensures.holds honest in
-    let stands =
+    let over =
     subst (λ (file : List ℕ). (holds : HoldsFound f file) → IfOk c.settle_found.result (λ begun. StandsEmpty begun.runs begun.log holds.tree (g.D.Disk.state c.settle_found.new.disk)))
     (c.read_synced.ensures.same honest) (λ now. (told g c honest now).stands) in
-    stands_as c.settle_found.result f f.catalogue.version _ _ holds c.in_ok-found.ensures.found.2.head.version c.settle_found.ensures.ready (stands holds)
+    stands_as c.settle_found.result f f.catalogue.version _ _ holds c.in_ok-found.ensures.found.2.head.version c.settle_found.ensures.ready
+    (over holds)
+
+pub returns-clause-stands : goal.returns-clause-stands
+returns-clause-stands g c = stands g c
 
 pub returns-clause-refused : goal.returns-clause-refused
 returns-clause-refused g c = λ honest.
@@ -103,6 +138,13 @@ returns-clause-takes g c =
     c.in_ok-found.ensures.few c.settle_found.ensures.effect.calls
     (called g c) (full g c) c.in_ok-found.ensures.found.2.head (λ honest. c.in_ok-found.ensures.holds honest))
     c.settle_found.ensures.ready
+
+pub returns-clause-counts : goal.returns-clause-counts
+returns-clause-counts g c =
+    let f = c.in_ok-found.found in
+    counted_as c.settle_found.result f f.catalogue.version (g.D.Disk.state c.args.disk.now) (g.D.Disk.state c.settle_found.new.disk)
+    c.in_ok-found.ensures.found.2.head (λ honest. c.in_ok-found.ensures.holds honest) c.settle_found.ensures.counts c.settle_found.ensures.ready
+    (stands g c)
 
 pub returns-clause-effect : goal.returns-clause-effect
 returns-clause-effect g c =

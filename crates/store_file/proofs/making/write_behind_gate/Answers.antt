@@ -17,7 +17,7 @@ placed g c =
     let end = c.length.ensures in
     let zeroed : Affects (span 1 (file_length c.args.geometry.now - 1)) (file_length c.args.geometry.now) ((file_length c.args.geometry.now - 1) / 4096) (g.D.Disk.state c.args.disk.now) (g.D.Disk.state c.write_zeros.new.disk) =
     affects_wider (λ i here. (omega (arith, here.0), omega (arith, here.0, here.1, end))) (omega (arith, end)) (omega (arith, end)) c.write_zeros.ensures.effect in
-    affects_write_more 512 84 (g.met.D.Disk.timed c.write_zeros.new.disk) c.in_ok-write_zeros.ensures.faults zeroed c.write.ensures.passes c.write.ensures.no_sync c.write.ensures.within c.write.ensures.sure
+    affects_write_more 512 85 (g.met.D.Disk.timed c.write_zeros.new.disk) c.in_ok-write_zeros.ensures.faults zeroed c.write.ensures.passes c.write.ensures.no_sync c.write.ensures.within c.write.ensures.sure
     (λ i here. (omega (arith, here.0), omega (arith, here.1, least))) (omega (arith, least)) (omega arith)
 
 written : (g : _) (c : After-write-2 g)

@@ -1,5 +1,5 @@
 use Rattle.std.specs.Prelude.{true}
-use Rattle.std.proofs.Common.{◌≡◌, ◌∙◌, ap, arith, refl, sym}
+use Rattle.std.proofs.Common.{◌≡◌, ◌∙◌, inr, ap, arith, refl, sym}
 use Rattle.std.proofs.lemmas.Bool.{false≢true}
 use Rattle.disk_trait.proofs.EffectLemmas.{affects_wider}
 use Rattle.tree_core.specs.Causes.{is_deep_due, one_where}
@@ -11,6 +11,9 @@ pub returns-then-is_deep_done-clause-lists : goal.returns-then-is_deep_done-clau
 returns-then-is_deep_done-clause-lists g c = λ tree honest over.
     let made = c.swap_deep.ensures.lists tree honest over in
     (made.0, record { done = λ yes. made.1; rests = λ never. absurd (never (c.is_deep_done.ensures.0 c.if-is_deep_done.true)) }, made.2)
+
+pub returns-else-is_deep_done-clause-settles : goal.returns-else-is_deep_done-clause-settles
+returns-else-is_deep_done-clause-settles g c = inr (λ yes. false≢true (sym c.if-is_deep_done.false ∙ c.is_deep_done.ensures.1 yes), refl)
 
 pub returns-else-is_deep_done-clause-lists : goal.returns-else-is_deep_done-clause-lists
 returns-else-is_deep_done-clause-lists g c = λ tree honest over. (

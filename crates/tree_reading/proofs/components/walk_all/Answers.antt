@@ -4,12 +4,14 @@ use Rattle.page_file.specs.Component.{numbers_of}
 use Rattle.tree_runs.proofs.ClaimLemmas.{taken_are_read}
 use Rattle.tree_reading.specs.Damage.{in_c1, in_c1x, in_c2}
 use Rattle.tree_reading.specs.Walk.{IsWalked}
-use Rattle.tree_reading.proofs.ComponentsLemmas.{damaged_in, none_in_second, none_in_third, tagged_of, taken_as, taken_from, tells_run, walked_in}
+use Rattle.tree_reading.proofs.ComponentsLemmas.{damaged_in, empty_without_pages, none_in_second, none_in_third, tagged_of, taken_as, taken_from, tells_run, walked_in}
 use Rattle.tree_reading.proofs.CallsLemmas.{reads_as, reads_then, still, still_then}
 use Rattle.tree_reading.proofs.FaultLemmas.{handed_on}
 use Rattle.tree_reading.proofs.MapLemmas.{no_role_yet, takes_none}
 use Rattle.page_file.specs.Component.{ReadsAs}
-use Rattle.tree_reading.proofs.NoteLemmas.{guide_after, guide_named, rooms_kept}
+use Rattle.tree_runs.specs.Runs.{IsReserved, guide_at}
+use Rattle.tree_runs.proofs.GuideLemmas.{reserved_still}
+use Rattle.tree_reading.proofs.NoteLemmas.{guide_after, guide_named, room_kept, room_then, same_room}
 use Rattle.tree_reading.proofs.components.walk_all.Goals as goal
 use Rattle.tree_reading.proofs.components.walk_all.Goals.{After-new-2, After-new-3}
 
@@ -117,52 +119,35 @@ walk-requires-3-clause-none g c = λ k.
     none_in_third (page_count c.args.head.now.geometry) c.new-3.result k c.args.space.now c.walk.new.space c.walk-2.new.space c.requires.unused c.in_ok-walk.ensures.taken c.in_ok-walk-2.ensures.taken
     (λ same. omega (arith, same, c.new.ensures, c.new-3.ensures)) (λ same. omega (arith, same, c.new-2.ensures, c.new-3.ensures))
 
+-- ---- a component without pages is empty
+
+pub walk-requires-clause-empty : goal.walk-requires-clause-empty
+walk-requires-clause-empty g c = empty_without_pages (page_count c.args.head.now.geometry) c.args.head.now.catalogue.c1 c.requires.right.valid.c1
+
+pub walk-requires-2-clause-empty : goal.walk-requires-2-clause-empty
+walk-requires-2-clause-empty g c = empty_without_pages (page_count c.args.head.now.geometry) c.args.head.now.catalogue.c1x c.requires.right.valid.c1x
+
+pub walk-requires-3-clause-empty : goal.walk-requires-3-clause-empty
+walk-requires-3-clause-empty g c = empty_without_pages (page_count c.args.head.now.geometry) c.args.head.now.catalogue.c2 c.requires.right.valid.c2
+
 -- ---- filters and fences
 
-pub walk-requires-clause-light : goal.walk-requires-clause-light
-walk-requires-clause-light g c = omega (arith, c.requires.right.fits.full)
-
-pub walk-requires-2-clause-light : goal.walk-requires-2-clause-light
-walk-requires-2-clause-light g c = omega (arith, c.requires.right.fits.full)
-
-pub walk-requires-3-clause-light : goal.walk-requires-3-clause-light
-walk-requires-3-clause-light g c = omega (arith, c.requires.right.fits.full)
+pub walk-requires-clause-rooms : goal.walk-requires-clause-rooms
+walk-requires-clause-rooms g c = λ below. subst (λ (t : ℕ). IsReserved c.args.head.now.catalogue.c1.weight (guide_at c.args.guides.now t))
+    (sym c.new.ensures)
+    (c.requires.rooms.c1 (omega (arith, below, c.new.ensures)))
 
 pub walk-requires-2-clause-rooms : goal.walk-requires-2-clause-rooms
-walk-requires-2-clause-rooms g c = rooms_kept c.args.head.now.geometry c.walk.ensures.rooms c.requires.rooms
+walk-requires-2-clause-rooms g c = room_kept 1 c.new-2.result (same_room c.walk.ensures.rooms) c.new-2.ensures c.requires.rooms.c1x
 
 pub walk-requires-3-clause-rooms : goal.walk-requires-3-clause-rooms
 walk-requires-3-clause-rooms g c =
-    rooms_kept c.args.head.now.geometry c.walk-2.ensures.rooms (rooms_kept c.args.head.now.geometry c.walk.ensures.rooms c.requires.rooms)
-
-pub returns-in_err-walk-clause-rooms : goal.returns-in_err-walk-clause-rooms
-returns-in_err-walk-clause-rooms g c = c.walk.ensures.rooms.many
-
-pub returns-in_err-walk-clause-reserved : goal.returns-in_err-walk-clause-reserved
-returns-in_err-walk-clause-reserved g c = rooms_kept c.args.head.now.geometry c.walk.ensures.rooms c.requires.rooms
-
-pub returns-in_err-walk-2-clause-rooms : goal.returns-in_err-walk-2-clause-rooms
-returns-in_err-walk-2-clause-rooms g c = c.walk-2.ensures.rooms.many ∙ c.walk.ensures.rooms.many
-
-pub returns-in_err-walk-2-clause-reserved : goal.returns-in_err-walk-2-clause-reserved
-returns-in_err-walk-2-clause-reserved g c =
-    rooms_kept c.args.head.now.geometry c.walk-2.ensures.rooms (rooms_kept c.args.head.now.geometry c.walk.ensures.rooms c.requires.rooms)
-
-pub returns-in_err-walk-3-clause-rooms : goal.returns-in_err-walk-3-clause-rooms
-returns-in_err-walk-3-clause-rooms g c = c.walk-3.ensures.rooms.many ∙ c.walk-2.ensures.rooms.many ∙ c.walk.ensures.rooms.many
-
-pub returns-in_err-walk-3-clause-reserved : goal.returns-in_err-walk-3-clause-reserved
-returns-in_err-walk-3-clause-reserved g c =
-    rooms_kept c.args.head.now.geometry c.walk-3.ensures.rooms
-    (rooms_kept c.args.head.now.geometry c.walk-2.ensures.rooms (rooms_kept c.args.head.now.geometry c.walk.ensures.rooms c.requires.rooms))
-
-pub returns-clause-rooms : goal.returns-clause-rooms
-returns-clause-rooms g c = c.walk-3.ensures.rooms.many ∙ c.walk-2.ensures.rooms.many ∙ c.walk.ensures.rooms.many
+    room_kept 2 c.new-3.result (same_room c.walk-2.ensures.rooms) c.new-3.ensures
+    (λ below. reserved_still 2 (same_room c.walk.ensures.rooms) (c.requires.rooms.c2 (omega (arith, below, c.walk.ensures.rooms.many))))
 
 pub returns-clause-reserved : goal.returns-clause-reserved
-returns-clause-reserved g c =
-    rooms_kept c.args.head.now.geometry c.walk-3.ensures.rooms
-    (rooms_kept c.args.head.now.geometry c.walk-2.ensures.rooms (rooms_kept c.args.head.now.geometry c.walk.ensures.rooms c.requires.rooms))
+returns-clause-reserved g c = room_then (same_room c.walk.ensures.rooms) (room_then (same_room c.walk-2.ensures.rooms)
+    (same_room c.walk-3.ensures.rooms))
 
 pub returns-clause-guided : goal.returns-clause-guided
 returns-clause-guided g c = λ honest are tree c1 c1x c2.

@@ -4,9 +4,28 @@ use Rattle.tree_reading.specs.Damage.{HasCatalogue, HasComponents}
 use Rattle.tree_reading.specs.Reading.{AreTagged, IsWhy}
 use Rattle.std.proofs.Common.{subst}
 use Rattle.tree_reading.proofs.CallsLemmas.{still}
-use Rattle.tree_reading.proofs.FaultLemmas.{calm, faults_then}
-use Rattle.tree_reading.proofs.ReadingLemmas.{calls_on, on_any_ok}
+use Rattle.tree_reading.proofs.FaultLemmas.{calm, faults_as, faults_then}
+use Rattle.tree_reading.proofs.ReadingLemmas.{calls_on, on_any_ok, on_each_ok, replayed_in}
 use Rattle.tree_reading.proofs.reading.read_parts.Goals as goal
+
+pub returns-in_err-read_components-clause-faults : goal.returns-in_err-read_components-clause-faults
+returns-in_err-read_components-clause-faults g c = faults_as c.from_residual.ensures.1 c.in_err-read_components.was c.read_components.ensures.faults
+
+pub returns-clause-tags : goal.returns-clause-tags
+returns-clause-tags g c = on_any_ok c.read_lanes.result c.in_ok-read_components.ensures.tags
+
+pub returns-clause-replayed : goal.returns-clause-replayed
+returns-clause-replayed g c =
+    let first = g.D.Disk.state c.args.disk.now in
+    let mid = g.D.Disk.state c.read_components.new.disk in
+    on_each_ok c.read_lanes.result
+    (λ ends is.
+    replayed_in c.args.head.now.geometry c.args.head.now.catalogue c.read_lanes.new.a.entries c.read_lanes.new.b.entries ends.a ends.b mid.is_honest first.is_honest mid.bytes first.bytes is
+    (λ honest. (still c.read_components.ensures.effect honest).0) (λ honest. (still c.read_components.ensures.effect honest).1))
+    c.read_lanes.ensures.replayed
+
+pub returns-clause-reserved : goal.returns-clause-reserved
+returns-clause-reserved g c = on_any_ok c.read_lanes.result (c.read_lanes.ensures.reserved_a, c.read_lanes.ensures.reserved_b)
 
 pub returns-clause-tagged : goal.returns-clause-tagged
 returns-clause-tagged g c = λ honest. on_any_ok c.read_lanes.result (c.in_ok-read_components.ensures.found honest)
@@ -26,6 +45,9 @@ returns-clause-faults g c = faults_then c.read_lanes.result (calm _ c.in_ok-read
 pub returns-clause-effect : goal.returns-clause-effect
 returns-clause-effect g c =
     only_reads_run (g.met.D.Disk.timed c.read_components.new.disk) (calm _ c.in_ok-read_components.ensures.faults) c.read_components.ensures.effect c.read_lanes.ensures.effect
+
+pub returns-clause-guides : goal.returns-clause-guides
+returns-clause-guides g c = on_any_ok c.read_lanes.result c.in_ok-read_components.ensures.reserved
 
 pub returns-clause-guided : goal.returns-clause-guided
 returns-clause-guided g c = λ honest. on_any_ok c.read_lanes.result (c.in_ok-read_components.ensures.guided honest)

@@ -5,8 +5,9 @@ use Rattle.tree_reading.specs.Damage.{HasCatalogue}
 use Rattle.tree_reading.specs.declared.found.Unreadable.{Unreadable}
 use Rattle.tree_reading.specs.Reading.{AreTagged, GuidesTree, IsWhy, within}
 use Rattle.mem_table.specs.Tables.{Contents}
+use Rattle.tree_runs.proofs.GuideLemmas.{guides_still}
 use Rattle.tree_reading.proofs.FaultLemmas.{calm, faults_as, faults_none, faults_then, handed_on}
-use Rattle.tree_reading.proofs.ReadingLemmas.{fits_found, guides_still, looked_more, replayed_at, replayed_in}
+use Rattle.tree_reading.proofs.ReadingLemmas.{fits_found, looked_more, replayed_at, replayed_in}
 use Rattle.tree_reading.proofs.reading.read_tree.Goals as goal
 
 pub returns-in_err-head-clause-looked : goal.returns-in_err-head-clause-looked
@@ -72,9 +73,7 @@ returns-clause-effect g c =
     only_reads_more (g.met.D.Disk.timed c.read_head.new.disk) (calm _ c.in_ok-head.ensures.faults) c.in_ok-head.ensures.effect c.read_parts.ensures.effect (omega arith) (omega arith)
 
 pub returns-clause-guides : goal.returns-clause-guides
-returns-clause-guides g c = λ wanted.
-    guides_still c.in_ok-head.head.geometry c.in-Ok.room.guides c.read_parts.new.room.guides (c.in-Ok.ensures.guides wanted)
-    c.read_parts.ensures.guides c.read_parts.ensures.rooms
+returns-clause-guides g c = λ wanted. guides_still c.in_ok-ends.ensures.guides (c.in-Ok.ensures.guides wanted)
 
 pub returns-clause-calls : goal.returns-clause-calls
 returns-clause-calls g c = omega (arith, c.in_ok-head.ensures.effect.effect.calls, c.in_ok-ends.ensures.calls)

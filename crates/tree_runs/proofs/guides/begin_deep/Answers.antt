@@ -11,7 +11,7 @@ returns-clause-merge c = λ sizes file space newer older newer_reads newer_apart
     let guides = c.args.guides.now.items in
     let guide : GuideState = record { filter = c.begin.new.filter; fences = c.begin.new.fences } in
     let here = ap (λ (n : ℕ). guide_at (slice_set guides n guide) c.args.role) c.number.ensures.number
-    ∙ get_or-set_same guides c.args.role guide no_guide (omega (arith, c.requires.guides.five, c.number.ensures.number, c.number.ensures.in_range)) in
+    ∙ get_or-set_same guides c.args.role guide no_guide (omega (arith, c.requires.five, c.number.ensures.number, c.number.ensures.in_range)) in
     subst (λ (g : GuideState). IsMerge sizes file space c.begin.result g.filter g.fences (numbers_of newer) (numbers_of older) (entries_of newer) (entries_of older)) (sym here)
     (c.begin.ensures.merge sizes file space (entries_of newer) (entries_of older)
     (record { pages = newer; reads = newer_reads; entries_are = refl }) newer_apart

@@ -1,6 +1,6 @@
-use Rattle.std.proofs.Common.{◌≡◌, replicate}
+use Rattle.std.proofs.Common.{◌≡◌, map, take}
 use Rattle.tree_runs.specs.Runs.{fresh_guide}
 use Rattle.tree_runs.proofs.guides.reserve_all.Given as goal
 
-abbrev pub invariant-loop : goal.invariant-loop
-invariant-loop l = l.guides.items ≡ replicate l.counter (fresh_guide l.geo)
+abbrev pub invariant-loop-weight : goal.invariant-loop-weight
+invariant-loop-weight l = l.guides.items ≡ map fresh_guide (take l.weight-index l.weight-items)

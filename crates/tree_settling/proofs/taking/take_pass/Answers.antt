@@ -1,7 +1,20 @@
 use Rattle.std.proofs.Common.{◌∙◌, ◌+◌, ◌/◌, Option, refl, arith}
 use Rattle.deep_merge.specs.Merge.{DeepState}
 use Rattle.tree_runs.specs.Runs.{left_for_deep, left_for_pass, made_by_deep}
-use Rattle.tree_settling.proofs.TakenLemmas.{begun, calls_more, calls_none, pass_took, less_left, more, quantum_few, rested, took_all, took_less}
+use Rattle.tree_settling.proofs.CountLemmas.{all_quanta, capacity_small, no_quantum, one_quantum}
+use Rattle.tree_settling.proofs.TakenLemmas.{
+  pass_bound,
+  begun,
+  calls_more,
+  calls_none,
+  pass_took,
+  less_left,
+  more,
+  quantum_few,
+  rested,
+  took_all,
+  took_less,
+}
 use Rattle.tree_settling.proofs.ToldLemmas.{still_left}
 use Rattle.tree_settling.proofs.taking.take_pass.Goals as goal
 
@@ -11,6 +24,7 @@ loop-runs-init g c = record {
   deep = refl;
   goes_on = begun (g.met.D.Disk.timed c.args.disk.now) c.requires.running;
   calls = calls_none c.args.runs.now.sizes (left_for_pass c.args.runs.now.pass c.args.a.now.entries) (g.D.Disk.state c.args.disk.now);
+  quanta = no_quantum c.args.runs.now.sizes (left_for_pass c.args.runs.now.pass c.args.a.now.entries);
 }
 
 pub loop-runs-smaller : goal.loop-runs-smaller
@@ -33,7 +47,20 @@ loop-runs-preserved g c =
           calls_more c.args.runs.now.sizes (left_for_pass c.args.runs.now.pass c.args.a.now.entries) (left_for_pass c.loop-runs.runs.pass c.args.a.now.entries) (left_for_pass c.pass_quantum.new.self.pass c.args.a.now.entries) c.in_ok-pass_quantum.field-0 (c.loop-runs.runs.sizes.quantum / 7 + 2) c.loop-runs.runs.sizes.quantum (g.D.Disk.state c.args.disk.now) (g.D.Disk.state c.loop-runs.disk) (g.D.Disk.state c.pass_quantum.new.disk)
           c.loop-runs.invariant.calls (still_left c.is_pass_done.result (left_for_pass c.loop-runs.runs.pass c.args.a.now.entries) c.loop-runs-test.true c.is_pass_done.ensures c.loop-runs.invariant.runs) c.pass_quantum.ensures.told.effect.calls
           few.0 few.1 took.1 took.2;
+      quanta =
+          one_quantum c.args.runs.now.sizes c.loop-runs.runs.sizes (left_for_pass c.args.runs.now.pass c.args.a.now.entries)
+          (left_for_pass c.loop-runs.runs.pass c.args.a.now.entries) (left_for_pass c.pass_quantum.new.self.pass c.args.a.now.entries)
+          c.in_ok-pass_quantum.field-0 c.loop-runs.quanta
+          c.loop-runs.invariant.goes_on.sizes c.requires.running.in_order.geometry.quantum c.loop-runs.invariant.quanta
+          (still_left c.is_pass_done.result (left_for_pass c.loop-runs.runs.pass c.args.a.now.entries) c.loop-runs-test.true c.is_pass_done.ensures
+          c.loop-runs.invariant.runs) took.1
+          (pass_bound c.loop-runs.runs.pass c.pass_quantum.new.self.pass c.args.a.now.entries c.loop-runs.runs.sizes.quantum
+          c.in_ok-pass_quantum.field-0 c.in_ok-pass_quantum.ensures.takes) took.2;
     }
+
+pub overflow_add-quanta : goal.overflow_add-quanta
+overflow_add-quanta g c =
+    omega (arith, c.loop-runs.invariant.quanta.some, c.requires.fits.made, capacity_small c.args.runs.now.sizes c.requires.running.in_order.geometry)
 
 pub returns-in_err-pass_quantum-clause-takes : goal.returns-in_err-pass_quantum-clause-takes
 returns-in_err-pass_quantum-clause-takes g c =
@@ -45,9 +72,15 @@ returns-in_err-pass_quantum-clause-takes g c =
     c.requires.running.in_order.geometry.quantum c.pass_quantum.ensures.told (omega arith) c.in_err-pass_quantum.was c.from_residual.ensures.1
 
 pub returns-clause-takes : goal.returns-clause-takes
-returns-clause-takes g c = took_all (left_for_pass c.args.runs.now.pass c.args.a.now.entries)
+returns-clause-takes g c = took_all c.loop-runs.quanta (left_for_pass c.args.runs.now.pass c.args.a.now.entries)
     (left_for_pass c.args.runs.now.pass c.args.a.now.entries) (left_for_pass c.loop-runs.runs.pass c.args.a.now.entries)
     c.loop-runs.invariant.goes_on c.loop-runs.invariant.calls (omega arith)
+
+pub returns-clause-counts : goal.returns-clause-counts
+returns-clause-counts g c =
+    all_quanta c.args.runs.now.sizes (left_for_pass c.args.runs.now.pass c.args.a.now.entries)
+    (left_for_pass c.loop-runs.runs.pass c.args.a.now.entries) c.loop-runs.quanta
+    (c.is_pass_done.ensures.0 c.loop-runs-test.false).1 c.loop-runs.invariant.quanta
 
 pub returns-clause-done : goal.returns-clause-done
 returns-clause-done g c = c.is_pass_done.ensures.0 c.loop-runs-test.false

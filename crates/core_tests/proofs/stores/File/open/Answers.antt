@@ -1,8 +1,9 @@
-use Rattle.std.proofs.Common.{◌≤◌, sym, subst, arith}
+use Rattle.std.proofs.Common.{ℕ, ◌≤◌, sym, subst, arith}
 use Rattle.std.specs.Prelude.{sum}
 use Rattle.blsm_model.specs.declared.room.Room.{Room}
 use Rattle.blsm_model.specs.Format.{most_entries}
 use Rattle.disk_mem.specs.Recorded.{told}
+use Rattle.tree_machine.proofs.PlayLemmas.{of_replicate}
 use Rattle.core_tests.proofs.FreshLemmas.{first_read, made_log, made_runs, settled_as}
 use Rattle.core_tests.proofs.stores.File.open.Goals as goal
 
@@ -18,4 +19,7 @@ assemble-requires-clause-settled c =
 
 pub open-runs-requires : goal.open-runs-requires
 open-runs-requires c =
-    record { read = first_read c.args.self.geo c.first_catalogue.result c.in_ok-space.space c.pages.result c.half-half.ensures.fits c.first_catalogue.ensures c.in_ok-space.ensures.unused c.pages.ensures.pages; guides = c.in_ok-guides.ensures }
+    record { read = first_read c.args.self.geo c.first_catalogue.result c.in_ok-space.space c.pages.result c.half-half.ensures.fits c.first_catalogue.ensures c.in_ok-space.ensures.unused c.pages.ensures.pages; guides = c.in_ok-guides.ensures.guides }
+
+pub resume-requires-clause-inside : goal.resume-requires-clause-inside
+resume-requires-clause-inside c = λ lane below. omega (arith, c.half-half.ensures.fits.half.0, of_replicate {A = ℕ} 3 lane 0)

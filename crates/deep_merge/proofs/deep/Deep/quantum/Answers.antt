@@ -1,4 +1,4 @@
-use Rattle.std.proofs.Common.{◌≡◌, sym, subst}
+use Rattle.std.proofs.Common.{sym, subst}
 use Rattle.merge_ends.specs.Quantum.{IsQuantum}
 use Rattle.deep_merge.specs.Merge.{DeepState, IsMerge}
 use Rattle.deep_merge.proofs.deep.Deep.quantum.Goals as goal

@@ -8,7 +8,7 @@ use Rattle.record_delta.specs.Entries.{folded_over}
 use Rattle.page_space.specs.Space.{HasRole}
 use Rattle.page_file.specs.Component.{numbers_of, HasList}
 use Rattle.page_file.specs.File.{Writes}
-use Rattle.run_writer.specs.Writer.{role_region, HasPushed}
+use Rattle.run_writer.specs.Writer.{role_region, HasEntries, HasPushed}
 use Rattle.run_writer.proofs.RegionLemmas.{open_tagged}
 use Rattle.blsm_model.specs.Geometry.{file_length}
 use Rattle.merge_ends.specs.Merge.{MergeState}
@@ -25,7 +25,7 @@ returns-clause-list g c = λ settles space input table filter fences overs under
     let here = subst (λ (s : MergeState). HasPushed sizes true d.bytes space s.writer filter fences out) (sym c.self.view_is) pushed in
     subst (λ (s : MergeState). IfOk c.end.result (λ run. (list : HasList sizes run out (g.D.Disk.state c.end.new.disk).bytes)
     × ((n : ℕ) → Contains (numbers_of list.pages) n → HasRole space s.writer.role n) × Guide filter fences list.pages)) c.self.view_is
-    (c.end.ensures.list space filter fences out honest (subst (λ (b : Bool). HasPushed sizes b d.bytes space c.self.inside.writer filter fences out) (sym honest) here))
+    (c.end.ensures.list space filter fences out honest (subst (λ (s : MergeState). HasEntries s.writer) (sym c.self.view_is) merging.begun) (subst (λ (b : Bool). HasPushed sizes b d.bytes space c.self.inside.writer filter fences out) (sym honest) here))
 
 pub returns-clause-writes : goal.returns-clause-writes
 returns-clause-writes g c = λ space filter fences run.

@@ -135,6 +135,7 @@ returns-in_default-clause-lists g c = λ overs unders over under honest merging 
           pushed = pushed_read sizes true before new space c.self.inside.writer c.args.filter.now c.args.fences.now old.run.out (λ told. same ∙ only_reads_same first honest) old.run.pushed;
           ends = old.run.ends;
         };
+        begun = old.begun;
         out_is = old.out_is;
         closed_up = old.closed_up;
         closed_is = old.closed_is;
@@ -285,9 +286,25 @@ returns-clause-numbers g c =
     let hand = first_of (above at (at_hand input table)) in
     let pages = c.in_ok-put.ensures.one_a_page in
     subst (λ (k : Key). MergesOn c.args.geo.now (group_calls (g.N.Newer.run c.args.newer.now)) TakesGroup (stage (progress c.args.self.now (g.N.Newer.run c.args.newer.now) (g.N.Newer.table c.args.newer.now)) c.args.space.now c.args.filter.now c.args.fences.now (g.D.Disk.state c.args.disk.now))
-    (stage (progress (record { writer = c.put.new.writer; older = older; at = Some k; closed = c.closed_behind-self-inside.result; left = c.left_behind-self-inside.result }) input table) c.put.new.space c.put.new.filter c.put.new.fences (g.D.Disk.state c.put.new.disk)) (Ok c.in-Some.weight)) (sym c.copy.ensures)
+    (stage (progress (record {
+      writer = c.put.new.writer;
+      older = older;
+      at = Some k;
+      closed = c.tell_closed.new.closed;
+      left
+          = c.left_behind-self-inside.result;
+    }) input table) c.put.new.space c.put.new.filter c.put.new.fences (g.D.Disk.state c.put.new.disk))
+    (Ok c.in-Some.weight)) (sym c.copy.ensures)
     (subst (λ (s : MergeState). MergesOn c.args.geo.now (group_calls (g.N.Newer.run c.args.newer.now)) TakesGroup (stage (progress s (g.N.Newer.run c.args.newer.now) (g.N.Newer.table c.args.newer.now)) c.args.space.now c.args.filter.now c.args.fences.now (g.D.Disk.state c.args.disk.now))
-    (stage (progress (record { writer = c.put.new.writer; older = older; at = Some key; closed = c.closed_behind-self-inside.result; left = c.left_behind-self-inside.result }) input table) c.put.new.space c.put.new.filter c.put.new.fences (g.D.Disk.state c.put.new.disk)) (Ok c.in-Some.weight)) c.self.view_is
+    (stage (progress (record {
+      writer = c.put.new.writer;
+      older = older;
+      at = Some key;
+      closed = c.tell_closed.new.closed;
+      left
+          = c.left_behind-self-inside.result;
+    }) input table) c.put.new.space c.put.new.filter c.put.new.fences (g.D.Disk.state c.put.new.disk))
+    (Ok c.in-Some.weight)) c.self.view_is
     (told_ok
     (takes_group _ _ (taken g arm) refl (omega (arith, ready_newer.1, newer_less at key input table)) (omega (arith, ready_older.1)) (weighs_some g arm) (weighs_light g arm).0
     (omega (arith, (weighs_light g arm).1, c.in_ok-put.ensures.light)))
@@ -351,14 +368,21 @@ returns-clause-lists g c = λ overs unders over under honest merging other.
     let change = same_wider c.put.ensures.tagged (c.put.ensures.writes.effect.bytes mid_honest) in
     let takes = c.put.ensures.takes in
     let behind =
-    turned_behind at c.self.inside.closed _ c.component-pages.result.pages c.component.result.pages writer c.put.new.writer c.closed_behind-self-inside.ensures
+    turned_behind at c.self.inside.closed _ c.component-pages.result.pages c.component.result.pages writer c.put.new.writer c.tell_closed.ensures
     (ap (λ (k : Component). k.pages) c.component-pages.ensures.component) (ap (λ (k : Component). k.pages) c.component.ensures.component) in
     let left_is =
     turned_behind (component_left at input + left_in at older) c.self.inside.left _ c.component-pages.result.pages c.component.result.pages writer c.put.new.writer c.left_behind-self-inside.ensures
     (ap (λ (k : Component). k.pages) c.component-pages.ensures.component) (ap (λ (k : Component). k.pages) c.component.ensures.component) in
     let next : IsNext at (Some key) over under weighs = (key, rec, both, refl) in
     subst (λ (k : Key). (n : ℕ) × (◌≡◌ {A = Result ℕ Broken} (Ok weighs) (Ok n))
-    × IsMerging settles sizes after.bytes after_space (record { writer = c.put.new.writer; older = older; at = Some k; closed = c.closed_behind-self-inside.result; left = c.left_behind-self-inside.result }) input table c.put.new.filter c.put.new.fences overs unders over under
+    × IsMerging settles sizes after.bytes after_space (record {
+      writer = c.put.new.writer;
+      older = older;
+      at = Some k;
+      closed
+          = c.tell_closed.new.closed;
+      left = c.left_behind-self-inside.result;
+    }) input table c.put.new.filter c.put.new.fences overs unders over under
     × AreSorted over × (IsNext c.args.self.now.at (Some k) over under n ⊎ (NoneAbove c.args.self.now.at over under × (Some k ≡ c.args.self.now.at) × (n ≡ 0)))) (sym c.copy.ensures) (
       weighs,
       refl,
@@ -373,13 +397,17 @@ returns-clause-lists g c = λ overs unders over under honest merging other.
               (c.in_ok-put.ensures.pushed out (λ any. rising_more at out key any rise old.run.ends taken.above_at) pushed);
           ends = ends_kept settles at out key rec old.run.ends taken.above_at;
         };
+        begun = c.in_ok-put.ensures.begun old.begun;
         out_is = ap (λ (l : Entries). l ++ kept settles ((key, rec) ∷ [])) old.out_is
             ∙ sym (kept_more settles (folded_over (up_to at over) (up_to at under)) key rec)
             ∙ sym (ap (λ (l : Entries). kept settles l) taken.out);
-        closed_up = closed_up_more (has_turned writer c.put.new.writer) at c.self.inside.closed c.closed_behind-self-inside.result key behind taken.above_at old.closed_up;
-        closed_is = closed_is_more (has_turned writer c.put.new.writer) at c.self.inside.closed c.closed_behind-self-inside.result out (closed_entries writer out) (closed_entries c.put.new.writer (out ++ kept settles ((key, rec) ∷ [])))
+        closed_up = closed_up_more (has_turned writer c.put.new.writer) at c.self.inside.closed c.tell_closed.new.closed key behind taken.above_at
+            old.closed_up;
+        closed_is = closed_is_more (has_turned writer c.put.new.writer) at c.self.inside.closed c.tell_closed.new.closed out
+            (closed_entries writer out) (closed_entries c.put.new.writer (out ++ kept settles ((key, rec) ∷ [])))
             (λ (k : Option Key). kept settles (folded_over (up_to k over) (up_to k under))) behind (c.in_ok-put.ensures.closed out pushed) old.out_is old.closed_is;
-        left_is = left_behind_is (has_turned writer c.put.new.writer) at c.self.inside.closed c.closed_behind-self-inside.result c.left_behind-self-inside.result _ c.self.inside.left (λ (k : Option Key). components_above k input over under) behind
+        left_is = left_behind_is (has_turned writer c.put.new.writer) at c.self.inside.closed c.tell_closed.new.closed
+            c.left_behind-self-inside.result _ c.self.inside.left (λ (k : Option Key). components_above k input over under) behind
             left_is (components_are sizes mid.bytes space role at input table overs older over under c.in_ok-go_above.ensures.ready.0 upper c.in_ok-go_above-2.ensures.ready.0 lower)
             (λ some. old.left_is some ∙ sym (same_above c.self.inside.closed (g.N.Newer.run c.args.newer.now) input over under c.go_above.ensures.same_kind));
       },
@@ -422,18 +450,26 @@ returns-clause-covers g c = λ covers.
     let older = c.go_above-2.new.cursor in
     let old = subst (λ (s : MergeState). Covers c.args.settles s (g.N.Newer.run c.args.newer.now) (g.N.Newer.table c.args.newer.now)) (sym c.self.view_is) covers in
     let behind =
-    turned_behind at closed _ c.component-pages.result.pages c.component.result.pages writer c.put.new.writer c.closed_behind-self-inside.ensures
+    turned_behind at closed _ c.component-pages.result.pages c.component.result.pages writer c.put.new.writer c.tell_closed.ensures
     (ap (λ (k : Component). k.pages) c.component-pages.ensures.component) (ap (λ (k : Component). k.pages) c.component.ensures.component) in
     let less = gave_less (taken g arm) (weighs_more g arm) in
-    subst (λ (k : Key). Covers c.args.settles (record { writer = c.put.new.writer; older = older; at = Some k; closed = c.closed_behind-self-inside.result; left = c.left_behind-self-inside.result }) input table) (sym c.copy.ensures)
+    subst (λ (k : Key). Covers c.args.settles (record {
+      writer = c.put.new.writer;
+      older = older;
+      at = Some k;
+      closed = c.tell_closed.new.closed;
+      left = c.left_behind-self-inside.result;
+    }) input table) (sym c.copy.ensures)
     (record {
-      up = closed_up_more turned at closed c.closed_behind-self-inside.result key behind (taken g arm).above_at old.up;
+      up = closed_up_more turned at closed c.tell_closed.new.closed key behind (taken g arm).above_at old.up;
       light = λ plain none.
-          light_more turned at closed c.closed_behind-self-inside.result key table (length c.put.new.writer.buffer.text) (length writer.buffer.text) (weight key rec) behind (c.in_ok-put.ensures.here plain)
+          light_more turned at closed c.tell_closed.new.closed key table (length c.put.new.writer.buffer.text) (length writer.buffer.text)
+          (weight key rec) behind (c.in_ok-put.ensures.here plain)
           (subst (λ (l : Entries). entries_weight (above at l) ≤ entries_weight (above (Some key) l) + weight key rec) (ap (λ (i : Option CursorState). at_hand i table) none) less)
           (subst (λ (l : Entries). entries_weight (above closed l) ≤ entries_weight (above at l) + length writer.buffer.text) (sym c.go_above.ensures.same_table)
           (old.light plain (still_table (g.N.Newer.run c.args.newer.now) input c.go_above.ensures.same_kind none)));
-      left = left_covers turned at closed c.closed_behind-self-inside.result c.left_behind-self-inside.result (component_left at input + left_in at older) c.self.inside.left (component_left (Some key) input + left_in (Some key) older)
+      left = left_covers turned at closed c.tell_closed.new.closed c.left_behind-self-inside.result (component_left at input + left_in at older)
+          c.self.inside.left (component_left (Some key) input + left_in (Some key) older)
           (component_left at (g.N.Newer.run c.args.newer.now) + left_in at c.self.inside.older) behind
           (turned_behind (component_left at input + left_in at older) c.self.inside.left _ c.component-pages.result.pages c.component.result.pages writer c.put.new.writer c.left_behind-self-inside.ensures
           (ap (λ (k : Component). k.pages) c.component-pages.ensures.component) (ap (λ (k : Component). k.pages) c.component.ensures.component))

@@ -1,6 +1,6 @@
-use Rattle.std.proofs.Common.{ap, subst}
+use Rattle.std.proofs.Common.{◌∙◌, ap, subst}
 use Rattle.page_space.specs.Space.{SpaceState, Claims}
-use Rattle.run_writer.specs.Writer.{WriterState}
+use Rattle.run_writer.specs.Writer.{WriterState, turned}
 use Rattle.run_writer.proofs.RegionLemmas.{not_ok}
 use Rattle.run_writer.proofs.writer.Writer.turn.Goals as goal
 
@@ -11,7 +11,7 @@ returns-clause-turned g c =
       c.take-next.result,
       c.take-next.ensures.least,
       subst (λ role. Claims role c.take-next.result c.args.space.now c.claim.new.self) role_is claims,
-      (c.open.ensures, c.in_ok-write_open.ensures.reads),
+      (c.open.ensures ∙ ap (turned c.take-next.result) c.write_open.ensures.same, c.in_ok-write_open.ensures.reads),
     )
 
 pub returns-in_err-write_open-clause-turned : goal.returns-in_err-write_open-clause-turned

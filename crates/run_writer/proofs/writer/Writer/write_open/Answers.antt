@@ -8,7 +8,7 @@ pub returns-clause-writes : goal.returns-clause-writes
 returns-clause-writes g c =
     let number_is = ap (λ (w : WriterState). w.number) c.self.view_is in
     let some : 0 < c.args.self.now.component.pages = subst (λ (w : WriterState). 0 < w.component.pages) c.self.view_is (omega (arith, c.if-self-eq0.false)) in
-    let writes = c.write_page.ensures.writes in
+    let writes = c.write.ensures.writes in
     record {
       effect = affects_wider (λ i inside. (some, subst (λ n. page_region c.args.geo.now n i) number_is inside)) (omega arith) (omega arith) writes.effect;
       no_sync = writes.no_sync;

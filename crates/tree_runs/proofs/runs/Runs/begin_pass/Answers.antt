@@ -4,21 +4,24 @@ use Rattle.std.proofs.lemmas.Grind.{common_steps}
 use Rattle.std.proofs.Common.{rules, ◌∙◌, ◌≡◌, ℕ, Some, None, ap, sym, subst}
 use Rattle.std.specs.Prelude.{List}
 use Rattle.blsm_model.specs.declared.component.Component.{Component}
-use Rattle.blsm_model.specs.Sizes.{Sizes}
 use Rattle.catalog_swap.specs.declared.catalog.Catalog.{Catalog}
 use Rattle.page_file.specs.Component.{ReadsAs}
 use Rattle.snow_merge.specs.Pass.{SnowState, started}
-use Rattle.tree_runs.specs.Runs.{GuideState, RunsState, AreGuides, AreRuns, AreRunning, DeepRuns, PassRuns, guide_at}
+use Rattle.tree_runs.specs.Runs.{GuideState, RunsState, AreGuides, AreRuns, AreRunning, DeepRuns, IsReserved, PassRuns, guide_at, run_most}
 use Rattle.tree_runs.specs.Holding.{AreOf, IsDeepOver, IsPassOver, KeepsOtherGuides}
-use Rattle.tree_runs.proofs.GuideLemmas.{all_guided_still}
+use Rattle.tree_runs.proofs.GuideLemmas.{all_guided_still, guides_emptied}
 use Rattle.tree_runs.proofs.KeptMerges.{elsewhere}
 use Rattle.tree_runs.proofs.runs.Runs.begin_pass.Goals as goal
 
 abbrev begun_with : RunsState → SnowState → List GuideState → RunsState
 begun_with runs snow guides = record runs { pass = Some snow; guides = guides }
 
-runs_begun : (runs : RunsState) (guides : List GuideState) → runs.pass ≡ None → AreRuns runs → AreGuides runs.sizes guides → AreRuns (begun_with runs (started runs.tags.pass runs.catalogue.c1) guides)
+runs_begun : (runs : RunsState) (guides : List GuideState) → runs.pass ≡ None → AreRuns runs → AreGuides runs.sizes runs.tags guides → AreRuns (begun_with runs (started runs.tags.pass runs.catalogue.c1) guides)
 runs_begun runs guides rests are reserved = grind (arith, common_steps, nat_tests)
+
+pub begin_snow-requires-clause-room : goal.begin_snow-requires-clause-room
+begin_snow-requires-clause-room c = subst (λ (s : RunsState). IsReserved (run_most s.sizes) (guide_at s.guides s.tags.pass))
+    (sym c.self.view_is) c.requires.runs.guides.pass
 
 pub returns-clause-begun : goal.returns-clause-begun
 returns-clause-begun c = search rules
@@ -34,7 +37,7 @@ returns-clause-running c = λ honest file running.
     let had : inside.guides.items ≡ runs.guides = search rules in
     let same = ap (λ (r : RunsState). r.guides) (returns-clause-begun c) in
     let others = subst (λ (t : ℕ). KeepsOtherGuides t runs.guides guides) tagged (subst (λ (gs : List GuideState). KeepsOtherGuides inside.pass gs guides) had c.begin_snow.ensures.others) in
-    let reserved = subst (λ (s : Sizes). AreGuides s guides) (ap (λ (r : RunsState). r.sizes) c.self.view_is) c.begin_snow.ensures.reserved in
+    let reserved = guides_emptied runs.tags.pass _ same are.tags.pass_below are.guides in
     subst (λ (r : RunsState). AreRunning honest file r) (sym (returns-clause-begun c))
     (subst (λ (gs : List GuideState). AreRunning honest file (begun_with runs (started runs.tags.pass runs.catalogue.c1) gs)) same
     (record {

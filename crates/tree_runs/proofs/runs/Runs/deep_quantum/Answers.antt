@@ -29,7 +29,7 @@ quantum-taken-requires-clause-runs g c =
     let fits = pages_within (c.in-Some.deep.writer.component.weight + left_for_deep (Some c.in-Some.deep)) (capacity now.sizes) (deep_light now c.in-Some.deep c.args.a.now.entries is c.requires.fits) in
     subst (λ (r : GuideState). MayGoOn c.self.inside.geometry (stage (progress_of_deep c.in-Some.deep) c.self.inside.space r.filter r.fences d)) (sym was)
     (subst (λ (s : RunsState). MayGoOn s.sizes (stage (progress_of_deep c.in-Some.deep) s.space (guide_at now.guides now.tags.deep).filter (guide_at now.guides now.tags.deep).fences d)) (sym c.self.view_is)
-    (record { running = running; fences_fit = omega (arith, fits, (order.guides.each now.tags.deep order.tags.deep_below).pages); room = room }))
+    (record { running = running; fences_fit = omega (arith, fits, order.guides.deep.pages); room = room }))
 
 -- ---- what it ends with
 
@@ -45,7 +45,7 @@ guide_after g c = record { filter = c.quantum-taken.new.filter; fences = c.quant
 abbrev guides_after : (g : _) (c : After-pages-pages g) → List GuideState
 guides_after g c = slice_set c.self.inside.guides.items c.number.result (guide_after g c)
 
-writes : (g : _) (c : After-pages-pages g) → WritesGuide c.args.self.now.sizes c.args.self.now.tags.deep c.args.self.now.guides (guides_after g c) (guide_after g c)
+writes : (g : _) (c : After-pages-pages g) → WritesGuide c.args.self.now.sizes c.args.self.now.tags c.args.self.now.tags.deep c.args.self.now.guides (guides_after g c) (guide_after g c)
 writes g c =
     let kept = c.quantum-taken.ensures.numbers.reserves in
     writes_guide _ (guide_after g c) c.requires.running.in_order.guides (ap (λ (s : RunsState). s.guides) c.self.view_is) (c.number.ensures.number ∙ ap (λ (s : RunsState). s.tags.deep) c.self.view_is) c.number.ensures.in_range (guide_was g c) kept.bits kept.fences_are

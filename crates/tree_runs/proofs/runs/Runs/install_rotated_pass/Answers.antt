@@ -3,7 +3,7 @@ use Rattle.tree_file.specs.Tree.{HoldsTree}
 use Rattle.tree_file.specs.Places.{with_pass}
 use Rattle.tree_runs.specs.Runs.{RunsState, AreRuns, DeepRuns, guide_at, made_by_pass}
 use Rattle.tree_runs.specs.Holding.{AreTagged, IsGuidedBy, with_pass_run, is_full}
-use Rattle.tree_runs.proofs.GuideLemmas.{guided_still}
+use Rattle.tree_runs.proofs.GuideLemmas.{guided_still, guides_emptied}
 use Rattle.tree_runs.proofs.ReleasedTags.{Released, has_still}
 use Rattle.tree_runs.proofs.InstallLemmas.{one_tag_still, runs_for_rotated_pass}
 use Rattle.tree_runs.proofs.CatalogLemmas.{parts_of_pass}
@@ -19,7 +19,8 @@ returns-clause-runs c =
     let was = subst (λ (s : RunsState). AreRuns s × (c.args.next.now ≡ with_pass_run s.sizes (made_by_pass s.pass) s.catalogue) × (is_full s.sizes (made_by_pass s.pass) ≡ true) × (s.deep ≡ None)) (sym c.self.view_is)
     (c.requires.runs, c.requires.next, c.requires.heavy, c.requires.rests) in
     let parts = parts_of_pass c.self.inside.geometry (made_by_pass c.self.inside.merges.value.pass) c.self.inside.catalogue true was.1 was.2 in
-    rw c.begin_deep.ensures.started (runs_for_rotated_pass _ c.args.next.now c.release.new.self c.begin_deep.new.guides.items was.0 parts was.3 (gone (goal.at.returns-clause-runs c).After-release) c.begin_deep.ensures.reserved)
+    let reserved = guides_emptied c.self.inside.deep _ c.begin_deep.ensures.guides was.0.tags.deep_below was.0.guides in
+    rw c.begin_deep.ensures.started (runs_for_rotated_pass _ c.args.next.now c.release.new.self c.begin_deep.new.guides.items was.0 parts was.3 (gone (goal.at.returns-clause-runs c).After-release) reserved)
 
 pub returns-clause-lists : goal.returns-clause-lists
 returns-clause-lists c = λ tree run a file holds c2 made guided_c2 guided_run.

@@ -4,7 +4,7 @@ use Rattle.tree_file.specs.Places.{with_components}
 use Rattle.tree_runs.specs.declared.runs.Merges.{Merges}
 use Rattle.tree_runs.specs.Runs.{RunsState, AreRuns, DeepRuns, guide_at}
 use Rattle.tree_runs.specs.Holding.{AreTagged, IsGuidedBy, IsPassOver, with_rotation}
-use Rattle.tree_runs.proofs.GuideLemmas.{guided_still}
+use Rattle.tree_runs.proofs.GuideLemmas.{guided_still, guides_emptied}
 use Rattle.tree_runs.proofs.InstallLemmas.{runs_for_rotation}
 use Rattle.tree_runs.proofs.CatalogLemmas.{parts_of}
 use Rattle.tree_runs.proofs.KeptMerges.{elsewhere}
@@ -42,4 +42,5 @@ returns-clause-goes_on c = λ honest file.
 pub returns-clause-runs : goal.returns-clause-runs
 returns-clause-runs c =
     let was = subst (λ (s : RunsState). AreRuns s × (c.args.next.now ≡ with_rotation s.catalogue) × (s.deep ≡ None)) (sym c.self.view_is) (c.requires.runs, c.requires.next, c.requires.rests.1) in
-    rw (c.begin_deep.ensures.started, c.deref_mut-merges.ensures.value) (runs_for_rotation _ c.args.next.now c.begin_deep.new.guides.items was.0 (parts_of was.1) was.2 c.begin_deep.ensures.reserved)
+    let reserved = guides_emptied c.self.inside.deep _ c.begin_deep.ensures.guides was.0.tags.deep_below was.0.guides in
+    rw (c.begin_deep.ensures.started, c.deref_mut-merges.ensures.value) (runs_for_rotation _ c.args.next.now c.begin_deep.new.guides.items was.0 (parts_of was.1) was.2 reserved)

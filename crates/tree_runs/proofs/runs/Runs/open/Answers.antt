@@ -36,7 +36,7 @@ begun_empty rests tag catalogue empty = grind (arith, common_steps, nat_tests)
 
 -- ---- what the components keep from their opening on
 
-runs_opened : (sizes : Sizes) (catalogue : Catalog) (space : SpaceState) (guides : List GuideState) → AreRead sizes catalogue space → AreGuides sizes (due_guides sizes catalogue guides)
+runs_opened : (sizes : Sizes) (catalogue : Catalog) (space : SpaceState) (guides : List GuideState) → AreRead sizes catalogue space → AreGuides sizes first_tags (due_guides sizes catalogue guides)
     → AreRuns (opened sizes catalogue space guides)
 runs_opened sizes catalogue space guides read reserved = grind (arith, common_steps, nat_tests, are_tags, nothing_held, made_none, begun_tag, begun_empty, none_pinned, eqb-true)
 
@@ -54,7 +54,7 @@ returns-clause-running c = λ honest file.
     let goes = subst (λ (t : ℕ). DeepRuns sizes honest file space (guide_at after t) (due_deep 4 c.args.catalogue)) tag
     (subst (λ (d : Option DeepState). DeepRuns sizes honest file space (guide_at after c.new-deep.result) d) begins (c.begin_due.ensures.running sizes honest file space)) in
     subst (λ (r : RunsState). AreRunning honest file r) (sym (returns-clause-opened c)) (record {
-      in_order = runs_opened sizes c.args.catalogue space c.args.guides c.requires.read (subst (λ (gs : List GuideState). AreGuides sizes gs) same c.begin_due.ensures.reserved);
+      in_order = runs_opened sizes c.args.catalogue space c.args.guides c.requires.read (subst (λ (gs : List GuideState). AreGuides sizes first_tags gs) same c.begin_due.ensures.reserved);
       pass = tt;
       deep = subst (λ (gs : List GuideState). DeepRuns sizes honest file space (guide_at gs 4) (due_deep 4 c.args.catalogue)) same goes;
     })

@@ -1,15 +1,14 @@
 use Rattle.std.proofs.Common.{rules, ◌≡◌, ◌/◌, ◌+◌, Option, Some, OnOk, ◌∙◌, ap, sym, subst, refl, arith}
-use Rattle.std.specs.Prelude.{List, slice_set}
+use Rattle.std.specs.Prelude.{List, IfOk, slice_set}
 use Rattle.disk_trait.proofs.EffectLemmas.{affects_wider}
 use Rattle.blsm_model.specs.Sizes.{Sizes}
-use Rattle.blsm_model.specs.Geometry.{capacity}
 use Rattle.merge_ends.specs.Quantum.{Works}
 use Rattle.merge_ends.specs.Progress.{MayGoOn, stage}
 use Rattle.snow_merge.specs.Pass.{SnowState, progress_of_pass}
 use Rattle.scan_view.proofs.StayLemmas.{writes_beside}
-use Rattle.tree_runs.specs.Runs.{GuideState, RunsState, AreRunning, PassRuns, guide_at, left_for_pass}
+use Rattle.tree_runs.specs.Runs.{GuideState, RunsState, AreRunning, PassRuns, guide_at, left_for_pass, run_most}
 use Rattle.tree_runs.specs.Damage.{PassMeetsDamage}
-use Rattle.tree_runs.specs.Holding.{StandOver}
+use Rattle.tree_runs.specs.Holding.{PassTakes, StandOver}
 use Rattle.tree_runs.proofs.GuideLemmas.{WritesGuide, guide_named, pages_within, writes_guide}
 use Rattle.tree_runs.proofs.QuantumLemmas.{PassQuantum, pass_has_room, pass_light, passed_is, pass_ran, pass_stands, pass_works, tree_stays, pass_is_run}
 use Rattle.tree_runs.proofs.runs.Runs.pass_quantum.Goals as goal
@@ -26,10 +25,10 @@ quantum-taken-requires-clause-runs g c =
     let was = guide_named c.requires.running.in_order.guides.five (ap (λ (s : RunsState). s.guides) c.self.view_is) (c.number.ensures.number ∙ ap (λ (s : RunsState). s.tags.pass) c.self.view_is) c.number.ensures.in_range c.guide.view_is c.index_mut-guide.ensures.value in
     let running = subst (λ (o : Option SnowState). PassRuns now.sizes d.is_honest d.bytes now.space (guide_at now.guides now.tags.pass) o) is c.requires.running.pass in
     let room = pass_has_room now c.in-Some.snow c.args.a.now.entries is order c.requires.fits in
-    let fits = pages_within (c.in-Some.snow.writer.component.weight + left_for_pass (Some c.in-Some.snow) c.args.a.now.entries) (capacity now.sizes) (pass_light now c.in-Some.snow c.args.a.now.entries is c.requires.fits) in
+    let fits = pages_within (c.in-Some.snow.writer.component.weight + left_for_pass (Some c.in-Some.snow) c.args.a.now.entries) (run_most now.sizes) (pass_light now c.in-Some.snow c.args.a.now.entries is c.requires.fits) in
     subst (λ (r : GuideState). MayGoOn c.self.inside.geometry (stage (progress_of_pass c.in-Some.snow c.args.a.now.entries) c.self.inside.space r.filter r.fences d)) (sym was)
     (subst (λ (s : RunsState). MayGoOn s.sizes (stage (progress_of_pass c.in-Some.snow c.args.a.now.entries) s.space (guide_at now.guides now.tags.pass).filter (guide_at now.guides now.tags.pass).fences d)) (sym c.self.view_is)
-    (record { running = running; fences_fit = omega (arith, fits, (order.guides.each now.tags.pass order.tags.pass_below).pages); room = room }))
+    (record { running = running; fences_fit = omega (arith, fits, order.guides.pass.pages); room = room }))
 
 -- ---- what it ends with
 
@@ -45,7 +44,7 @@ guide_after g c = record { filter = c.quantum-taken.new.filter; fences = c.quant
 abbrev guides_after : (g : _) (c : After-pages-pages g) → List GuideState
 guides_after g c = slice_set c.self.inside.guides.items c.number.result (guide_after g c)
 
-writes : (g : _) (c : After-pages-pages g) → WritesGuide c.args.self.now.sizes c.args.self.now.tags.pass c.args.self.now.guides (guides_after g c) (guide_after g c)
+writes : (g : _) (c : After-pages-pages g) → WritesGuide c.args.self.now.sizes c.args.self.now.tags c.args.self.now.tags.pass c.args.self.now.guides (guides_after g c) (guide_after g c)
 writes g c =
     let kept = c.quantum-taken.ensures.numbers.reserves in
     writes_guide _ (guide_after g c) c.requires.running.in_order.guides (ap (λ (s : RunsState). s.guides) c.self.view_is) (c.number.ensures.number ∙ ap (λ (s : RunsState). s.tags.pass) c.self.view_is) c.number.ensures.in_range (guide_was g c) kept.bits kept.fences_are
@@ -69,6 +68,15 @@ works_are g c =
 
 pub returns-clause-others : goal.returns-clause-others
 returns-clause-others g c = record { sizes = search rules; catalogue = search rules; tags = search rules; deep = search rules; takes = (works_are g c).takes; guides = (writes g c).others }
+
+pub returns-clause-takes : goal.returns-clause-takes
+returns-clause-takes g c =
+    let a = c.args.a.now.entries in
+    let next = c.quantum-taken.new.self in
+    subst (λ (p : Option SnowState). IfOk c.quantum-taken.result (PassTakes c.args.self.now.sizes.quantum p (Some next) a)) (sym (pass_is g
+    (goal.at.returns-clause-takes g c).After-pages-pages))
+    (subst (λ (s : RunsState). IfOk c.quantum-taken.result (PassTakes s.sizes.quantum (Some c.in-Some.snow)
+    (Some next) a)) c.self.view_is c.quantum-taken.ensures.numbers.takes)
 
 pub returns-clause-told : goal.returns-clause-told
 returns-clause-told g c =

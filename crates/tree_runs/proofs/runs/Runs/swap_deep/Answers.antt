@@ -1,7 +1,8 @@
-use Rattle.std.proofs.Common.{◌≡◌, ◌∙◌, Bool, true, IsTrue, [], Option, ap, sym, subst, arith}
+use Rattle.std.proofs.Common.{◌≡◌, ◌∙◌, Bool, true, IsTrue, [], Option, ap, refl, sym, subst, arith}
 use Rattle.std.specs.Prelude.{is_ok}
 use Rattle.std.proofs.lemmas.Result.{err_from_is_err_and}
 use Rattle.std.proofs.lemmas.Bool.{false≢true}
+use Rattle.disk_trait.specs.Disk.{TellsFaults}
 use Rattle.disk_trait.specs.Effects.{Affects}
 use Rattle.disk_trait.proofs.EffectLemmas.{affects_wider}
 use Rattle.blsm_model.specs.Sizes.{Sizes}
@@ -37,6 +38,12 @@ pub returns-in_err-made-clause-effect : goal.returns-in_err-made-clause-effect
 returns-in_err-made-clause-effect g c =
     let now = c.args.self.now in
     affects_wider (run_beside now.sizes now.space now.tags.deep c.requires.running.in_order.deep_unpinned) (omega arith) (omega arith) c.finish_deep.ensures.writes.effect
+
+pub returns-in_err-made-clause-faults : goal.returns-in_err-made-clause-faults
+returns-in_err-made-clause-faults g c =
+    let p = err_from_is_err_and c.from_residual.result c.from_residual.ensures.1 in
+    subst (λ (r : _). TellsFaults r (g.D.Disk.state c.args.disk.now) (g.D.Disk.state c.finish_deep.new.disk)) (sym p.1)
+    (c.in_err-made.ensures.writes.failed refl)
 
 -- ---- the run's end and the commit together
 
