@@ -15,7 +15,7 @@ use Rattle.catalog_swap.specs.Text.{first_catalog}
 use Rattle.catalog_swap.specs.declared.catalog.Catalog.{Catalog}
 use Rattle.disk_trait.specs.Disk.{DiskState}
 use Rattle.gated_log.specs.Lanes.{LanesState}
-use Rattle.mem_table.specs.Tables.{Contents}
+use Rattle.mem_table.specs.Tables.{Contents, empty_table}
 use Rattle.pacing.specs.Laws.{IsOpening}
 use Rattle.page_space.specs.PageSet.{Members, none_of, size}
 use Rattle.page_space.specs.Space.{SpaceState, pages_with, pin_size, role_count, seat_count, unused}
@@ -94,9 +94,6 @@ opening sizes geometry = record {
   mark = omega (arith, half_below sizes.ratio sizes.half geometry.ratio.0, geometry.half.0);
   full = omega arith;
 }
-
-abbrev empty_table : ℕ → Contents
-empty_table room = record { entries = []; reserved = room; arrived = [] }
 
 abbrev empty_lanes : Sizes → LanesState
 empty_lanes sizes = record { sizes = sizes; roles = 0 ∷ 1 ∷ 2 ∷ []; ends = 0 ∷ 0 ∷ 0 ∷ [] }

@@ -12,8 +12,8 @@ use Rattle.record_delta.specs.Entries.{Entries, entries_weight}
 use Rattle.entry_store.specs.declared.chunks.Chunk.{Chunk}
 use Rattle.entry_store.specs.declared.store.Head.{Head}
 use Rattle.entry_store.specs.Chains.{chunk_at, chain, walk, times, linked}
-use Rattle.entry_store.specs.Stores.{rec_with, len_of, size_of, entry_in, entries_in, in_use, free_chunks, is_free, IsHead, IsStore, IsHeadOf}
-use Rattle.entry_store.proofs.ChainLemmas.{times_parts, chain_stays, text_stays, times-append, chain_linked, walk_in}
+use Rattle.entry_store.specs.Stores.{rec_with, len_of, size_of, entry_in, entries_in, in_use, free_chunks, is_free, IsHead, IsStore, IsHeadOf, vacant}
+use Rattle.entry_store.proofs.ChainLemmas.{chain_none, times_parts, chain_stays, text_stays, times-append, chain_linked, walk_in}
 use Rattle.entry_store.proofs.StoreLemmas.{IsFilled, entry_filled, chain_inside, least_sum, fourteen, in_use_keep, entries_stay}
 
 sum_set : {X : Type 0} (f : X → ℕ) (xs : List X) (i : ℕ) (y : X) → i < length xs → sum_by f (set xs i y) ≡ sum_by f (remove xs i) + f y
@@ -89,7 +89,7 @@ module _ (cs : List Chunk) (heads : List Head) (free reserved head_places : ℕ)
         let least = least_sum cs (remove heads i) (all_remove IsHead heads i s.are_heads) (λ q one. s.full q (s.inside q (omega (arith, one, uses q)))) in
         let rest = ap entries_weight (map_remove (entry_in cs) heads i) in
         let all = sum_set (λ (e : Key × Rec). weight e.0 e.1) (entries_in cs heads) i (key, rec) (omega (arith, length-map heads (entry_in cs))) in
-        omega (arith, least, rest, all, sizes, fourteen (len_of h) (omega (arith, head.is_head.key_least)), s.room_chunks, s.conserved, head.key_len_is, head.text_len_is)
+        omega (arith, least, rest, all, sizes, fourteen (len_of h), s.room_chunks, s.conserved, head.key_len_is, head.text_len_is)
 
     split : (q : ℕ) → times q (chain (size_of older + free_chunks cs heads) given older.first)
         ≡ times q (chain (size_of h) given older.first) + times q (chain (size_of older + free_chunks cs heads - size_of h) given (walk (size_of h) given older.first))
@@ -120,3 +120,41 @@ module _ (cs : List Chunk) (heads : List Head) (free reserved head_places : ℕ)
 
       pub store_changed : IsStore new (set heads i h) (walk (size_of h) given older.first) reserved head_places
       store_changed = grind (arith, common_steps, nat_tests, length-set, all_set, sum_set, sizes, enough, used_changed, entries_changed)
+
+  -- ---- the place without an entry
+
+  module _ (h : Head) (head : IsHead h) (none : len_of h ≡ 0) (is_vacant : (cs : List Chunk) → entry_in cs h ≡ vacant) where
+    no_size : size_of h ≡ 0
+    no_size = omega arith
+
+    pub entries_vacated : entries_in given (set heads i h) ≡ set (entries_in cs heads) i vacant
+    entries_vacated = entries_set cs given heads i h within given_rest ∙ ap (λ (e : Key × Rec). set (entries_in cs heads) i e) (is_vacant given)
+
+    used_vacated : (q : ℕ)
+        → in_use q given (set heads i h) + is_free q given (set heads i h) older.first ≡ in_use q cs heads + is_free q cs heads free
+    used_vacated q =
+        let sizes_now = sum_set size_of heads i h within in
+        let count : free_chunks given (set heads i h) ≡ size_of older + free_chunks cs heads =
+        omega (arith, length-set {A = Chunk}, sizes, no_size, s.conserved) in
+        let mine = ap (λ k. times q (chain k given h.first)) no_size ∙ ap (times q) (chain_none given h.first) in
+        let rest = ap (λ k. times q (chain k given older.first)) count in
+        let kept = in_use_keep q cs given (remove heads i) (λ p one. ap (λ (c : Chunk). c.next) (given_rest p one)) in
+        omega (arith, sum_set (λ (x : Head). times q (chain (size_of x) given x.first)) heads i h within, mine, rest, given_times q, uses q, kept)
+
+    lighter : entries_weight (set (entries_in cs heads) i vacant) ≤ entries_weight (entries_in cs heads)
+    lighter =
+        let in_range : i < length (entries_in cs heads) = omega (arith, length-map heads (entry_in cs)) in
+        omega (arith, sum_by-set (λ (e : Key × Rec). weight e.0 e.1) (entries_in cs heads) i vacant vacant in_range)
+
+    pub store_vacated : IsStore given (set heads i h) older.first reserved head_places
+    store_vacated = record {
+      are_heads = all_set IsHead heads i h head s.are_heads;
+      conserved = omega (arith, length-set {A = Chunk}, sum_set size_of heads i h within, sizes, no_size, s.conserved);
+      apart = λ q. omega (arith, used_vacated q, s.apart q);
+      inside = λ q one. omega (arith, length-set {A = Chunk}, s.inside q (omega (arith, used_vacated q)));
+      full = λ q lt. set_full q lt;
+      fits = omega (arith, ap entries_weight entries_vacated, lighter, s.fits);
+      room_heads = s.room_heads;
+      room_chunks = omega (arith, length-set {A = Chunk}, s.room_chunks);
+      numbered = omega (arith, length-set {A = Chunk}, s.numbered);
+    }

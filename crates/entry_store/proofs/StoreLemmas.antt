@@ -12,9 +12,8 @@ use Rattle.record_delta.specs.Records.{text_of as text_in, weight}
 use Rattle.record_delta.specs.Entries.{Entries, entries_weight}
 use Rattle.entry_store.specs.declared.chunks.Chunk.{Chunk}
 use Rattle.entry_store.specs.declared.store.Head.{Head}
-use Rattle.entry_store.specs.declared.store.Kind.TheVariants as kind
 use Rattle.entry_store.specs.Chains.{AreLinked, chunks_for, chunk_at, next_of, chain, walk, text_of, times}
-use Rattle.entry_store.specs.Stores.{Stored, rec_with, len_of, size_of, string_in, entry_in, entries_in, in_use, free_chunks, is_free, IsHead, IsStore, IsHeadOf}
+use Rattle.entry_store.specs.Stores.{Stored, rec_with, len_of, size_of, string_in, entry_in, entries_in, in_use, free_chunks, is_free, IsHead, IsStore, IsHeadOf, HasEntry, vacant}
 use Rattle.entry_store.proofs.CompareLemmas.{text_taken}
 use Rattle.entry_store.proofs.ChainLemmas.{length-text, times_parts, chain_stays, text_stays, rising_chain}
 
@@ -28,6 +27,12 @@ sixteen n = omega arith
 
 pub place_within : (cs : List Chunk) (heads : List Head) (reserved : ℕ) (v : Stored) (i : ℕ) → v ≡ record { slots = entries_in cs heads; reserved = reserved } → i < length v.slots → i < length heads
 place_within cs heads reserved v i is within = omega (arith, ap (λ (v : Stored). length v.slots) is, length-map heads (entry_in cs))
+
+-- an entry stands at a place
+pub entry_within : (slots : Entries) (i : ℕ) → HasEntry slots i → i < length slots
+entry_within [] i has = absurd (omega (arith, has))
+entry_within (e ∷ slots) zero has = omega arith
+entry_within (e ∷ slots) (suc i) has = omega (arith, entry_within slots i has)
 
 -- what a head's bytes are, where these have been read
 pub record IsRead (cs : List Chunk) (h : Head) (bytes : List ℕ) : Type 0 where
@@ -55,6 +60,10 @@ module _ (cs : List Chunk) (heads : List Head) (free reserved head_places : ℕ)
   pub entry_there : (d : Key × Rec) → get_or (entries_in cs heads) i d ≡ entry_in cs h
   entry_there d = get_or-map (entry_in cs) heads i h d within ∙ ap (entry_in cs) (sym is)
 
+  -- where it has an entry its key has a byte
+  pub key_there : HasEntry (entries_in cs heads) i → 1 ≤ h.key_len
+  key_there has = omega (arith, has, ap (λ (e : Key × Rec). length e.0) (entry_there vacant), length-take h.key_len (string_in cs h))
+
   -- its chunks, read as whole ones
   pub read_whole : (lent : List Chunk) (many : ℕ) (none bytes : List ℕ) → lent ≡ cs → many ≡ size_of h → none ≡ [] → bytes ≡ none ++ text_of many lent h.first (16 * many) → IsRead cs h bytes
   read_whole lent many none bytes lent_is many_is none_is is =
@@ -65,8 +74,8 @@ module _ (cs : List Chunk) (heads : List Head) (free reserved head_places : ℕ)
 
 -- ---- weights
 
-pub fourteen : (n : ℕ) → 1 ≤ n → 14 * chunks_for n ≤ 13 + n
-fourteen n least = omega arith
+pub fourteen : (n : ℕ) → 14 * chunks_for n ≤ 13 + n
+fourteen n = omega arith
 
 pub weight_entry : (cs : List Chunk) (h : Head) → IsHead h → length (string_in cs h) ≡ len_of h → weight (entry_in cs h).0 (entry_in cs h).1 ≡ 13 + len_of h
 weight_entry cs h h1 h2 = grind (arith, common_steps, nat_tests)
@@ -81,14 +90,10 @@ least_sum cs (h ∷ heads) all full =
       arith,
       rest,
       weight_entry cs h all.0 len,
-      fourteen (len_of h) (omega (arith, all.0.key_least)),
+      fourteen (len_of h),
       sum_by-cons size_of h heads,
       sum_by-cons (λ (e : Key × Rec). weight e.0 e.1) (entry_in cs h) (entries_in cs heads),
     )
-
-heads_fewer : (heads : List Head) → AllByRecursion IsHead heads → length heads ≤ sum_by size_of heads
-heads_fewer [] all = omega arith
-heads_fewer (h ∷ heads) all = omega (arith, heads_fewer heads all.1, sum_by-cons size_of h heads, all.0.key_least)
 
 -- ---- the same links, and the same chunks
 
@@ -140,8 +145,8 @@ module _ (cs : List Chunk) (heads : List Head) (free reserved head_places : ℕ)
   pub enough : size_of h ≤ free_chunks cs heads
   enough = grind (arith, common_steps, nat_tests, least_sum, sum_by-append, sum_by-cons, fourteen)
 
-  pub head_left : length heads < head_places
-  head_left = grind (arith, common_steps, nat_tests, heads_fewer, least_sum, sum_by-append, sum_by-cons)
+  pub head_left : 14 * (length (entries_in cs heads) + 1) ≤ reserved → length heads < head_places
+  head_left place = omega (arith, place, s.room_heads, length-map heads (entry_in cs))
 
   free_split : (q : ℕ) → is_free q cs heads free ≡ times q (chain (size_of h) cs free) + times q (chain (free_chunks cs heads - size_of h) cs (walk (size_of h) cs free))
   free_split q = times_parts q (free_chunks cs heads) (size_of h) cs free enough

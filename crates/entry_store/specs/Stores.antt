@@ -1,5 +1,5 @@
 -- Keys and records whose bytes are in chunks.
-use Rattle.std.specs.Prelude.{◌≡◌, ℕ, ◌+◌, ◌-◌, ◌*◌, ◌<◌, ◌≤◌, List, length, take, drop, map, sum_by}
+use Rattle.std.specs.Prelude.{◌≡◌, ℕ, ◌+◌, ◌-◌, ◌*◌, ◌<◌, ◌≤◌, List, [], length, get_or, take, drop, map, sum_by}
 use Rattle.std.specs.List.{AllByRecursion}
 use Rattle.blsm_model.specs.declared.key.Key.{Key}
 use Rattle.blsm_model.specs.Format.{most_tail}
@@ -52,7 +52,6 @@ abbrev pub is_free : ℕ → List Chunk → List Head → ℕ → ℕ
 is_free q cs heads free = times q (chain (free_chunks cs heads) cs free)
 
 pub record IsHead (h : Head) : Type 0 where
-  pub key_least : 1 ≤ h.key_len
   pub key_most : h.key_len ≤ 64
   pub text_most : h.text_len ≤ 435
   pub has_text : HasText h.kind h.text_len
@@ -61,6 +60,14 @@ pub record IsHead (h : Head) : Type 0 where
 pub record Stored : Type 0 where
   pub slots : Entries
   pub reserved : ℕ
+
+-- what a place has whose entry was removed
+abbrev pub vacant : Key × Rec
+vacant = ([], rec.Tomb)
+
+-- the place has an entry: its key isn't empty
+abbrev pub HasEntry : Entries → ℕ → Type 0
+HasEntry slots place = 1 ≤ length (get_or slots place vacant).0
 
 -- each chunk is one entry's, or free; and there are chunks and heads for all that the reserve allows
 pub record IsStore (cs : List Chunk) (heads : List Head) (free reserved head_places : ℕ) : Type 0 where
@@ -77,6 +84,7 @@ pub record IsStore (cs : List Chunk) (heads : List Head) (free reserved head_pla
 -- the head of a key and its record, whose bytes begin at a chunk
 pub record IsHeadOf (h : Head) (key : Key) (r : Rec) (first : ℕ) : Type 0 where
   pub first_is : h.first ≡ first
+  pub key_least : 1 ≤ h.key_len
   pub key_len_is : h.key_len ≡ length key
   pub text_len_is : h.text_len ≡ length (text_in r)
   pub rec_is : rec_with h.kind h.count (text_in r) ≡ r

@@ -1,5 +1,5 @@
 //! Keys and records at numbered places.
-ghost use Rattle.std.specs.Prelude.{◌≡◌, ◌+◌, ◌-◌, ◌/◌, ◌<◌, ◌≤◌, ◌++◌, ◌∷◌, [], length, take, drop, set, slice_index_or, IfOk};
+ghost use Rattle.std.specs.Prelude.{◌≡◌, ◌+◌, ◌-◌, ◌*◌, ◌/◌, ◌<◌, ◌≤◌, ◌++◌, ◌∷◌, [], length, take, drop, set, slice_index_or, IfOk};
 ghost use Rattle.blsm_model.specs.declared.key.Key.{Key};
 ghost use Rattle.blsm_model.specs.Format.{least_weight, most_text};
 ghost use Rattle.blsm_model.specs.Keys.{key_cmp};
@@ -7,7 +7,7 @@ ghost use Rattle.record_delta.specs.declared.record.Rec.{Rec};
 ghost use Rattle.record_delta.specs.Records.{text_of as text_in, IsRecord};
 ghost use Rattle.record_delta.specs.Entries.{entries_weight};
 ghost use Rattle.entry_store.specs.Chains.{chunks_for};
-ghost use Rattle.entry_store.specs.Stores.{IsHead, IsHeadOf, HasText, rec_with};
+ghost use Rattle.entry_store.specs.Stores.{IsHead, IsHeadOf, HasText, HasEntry, rec_with, vacant};
 
 use crate::chunks::{CHUNK, Chunk, MOST, compare, fill, give_back, link_all, read};
 use arrayvec::ArrayVec;
@@ -48,6 +48,15 @@ pub(crate) struct Head {
 }
 
 impl Head {
+    // The head of a place that has no entry.
+    const EMPTY: Head = Head {
+        count: 0,
+        first: 0,
+        text_len: 0,
+        key_len: 0,
+        kind: Kind::Tomb,
+    };
+
     fn len(&self) -> usize
         ensures { result ≡ self.now.key_len + self.now.text_len }
     {
@@ -61,7 +70,8 @@ impl Head {
     }
 }
 
-/// Keys and records, each at its place. Contracts see them as a list, and how much they may weigh.
+/// Keys and records, each at its place. Contracts see them as a list, and how much they may weigh. A place whose entry was removed has an
+/// empty key and a tombstone there.
 #[derive(Debug, Drop)]
 pub struct Store {
     heads: Vec<Head>,
@@ -170,6 +180,7 @@ fn record_of(head: Head, bytes: &[u8]) -> Rec
 // The key and the record of a head and its bytes.
 fn parts(head: Head, bytes: &[u8]) -> (Key, Rec)
     requires head { IsHead head }
+    requires key { 1 ≤ head.key_len }
     requires len { length bytes.now ≡ head.key_len + head.text_len }
     ensures { result ≡ (take head.key_len bytes.now, rec_with head.kind head.count (drop head.key_len bytes.now)) }
 {
@@ -196,6 +207,7 @@ fn record_over(head: Head, text: &[u8], rec: &mut Rec)
 // Makes a key and a record those of a head and its bytes.
 fn parts_over(head: Head, bytes: &[u8], key: &mut Key, rec: &mut Rec)
     requires head { IsHead head }
+    requires key { 1 ≤ head.key_len }
     requires len { length bytes.now ≡ head.key_len + head.text_len }
     ensures key { key.new ≡ take head.key_len bytes.now }
     ensures rec { rec.new ≡ rec_with head.kind head.count (drop head.key_len bytes.now) }
@@ -234,9 +246,11 @@ impl Store {
         })
     }
 
-    /// Adds an entry at the next place. All may then weigh at most what was reserved. It takes no memory.
+    /// Adds an entry at the next place. All may then weigh at most what was reserved, and so may as many of the lightest as there are places
+    /// then: that says more only where entries were removed, whose places aren't used again. It takes no memory.
     pub fn push(&mut self, key: &Key, rec: &Rec)
-        requires { entries_weight (self.old.slots ++ (key.now, rec.now) ∷ []) ≤ self.old.reserved }
+        requires fits { entries_weight (self.old.slots ++ (key.now, rec.now) ∷ []) ≤ self.old.reserved }
+        requires place { least_weight * (length self.old.slots + 1) ≤ self.old.reserved }
         ensures added { self.new ≡ record { slots = self.old.slots ++ (key.now, rec.now) ∷ []; reserved = self.old.reserved } }
         ensures in_range { IsRecord rec.now }
     {
@@ -248,9 +262,9 @@ impl Store {
         }
     }
 
-    /// The entry at a place.
+    /// The entry at a place that has one.
     pub fn entry(&self, place: u32) -> (Key, Rec)
-        requires { place < length self.now.slots }
+        requires { HasEntry self.now.slots place }
         ensures { result ≡ slice_index_or self.now.slots place result }
     {
         let head = self.heads[place as usize];
@@ -259,10 +273,10 @@ impl Store {
         parts(head, &bytes.as_slice()[..head.len()])
     }
 
-    /// Reads the entry at a place over another one. Where both are records of one kind, the bytes of the key and of the text are copied, and
+    /// Reads the entry at a place that has one over another one. Where both are records of one kind, the bytes of the key and of the text are copied, and
     /// nothing is blanked for them before.
     pub fn read_over(&self, place: u32, key: &mut Key, rec: &mut Rec)
-        requires { place < length self.now.slots }
+        requires { HasEntry self.now.slots place }
         ensures { (entry : Key × Rec) → (key.new, rec.new) ≡ slice_index_or self.now.slots place entry }
     {
         let head = self.heads[place as usize];
@@ -298,9 +312,9 @@ impl Store {
         )
     }
 
-    /// Another record for the key at a place. All may then weigh at most what was reserved. It takes no memory.
+    /// Another record for the key at a place that has one. All may then weigh at most what was reserved. It takes no memory.
     pub fn set(&mut self, place: u32, key: &Key, rec: &Rec)
-        requires place { place < length self.old.slots }
+        requires place { HasEntry self.old.slots place }
         requires fits { entries_weight (set self.old.slots place (key.now, rec.now)) ≤ self.old.reserved }
         ensures { self.new ≡ record { slots = set self.old.slots place (key.now, rec.now); reserved = self.old.reserved } }
     {
@@ -311,7 +325,18 @@ impl Store {
         self.heads[place as usize] = head;
     }
 
-    /// Removes all entries. The room stays reserved.
+    /// Removes the entry at a place that has one. Its bytes are free at once; the place itself isn't used again until the store is cleared.
+    pub fn vacate(&mut self, place: u32)
+        requires { HasEntry self.old.slots place }
+        ensures { self.new ≡ record { slots = set self.old.slots place vacant; reserved = self.old.reserved } }
+    {
+        let older = self.heads[place as usize];
+        give_back(&mut self.chunks, older.first, older.chunks(), self.free);
+        self.free = older.first;
+        self.heads[place as usize] = Head::EMPTY;
+    }
+
+    /// Removes all entries. The room stays reserved, and all places are free.
     pub fn clear(&mut self)
         ensures { self.new ≡ record { slots = []; reserved = self.old.reserved } }
     {

@@ -140,6 +140,7 @@ pub fn put(rt: &impl Abort, table: &mut Table, key: &Key, rec: &Rec)
     requires { table.old.reserved ≡ 65536 }
     ensures { table.new.reserved ≡ 65536 }
 {
+    assert!(rt; table.floor().is_none() && table.dropped() == 0);
     assert!(rt; table.weight() + weight(key, rec) <= 65_536);
     table.fold_in(key, rec);
 }

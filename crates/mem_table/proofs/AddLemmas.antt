@@ -57,7 +57,8 @@ added_first nodes slots root new few is within =
 not_less_greater : (a b : Key) → key_cmp a b ≢ Less → b ≢ a → key_cmp a b ≡ Greater
 not_less_greater a b not_less differs = grind (arith, common_steps, nat_tests, tied a b)
 
-may_at : (nodes : List Node) (root left right : ℕ) → length nodes ≤ no_node → root < length nodes → Holds nodes left (tree_at nodes left) → Holds nodes right (tree_at nodes right)
+pub may_at : (nodes : List Node) (root left right : ℕ) → length nodes ≤ no_node → root < length nodes → Holds nodes left (tree_at nodes left)
+    → Holds nodes right (tree_at nodes right)
     → IsBalanced (tree_at nodes left) → IsBalanced (tree_at nodes right) → ((q : ℕ) → times q (places (tree_at nodes left)) + one_if q root + times q (places (tree_at nodes right)) ≤ 1)
     → MayHang nodes root left right (tree_at nodes left) (tree_at nodes right)
 may_at nodes root left right few within hl hr bl br apart = record {

@@ -1,14 +1,13 @@
 -- What folding a record into sorted entries does to them and to their weight.
 use Rattle.std.proofs.lemmas.Bool.Decides.{nat_tests}
 use Rattle.std.proofs.lemmas.Grind.{common_steps}
-use Rattle.std.proofs.Common.{◌≡◌, ◌≢◌, ℕ, ◌+◌, ◌-◌, ◌*◌, ◌<◌, ◌≤◌, cond, List, [], ◌∷◌, ◌++◌, length, get_or, set, Some, ap, sym, ◌∙◌, inl, inr, arith}
+use Rattle.std.proofs.Common.{◌≡◌, ◌≢◌, ℕ, ◌+◌, ◌-◌, ◌*◌, ◌≤◌, true, cond, Option, List, [], ◌∷◌, ◌++◌, length, get_or, set, Some, ap, sym, ◌∙◌, inl, inr, arith}
 use Rattle.std.specs.List.{insert, AllByRecursion}
 use Rattle.std.specs.Ordering.{is_eq, eq_by_cmp}
 use Rattle.std.specs.Cmp.{nat_eq_equiv, tied_itself}
 use Rattle.std.specs.Cmp.Lexicographic.{texts_ties, lists_equiv}
 use Rattle.std.specs.FinMap.{put}
 use Rattle.std.specs.FinMap.Entries.{is_sorted-put, find-put}
-use Rattle.std.proofs.lemmas.Bool.{false≢true}
 use Rattle.std.proofs.lemmas.Cmp.{nat_list_cmp_total}
 use Rattle.std.proofs.lemmas.List.Sums.{sum_by-cons, sum_by-set, sum_by-insert}
 use Rattle.blsm_model.specs.declared.key.Key.{Key}
@@ -18,7 +17,7 @@ use Rattle.record_delta.specs.declared.record.Rec.{Rec}
 use Rattle.record_delta.specs.Records.{weight, writes_of_record, IsRecord}
 use Rattle.record_delta.specs.Folding.{fold, over}
 use Rattle.record_delta.proofs.FoldingLemmas.{fold_lighter, stands_rec}
-use Rattle.record_delta.specs.Entries.{Entries, AreSorted, record_of_key, entries_weight, with_record}
+use Rattle.record_delta.specs.Entries.{Entries, AreSorted, record_of_key, entries_weight, with_record, is_above}
 use Rattle.mem_table.specs.Entries.{StandFor}
 use Rattle.mem_table.specs.Tables.{IsTable}
 use Rattle.mem_table.proofs.SortedLemmas.{test_holds, put_at, put_apart}
@@ -38,9 +37,10 @@ pub sorted_with_record : (es : Entries) (key : Key) (rec : Rec) → AreSorted es
 sorted_with_record es key rec sorted =
     test_holds _ (is_sorted-put key_cmp nat_list_cmp_total key (over rec (record_of_key key es)) es (sorted_test es sorted))
 
-pub keys_put : (es : Entries) (key : Key) (rec : Rec) → 1 ≤ length key → AllByRecursion (λ e. 1 ≤ length e.0) es → AllByRecursion (λ e. 1 ≤ length e.0) (put key_cmp key rec es)
-keys_put [] key rec key_least keys = (key_least, tt)
-keys_put (e ∷ es) key rec key_least keys = grind (arith, common_steps, nat_tests, keys_put es key rec key_least keys.1)
+pub all_put : (P : Key → Type 0) (es : Entries) (key : Key) (rec : Rec) → P key → AllByRecursion (λ e. P e.0) es
+    → AllByRecursion (λ e. P e.0) (put key_cmp key rec es)
+all_put P [] key rec here all = (here, tt)
+all_put P (e ∷ es) key rec here all = grind (arith, common_steps, nat_tests, all_put P es key rec here all.1)
 
 -- ---- their weight
 
@@ -95,30 +95,37 @@ stand_more es key rec writes h1 h2 = grind (arith, common_steps, nat_tests, reco
 
 -- ---- a table stays a table
 
-pub table_at : (es : Entries) (kept reserved places : ℕ) (key : Key) (rec : Rec) (i : ℕ) (d : Key × Rec) (before after : ℕ)
-    → IsTable es kept reserved places → IsAt es key i → 1 ≤ length key → entries_weight (with_record key rec es) ≤ reserved
+pub table_at : (es : Entries) (floor : Option Key) (kept dropped reserved places : ℕ) (key : Key) (rec : Rec) (i : ℕ) (d : Key × Rec)
+    (before after : ℕ)
+    → IsTable es floor kept dropped reserved places → IsAt es key i → 1 ≤ length key → is_above floor key ≡ true
+    → entries_weight (with_record key rec es) + dropped ≤ reserved
     → before ≡ weight key (get_or es i d).1 → after ≡ weight key (fold rec (get_or es i d).1)
-    → IsTable (with_record key rec es) (kept - before + after) reserved places
-table_at es kept reserved places key rec i d before after t at key_least fits before_is after_is = grind (arith, common_steps, nat_tests, total_at, weight_at_le, sorted_with_record, keys_put)
+    → IsTable (with_record key rec es) floor (kept - before + after) dropped reserved places
+table_at es floor kept dropped reserved places key rec i d before after t at key_least high fits before_is after_is =
+    let total : kept - before + after ≡ entries_weight (with_record key rec es) =
+    omega (arith, total_at es key rec i d t.sorted at, weight_at_le es key i d at, t.weight_is) in
+    record {
+      sorted = sorted_with_record es key rec t.sorted;
+      above_floor = all_put (λ k. is_above floor k ≡ true) es key (over rec (record_of_key key es)) high t.above_floor;
+      weight_is = total;
+      fits = omega arith;
+      keys = all_put (λ k. 1 ≤ length k) es key (over rec (record_of_key key es)) key_least t.keys;
+      room = t.room;
+    }
 
-pub table_apart : (es : Entries) (kept reserved places more : ℕ) (key : Key) (rec : Rec) (i after : ℕ)
-    → IsTable es kept reserved places → IsGapFor es key i → 1 ≤ length key → entries_weight (with_record key rec es) ≤ reserved
-    → after ≡ weight key rec → places ≤ more → IsTable (with_record key rec es) (kept + after) reserved more
-table_apart es kept reserved places more key rec i after t gap key_least fits after_is grown =
+pub table_apart : (es : Entries) (floor : Option Key) (kept dropped reserved places more : ℕ) (key : Key) (rec : Rec) (i after : ℕ)
+    → IsTable es floor kept dropped reserved places → IsGapFor es key i → 1 ≤ length key → is_above floor key ≡ true
+    → entries_weight (with_record key rec es) + dropped ≤ reserved
+    → after ≡ weight key rec → places ≤ more → IsTable (with_record key rec es) floor (kept + after) dropped reserved more
+table_apart es floor kept dropped reserved places more key rec i after t gap key_least high fits after_is grown =
     let kept_is = t.weight_is in
     let room = t.room in
     let total : kept + after ≡ entries_weight (with_record key rec es) = omega (arith, total_apart es key rec i gap) in
     record {
       sorted = sorted_with_record es key rec t.sorted;
+      above_floor = all_put (λ k. is_above floor k ≡ true) es key (over rec (record_of_key key es)) high t.above_floor;
       weight_is = total;
       fits = omega arith;
-      keys = keys_put es key (over rec (record_of_key key es)) key_least t.keys;
+      keys = all_put (λ k. 1 ≤ length k) es key (over rec (record_of_key key es)) key_least t.keys;
       room = omega arith;
     }
-
--- where one more entry fits there is a place for it
-pub place_left : (es : Entries) (kept reserved places : ℕ) (key : Key) (rec : Rec) (i : ℕ) → IsTable es kept reserved places → IsGapFor es key i → 1 ≤ length key
-    → entries_weight (with_record key rec es) ≤ reserved → length es < places
-place_left es kept reserved places key rec i t gap key_least fits =
-    let room = t.room in
-    omega (arith, total_apart es key rec i gap, least_total es t.keys)

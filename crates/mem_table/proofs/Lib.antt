@@ -7,5 +7,8 @@ pub mod NodeLemmas
 pub mod TurnLemmas
 pub mod WayLemmas
 pub mod AddLemmas
+pub mod TakeLemmas
+pub mod DropLemmas
 pub mod TableLemmas
+pub mod VacateLemmas
 pub mod StepLemmas

@@ -1,18 +1,21 @@
 -- What a search among a table's entries finds.
 use Rattle.std.proofs.lemmas.Bool.Decides.{nat_tests}
 use Rattle.std.proofs.lemmas.Grind.{common_steps}
-use Rattle.std.proofs.Common.{◌≡◌, ℕ, zero, suc, ◌⊎◌, inl, inr, T, [], ◌∷◌, length, get_or, Some, None, Result, Ok, Err, IfOk, IfErr, refl, sym, subst, arith}
+use Rattle.std.proofs.Common.{◌≡◌, ◌≤◌, ℕ, zero, suc, ◌⊎◌, inl, inr, T, [], ◌∷◌, length, get_or, Some, None, Result, Ok, Err, IfOk, IfErr, ◌≢◌, true, false, refl, ap, sym, subst, arith}
 use Rattle.std.specs.List.{AllWithin}
 use Rattle.std.specs.List.Sorted.{IsSearchInRange, IsBinarySearchResult, IsNonDecreasingBy, IsSortedBy}
-use Rattle.std.specs.Ordering.{is_lt, ordering_index}
+use Rattle.std.specs.Ordering.{is_lt, is_eq, eq_by_cmp, ordering_index}
+use Rattle.std.specs.Cmp.{tied_itself}
 use Rattle.std.specs.declared.cmp.Ordering.TheVariants.{Less, Equal, Greater}
 use Rattle.std.specs.FinMap.{slice_cmp-IsAntisymmetric, nat_cmp-IsAntisymmetric, is_sorted}
+use Rattle.std.proofs.lemmas.Bool.{false≢true}
 use Rattle.std.proofs.lemmas.Cmp.{nat_list_cmp_total}
 use Rattle.std.proofs.lemmas.List.Sorted.{searchable_from_sorted}
 use Rattle.blsm_model.specs.declared.key.Key.{Key}
 use Rattle.blsm_model.specs.Keys.{key_cmp}
 use Rattle.record_delta.specs.declared.record.Rec.{Rec}
 use Rattle.record_delta.specs.Entries.{Entries, AreSorted, record_of_key}
+use Rattle.mem_table.specs.Tables.{is_there}
 use Rattle.mem_table.proofs.SortedLemmas.{both_hold, turned, rising, find_at, Parts, find_apart}
 use Rattle.mem_table.proofs.Terms.{IsAt, IsGapFor}
 
@@ -21,6 +24,29 @@ sorted_test es sorted = subst T (sym sorted) tt
 
 pub tied : (a b : Key) → key_cmp a b ≡ Equal → a ≡ b
 tied a b e = slice_cmp-IsAntisymmetric nat_cmp-IsAntisymmetric a b e
+
+-- ---- the test for a key
+
+pub test_same : (key k : Key) → key ≡ k → eq_by_cmp key_cmp key k ≡ true
+test_same key k is = ap is_eq (subst (λ (x : Key). key_cmp key x ≡ Equal) is (tied_itself nat_list_cmp_total key))
+
+pub test_other : (key k : Key) → key ≢ k → eq_by_cmp key_cmp key k ≡ false
+test_other key k h1 = grind (arith, common_steps, nat_tests, tied)
+
+pub same_by_test : (key k : Key) → eq_by_cmp key_cmp key k ≡ true → key ≡ k
+same_by_test key k h1 = grind (arith, common_steps, nat_tests, tied)
+
+pub there_same : (key k : Key) → 1 ≤ length k → key ≡ k → is_there key k ≡ true
+there_same key [] some is = absurd (omega (arith, some))
+there_same key (b ∷ k) some is = test_same key (b ∷ k) is
+
+pub there_other : (key k : Key) → (1 ≤ length k → key ≢ k) → is_there key k ≡ false
+there_other key [] differs = refl
+there_other key (b ∷ k) differs = test_other key (b ∷ k) (differs (omega arith))
+
+pub same_there : (key k : Key) → is_there key k ≡ true → (key ≡ k) × (1 ≤ length k)
+same_there key [] is = absurd (false≢true is)
+same_there key (b ∷ k) is = (same_by_test key (b ∷ k) is, omega arith)
 
 -- no key is below the one before it
 not_falling : (es : Entries) → AreSorted es → IsSortedBy (λ a b. is_lt (key_cmp a.0 b.0)) es

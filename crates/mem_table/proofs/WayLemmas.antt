@@ -49,7 +49,7 @@ below_seam k (x ∷ es) e fs h =
     let rest = below_seam k es e fs (both_hold _ _ h).1 in
     (both_true _ _ (both_hold _ _ h).0 rest.0, rest.1)
 
-all_beyond : (k : Key) (fs : Entries) → T (below_all key_cmp k fs) → AllByRecursion (λ x. key_cmp k x.0 ≡ Less) fs
+pub all_beyond : (k : Key) (fs : Entries) → T (below_all key_cmp k fs) → AllByRecursion (λ x. key_cmp k x.0 ≡ Less) fs
 all_beyond k [] h = tt
 all_beyond k (x ∷ fs) h = (less_from_test _ (both_hold _ _ h).0, all_beyond k fs (both_hold _ _ h).1)
 

@@ -1,5 +1,5 @@
 -- The trees that numbered nodes make.
-use Rattle.std.specs.Prelude.{◌≡◌, ℕ, zero, suc, ◌+◌, ◌<◌, ◌≤◌, max, List, [], ◌∷◌, ◌++◌, length, get_or, set, nat_eq, if◌then◌else◌}
+use Rattle.std.specs.Prelude.{◌≡◌, ◌≢◌, ℕ, zero, suc, ◌+◌, ◌<◌, ◌≤◌, max, List, [], ◌∷◌, ◌++◌, length, get_or, set, nat_eq, if◌then◌else◌}
 use Rattle.mem_table.specs.declared.nodes.Node.{Node}
 
 pub data Tree : Type 0 where
@@ -88,3 +88,20 @@ pub record IsHung (old new : List Node) (at : ℕ) (l r : Tree) (top : ℕ) (t :
   pub one_higher : height t ≤ max (height l) (height r) + 1
   pub as_high : height l ≤ height r + 1 → height r ≤ height l + 1 → height t ≡ max (height l) (height r) + 1
   pub others : (q : ℕ) → times q (places l ++ at ∷ places r) ≡ 0 → node_at new q ≡ node_at old q
+
+-- a tree whose first node may be taken out of it
+pub record MayLoseOne (nodes : List Node) (root : ℕ) : Type 0 where
+  pub few : length nodes ≤ no_node
+  pub there : root ≢ no_node
+  pub holds : Holds nodes root (tree_at nodes root)
+  pub balanced : IsBalanced (tree_at nodes root)
+  pub once : (q : ℕ) → times q (places (tree_at nodes root)) ≤ 1
+
+-- the tree without its first node; all nodes outside it are as they were
+pub record IsTaken (old new : List Node) (root least top : ℕ) : Type 0 where
+  pub holds : Holds new top (tree_at new top)
+  pub balanced : IsBalanced (tree_at new top)
+  pub places_are : places (tree_at old root) ≡ least ∷ places (tree_at new top)
+  pub not_higher : height (tree_at new top) ≤ height (tree_at old root)
+  pub one_lower : height (tree_at old root) ≤ height (tree_at new top) + 1
+  pub others : (q : ℕ) → times q (places (tree_at old root)) ≡ 0 → node_at new q ≡ node_at old q

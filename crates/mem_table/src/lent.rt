@@ -1,6 +1,7 @@
 //! An entry of a table, where it lies.
 ghost use Rattle.std.specs.Prelude.{◌≡◌, ◌<◌, length};
 ghost use Rattle.blsm_model.specs.Keys.{key_cmp};
+ghost use Rattle.entry_store.specs.Stores.{HasEntry};
 ghost use Rattle.mem_table.specs.Ways.{entry_at};
 
 use blsm_model::Key;
@@ -20,19 +21,21 @@ impl<'a> Model for LentEntry<'a> {
     ghost use Rattle.std.specs.Prelude.{◌<◌, length};
     ghost use Rattle.blsm_model.specs.declared.key.Key.{Key};
     ghost use Rattle.record_delta.specs.declared.record.Rec.{Rec};
+    ghost use Rattle.entry_store.specs.Stores.{HasEntry};
     ghost use Rattle.mem_table.specs.Ways.{entry_at};
 
     ghost Value = { Key × Rec };
 
     ghost view = { λ e. entry_at e.store.now.slots e.place };
 
-    ghost invariant = { λ e. e.place < length e.store.now.slots };
+    ghost invariant = { λ e. (e.place < length e.store.now.slots) × HasEntry e.store.now.slots e.place };
 }
 
 impl<'a> LentEntry<'a> {
     // The entry at a place.
     pub(crate) fn at(store: &'a Store, place: u32) -> LentEntry<'a>
-        requires { place < length store.now.slots }
+        requires place { place < length store.now.slots }
+        requires entry { HasEntry store.now.slots place }
         ensures { result ≡ entry_at store.now.slots place }
     {
         LentEntry { store, place }

@@ -1,19 +1,19 @@
 //! A balanced tree of keys and records.
-ghost use Rattle.std.specs.Prelude.{◌≡◌, ◌≢◌, ◌+◌, ◌-◌, ◌*◌, ◌^◌, ◌≤◌, ◌<◌, ◌↔◌, [], ◌++◌, List, Some, None, IfOk, IfSome, IsNone, IsSome, length};
+ghost use Rattle.std.specs.Prelude.{◌≡◌, ◌≢◌, ◌+◌, ◌-◌, ◌*◌, ◌^◌, ◌≤◌, ◌<◌, ◌↔◌, ◌++◌, List, Some, None, IfOk, IfSome, IsNone, IsSome, IsTrue, false, length, if◌then◌else◌};
 ghost use Rattle.std.specs.List.{HoldsAt};
 ghost use Rattle.blsm_model.specs.declared.key.Key.{Key};
 ghost use Rattle.blsm_model.specs.declared.op.Write.{Write};
 ghost use Rattle.record_delta.specs.declared.record.Rec.{Rec};
 ghost use Rattle.record_delta.specs.Records.{writes_of_record, IsRecord, weight as weight_with};
 ghost use Rattle.record_delta.specs.Folding.{over};
-ghost use Rattle.record_delta.specs.Entries.{AreSorted, entries_weight, record_of_key, with_record, above, first_of};
+ghost use Rattle.record_delta.specs.Entries.{AreSorted, entries_weight, record_of_key, with_record, is_above as is_above_key, above, first_of};
 ghost use Rattle.mem_table.specs.Entries.{StandFor};
-ghost use Rattle.mem_table.specs.Tables.{IsFoldedIn, place_in, arrived_with};
+ghost use Rattle.mem_table.specs.Tables.{IsFoldedIn, empty_table, place_in, arrived_with, dropped_to, begins_by};
 
 use crate::lent::LentEntry;
 use crate::nodes::{NONE, Node};
 use crate::steps::Steps;
-use crate::ways::{add_under, find, find_above, find_in};
+use crate::ways::{add_under, find, find_above, find_in, take_least};
 use blsm_model::Key;
 use entry_store::{LEAST_WEIGHT, Store, places_for};
 use record_delta::{Rec, fold, weight};
@@ -23,13 +23,16 @@ use std::marker::Model;
 use std::mem::size_of;
 use std::sync::ledger::Ledger;
 
-/// The memory table. Contracts see its entries, sorted by key, how much they may weigh, and the keys in the order in which they came.
+/// The memory table. Contracts see its entries, sorted by key, how much they may weigh, the keys in the order in which they came, and the key
+/// up to which it was dropped, with the weight of what was.
 #[derive(Debug, Drop)]
 pub struct Table {
     store: Store,
     nodes: Vec<Node>,
     root: u32,
     weight: u64,
+    floor: Option<Key>,
+    dropped: u64,
 }
 
 impl Model for Table {
@@ -39,13 +42,29 @@ impl Model for Table {
 
     ghost Value = { Contents };
 
-    ghost view = { λ t. record { entries = tree_entries t.nodes.items t.store.slots t.root; reserved = t.store.reserved; arrived = keys_of t.store.slots } };
+    ghost view = { λ t. record {
+      entries = tree_entries t.nodes.items t.store.slots t.root;
+      reserved = t.store.reserved;
+      arrived = keys_of t.store.slots;
+      floor = t.floor;
+      dropped = t.dropped;
+    } };
 
-    ghost invariant = { λ t. IsArena t.nodes.items t.store.slots t.root t.weight t.store.reserved (vec_capacity t.nodes) };
+    ghost invariant = { λ t. IsArena t.nodes.items t.store.slots t.root t.floor t.weight t.dropped t.store.reserved (vec_capacity t.nodes) };
 }
 
 // At most four bytes of memory for each byte of weight.
 const _: () = prove!(Table::PLACE_BYTES as u64 <= 4 * LEAST_WEIGHT);
+
+// Whether a key is above a floor.
+fn is_above(floor: &Option<Key>, key: &Key) -> bool
+    ensures { result ≡ is_above_key floor.now key.now }
+{
+    match floor {
+        Some(floor) => floor.cmp(key).is_lt(),
+        None => true,
+    }
+}
 
 impl Table {
     /// How many bytes of memory a place takes: a node, and what the store has for it.
@@ -55,7 +74,7 @@ impl Table {
     /// entries at once, which is 48 bytes for 14, and none later; where that is refused, or they are 2^32 - 1 or more, there
     /// is no table.
     pub fn reserve(alloc: Global, weight: u64) -> Result<Table, NoMemory>
-        ensures { IfOk result (λ table. table ≡ record { entries = []; reserved = weight; arrived = [] }) }
+        ensures { IfOk result (λ table. table ≡ empty_table weight) }
     {
         let places = places_for(weight);
         if places >= NONE as u64 {
@@ -66,28 +85,47 @@ impl Table {
             nodes: Vec::with_capacity(alloc, places as usize)?,
             root: NONE,
             weight: 0,
+            floor: None,
+            dropped: 0,
         })
     }
 
-    /// Removes all entries. The room stays reserved.
+    /// Removes all entries, and forgets what was dropped. The room stays reserved, and all places are free.
     pub fn clear(&mut self)
-        ensures { self.new ≡ record { entries = []; reserved = self.old.reserved; arrived = [] } }
+        ensures { self.new ≡ empty_table self.old.reserved }
     {
         self.store.clear();
         self.nodes.clear();
         self.root = NONE;
         self.weight = 0;
+        self.floor = None;
+        self.dropped = 0;
     }
 
     /// The weight of all entries, in bytes.
     pub fn weight(&self) -> u64
         ensures weight { result ≡ entries_weight self.now.entries }
-        ensures fits { result ≤ self.now.reserved }
+        ensures fits { result + self.now.dropped ≤ self.now.reserved }
         ensures sorted { AreSorted self.now.entries }
         // To fold a record in adds at most its weight.
         ensures more { (key : Key) (rec : Rec) → entries_weight (with_record key rec self.now.entries) ≤ result + weight_with key rec }
     {
         self.weight
+    }
+
+    /// How much the entries weighed that were dropped since the table was empty, in bytes.
+    pub fn dropped(&self) -> u64
+        ensures { result ≡ self.now.dropped }
+    {
+        self.dropped
+    }
+
+    /// The key up to which the table was dropped, if it was.
+    pub fn floor(&self) -> &Option<Key>
+        ensures floor { result.now ≡ self.now.floor }
+        ensures above { above self.now.floor self.now.entries ≡ self.now.entries }
+    {
+        &self.floor
     }
 
     /// The record of a key, if it has one.
@@ -113,8 +151,8 @@ impl Table {
         }
     }
 
-    /// The place of a key: `None` exactly where it has no record. A place is one key's until the table is cleared, whatever is
-    /// folded in.
+    /// The place of a key: `None` exactly where it has no record. A place is one key's until the key is dropped, and nobody's then until the
+    /// table is cleared.
     pub fn place_of(&self, key: &Key) -> Option<u32>
         ensures place { result ≡ place_in key.now self.now.arrived }
         ensures holder { IfSome result (HoldsAt (λ k. k ≡ key.now) self.now.arrived) }
@@ -123,15 +161,18 @@ impl Table {
         find(&self.nodes, &self.store, self.root, key)
     }
 
-    /// Folds a record over the one of its key, or adds it where the key is new. All other keys keep their records. The
-    /// table may then weigh at most what was reserved. It takes no memory.
-    /// A clause each for the entries as a list, by key, by weight, and as they stand in their places.
+    /// Folds a record over the one of its key, or adds it where the key is new. All other keys keep their records. The key is above the one up
+    /// to which the table was dropped, which any key is where nothing was. The table, with what was dropped, may then weigh at most what was
+    /// reserved. It takes no memory.
+    /// A clause each for the entries as a list, by key, by weight, and as they stand in their places, and for what stays.
     pub fn fold_in(&mut self, key: &Key, rec: &Rec)
-        requires { entries_weight (with_record key.now rec.now self.old.entries) ≤ self.old.reserved }
+        requires above { IsTrue (is_above_key self.old.floor key.now) }
+        requires fits { entries_weight (with_record key.now rec.now self.old.entries) + self.old.dropped ≤ self.old.reserved }
         ensures entries { self.new.entries ≡ with_record key.now rec.now self.old.entries }
         ensures this { record_of_key key.now self.new.entries ≡ Some (over rec.now (record_of_key key.now self.old.entries)) }
         ensures others { (other : Key) → other ≢ key.now → record_of_key other self.new.entries ≡ record_of_key other self.old.entries }
         ensures reserved { self.new.reserved ≡ self.old.reserved }
+        ensures kept { (self.new.floor ≡ self.old.floor) × (self.new.dropped ≡ self.old.dropped) }
         ensures weight { entries_weight self.new.entries ≤ entries_weight self.old.entries + weight_with key.now rec.now }
         // Where the entries stood for writes, they stand for those and this record's.
         ensures stands { (writes : List Write) → StandFor self.old.entries writes → StandFor self.new.entries (writes ++ writes_of_record key.now rec.now) }
@@ -148,7 +189,8 @@ impl Table {
     // Folds a record over the one at a place.
     fn fold_at(&mut self, place: u32, key: &Key, rec: &Rec)
         requires place { place_in key.now self.old.arrived ≡ Some place }
-        requires fits { entries_weight (with_record key.now rec.now self.old.entries) ≤ self.old.reserved }
+        requires above { IsTrue (is_above_key self.old.floor key.now) }
+        requires fits { entries_weight (with_record key.now rec.now self.old.entries) + self.old.dropped ≤ self.old.reserved }
         ensures folded { IsFoldedIn key.now rec.now self.old self.new }
         ensures in_range { IsRecord rec.now }
         ensures sorted { AreSorted self.old.entries }
@@ -164,7 +206,8 @@ impl Table {
     fn add(&mut self, key: &Key, rec: &Rec)
         requires absent { record_of_key key.now self.old.entries ≡ None }
         requires place { place_in key.now self.old.arrived ≡ None }
-        requires fits { entries_weight (with_record key.now rec.now self.old.entries) ≤ self.old.reserved }
+        requires above { IsTrue (is_above_key self.old.floor key.now) }
+        requires fits { entries_weight (with_record key.now rec.now self.old.entries) + self.old.dropped ≤ self.old.reserved }
         ensures folded { IsFoldedIn key.now rec.now self.old self.new }
         ensures in_range { IsRecord rec.now }
         ensures sorted { AreSorted self.old.entries }
@@ -177,6 +220,57 @@ impl Table {
             Err(_) => unreachable!(),
         }
         self.root = add_under(&mut self.nodes, &self.store, self.root, key, place);
+    }
+
+    /// Removes all keys up to this one, with their records. All others keep their records and their places. The bytes of what is removed are
+    /// free at once, its places when the table is cleared, and until then its weight counts in what is reserved. It takes no memory.
+    pub fn drop_to(&mut self, key: &Key)
+        ensures dropped { self.new ≡ dropped_to key.now self.old }
+        ensures records { (other : Key) → record_of_key other self.new.entries
+            ≡ (if is_above_key (Some key.now) other then record_of_key other self.old.entries else None) }
+        ensures places { (other : Key) → IsTrue (is_above_key (Some key.now) other)
+            → place_in other self.new.arrived ≡ place_in other self.old.arrived }
+    {
+        'least: while self.begins_by(key) {
+            self.drop_least();
+        }
+        self.raise_floor(key);
+    }
+
+    // Whether the least key, if there is one, isn't above this one.
+    fn begins_by(&self, key: &Key) -> bool
+        ensures { result ≡ begins_by key.now self.now.entries }
+    {
+        match self.first_above(&None) {
+            Some(first) => first.compare(key).is_ge(),
+            None => false,
+        }
+    }
+
+    // Takes the least key out of the tree, and vacates its place.
+    fn drop_least(&mut self)
+        requires { 1 ≤ length self.old.entries }
+        ensures dropped { IfSome (first_of self.old.entries) (λ e. self.new ≡ dropped_to e.0 self.old) }
+        ensures fewer { length self.new.entries < length self.old.entries }
+    {
+        let (least, top) = take_least(&mut self.nodes, self.root);
+        let (key, rec) = self.store.entry(least);
+        let weight = weight(&key, &rec);
+        self.store.vacate(least);
+        self.root = top;
+        self.weight -= weight;
+        self.dropped += weight;
+        self.floor = Some(key);
+    }
+
+    // The floor is this key, where it was lower, and no key is up to it.
+    fn raise_floor(&mut self, key: &Key)
+        requires { begins_by key.now self.old.entries ≡ false }
+        ensures { self.new ≡ dropped_to key.now self.old }
+    {
+        if is_above(&self.floor, key) {
+            self.floor = Some(key.copy());
+        }
     }
 
     /// The entry of the least key above this one, or of the least key where this is `None`.

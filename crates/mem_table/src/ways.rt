@@ -1,7 +1,7 @@
 //! Ways down the tree, by the keys of its nodes.
 ghost use Rattle.std.specs.Prelude.{◌≡◌, ◌+◌, ◌<◌, ◌≤◌, ◌^◌, length, IfSome, IfNone};
 ghost use Rattle.record_delta.specs.Entries.{is_above as is_above_key};
-ghost use Rattle.mem_table.specs.Shapes.{height_of, places, tree_at, IsBalanced};
+ghost use Rattle.mem_table.specs.Shapes.{height_of, places, tree_at, IsBalanced, MayLoseOne, IsTaken};
 ghost use Rattle.mem_table.specs.Ways.{IsTree, IsPlaced, AreWithout, IsNew, IsAdded, entry_at, tree_entries, place_above, or_else, place_of};
 
 use crate::nodes::{NONE, Node, join, settle};
@@ -140,4 +140,18 @@ pub(crate) fn add_under(nodes: &mut [Node], store: &Store, root: u32, key: &Key,
             settle(nodes, root, node.left, right)
         }
     }
+}
+
+// Takes the node of the least key out of the tree at a node. It gives that node's number, and the node that is then on top.
+pub(crate) fn take_least(nodes: &mut [Node], root: u32) -> (u32, u32)
+    requires may { MayLoseOne nodes.old root }
+    requires low { height_of nodes.old root < 2 ^ 32 }
+    ensures { IsTaken nodes.old nodes.new root result.0 result.1 }
+{
+    let node = nodes[root as usize];
+    if node.left == NONE {
+        return (root, node.right);
+    }
+    let (least, left) = take_least(nodes, node.left);
+    (least, settle(nodes, root, left, node.right))
 }

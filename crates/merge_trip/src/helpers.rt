@@ -163,6 +163,7 @@ impl Memory {
     }
 
     pub fn fold_in(&mut self, rt: &impl Abort, key: &Key, rec: &Rec) {
+        assert!(rt; self.table.floor().is_none() && self.table.dropped() == 0);
         assert!(rt; self.table.weight() + weight(key, rec) <= RESERVED);
         self.table.fold_in(key, rec);
     }

@@ -1,5 +1,6 @@
 // The memory table, beside the list of the writes.
-ghost use Rattle.std.specs.Prelude.{◌≡◌, ◌<◌};
+ghost use Rattle.std.specs.Prelude.{◌≡◌, ◌<◌, ◌≤◌};
+ghost use Rattle.record_delta.specs.Entries.{is_above};
 
 use crate::asserts::{assert_same, assert_that};
 use crate::samples::{all_fit, base, fits, key, value};
@@ -11,11 +12,12 @@ use std::marker::Brand;
 use std::process::Abort;
 use std::sync::ledger::{Blank, Ledger};
 
-const RESERVED: u64 = 65_536;
+/// How much a table of these tests may weigh, in bytes.
+pub const RESERVED: u64 = 65_536;
 
-// Knuth's linear congruential generator.
+/// Knuth's linear congruential generator.
 #[derive(Drop)]
-struct Draws(u64);
+pub struct Draws(pub u64);
 
 impl Draws {
     fn below(&mut self, limit: u64) -> u64
@@ -49,8 +51,8 @@ fn any_tail(rt: &impl Abort, draws: &mut Draws, key: Key) -> Write {
     Write::Tail(key, Text::from_bytes(tail).expect(rt, "a text"))
 }
 
-// Of twelve six are puts, three adds, two tails and one a del. Sums of counts wrap often.
-fn any_write(rt: &impl Abort, draws: &mut Draws) -> Write {
+/// Of twelve six are puts, three adds, two tails and one a del. Sums of counts wrap often.
+pub fn any_write(rt: &impl Abort, draws: &mut Draws) -> Write {
     let key = any_key(rt, draws);
     let count = draws.below(3) * (u64::MAX / 3) + draws.below(100);
     match draws.below(12) {
@@ -67,13 +69,33 @@ fn any_write(rt: &impl Abort, draws: &mut Draws) -> Write {
     }
 }
 
+/// Whether a key is above the one up to which the table was dropped.
+pub fn is_free(table: &Table, key: &Key) -> bool
+    ensures { result ≡ is_above table.now.floor key.now }
+{
+    match table.floor() {
+        Some(floor) => floor < key,
+        None => true,
+    }
+}
+
+/// Folds a record into a table of this weight that has room for it.
+pub fn fold_within(rt: &impl Abort, table: &mut Table, room: u64, key: &Key, rec: &Rec)
+    requires reserved { table.old.reserved ≡ room }
+    requires small { room ≤ RESERVED }
+    ensures { table.new.reserved ≡ room }
+{
+    assert_that(rt, is_free(table, key));
+    assert!(rt; table.weight() + table.dropped() + weight(key, rec) <= room);
+    table.fold_in(key, rec);
+}
+
 // Folds a write into a table that has room for it.
 fn fold_in(rt: &impl Abort, table: &mut Table, key: &Key, rec: &Rec)
     requires { table.old.reserved ≡ RESERVED }
     ensures { table.new.reserved ≡ RESERVED }
 {
-    assert!(rt; table.weight() + weight(key, rec) <= RESERVED);
-    table.fold_in(key, rec);
+    fold_within(rt, table, RESERVED, key, rec);
 }
 
 fn settled(table: &Table, key: &Key) -> Option<Value> {
@@ -83,7 +105,8 @@ fn settled(table: &Table, key: &Key) -> Option<Value> {
     }
 }
 
-fn reserved(rt: &impl Abort, alloc: Global) -> Table
+/// An empty table.
+pub fn reserved(rt: &impl Abort, alloc: Global) -> Table
     ensures { result.reserved ≡ RESERVED }
 {
     match Table::reserve(alloc, RESERVED) {
@@ -191,8 +214,8 @@ fn fold_of(rt: &impl Abort, table: &mut Table, name: &[u8], rec: Rec)
     fold_in(rt, table, &key(rt, name), &rec);
 }
 
-// The record of a key, by a search whose comparisons are counted.
-fn searched<L: Ledger>(table: &Table, key: &Key, blank: Blank) -> Option<Rec>
+/// The record of a key, by a search whose comparisons are counted.
+pub fn searched<L: Ledger>(table: &Table, key: &Key, blank: Blank) -> Option<Rec>
     requires name { blank.name ≡ L.name }
     requires parts { blank.parts ≡ L.parts }
     requires some { 0 < blank.parts }

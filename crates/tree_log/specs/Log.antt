@@ -5,7 +5,7 @@ use Rattle.blsm_model.specs.declared.key.Key.{Key}
 use Rattle.record_delta.specs.declared.record.Rec.{Rec}
 use Rattle.record_delta.specs.Records.{weight}
 use Rattle.record_delta.specs.Entries.{entries_weight, replayed, with_record}
-use Rattle.mem_table.specs.Tables.{Contents, arrived_with}
+use Rattle.mem_table.specs.Tables.{Contents, IsWhole, arrived_with, empty_table}
 use Rattle.gated_log.specs.Lane.{blocks}
 use Rattle.gated_log.specs.Lanes.{LanesState, end_of, moved, turned}
 use Rattle.tree_machine.specs.Lists.{Lists}
@@ -18,10 +18,13 @@ pub record LogState : Type 0 where
   pub b : Contents
   pub lanes : LanesState
 
--- what holds of it always: three lanes have the three roles, and the weight of both tables is a number of the program
+-- what holds of it always: three lanes have the three roles, the weight of both tables is a number of the program, and nothing was dropped
+-- of them
 pub record IsLog (log : LogState) : Type 0 where
   pub roles : AreRoles log.lanes.roles
   pub small : log.a.reserved + log.b.reserved < 2 ^ 64
+  pub whole_a : IsWhole log.a
+  pub whole_b : IsWhole log.b
 
 -- ---- what is read off it
 
@@ -50,7 +53,7 @@ table_for false log = log.b
 
 -- with the record folded in
 abbrev pub folded_into : Key → Rec → Contents → Contents
-folded_into key rec table = record { entries = with_record key rec table.entries; reserved = table.reserved; arrived = arrived_with key table.arrived }
+folded_into key rec table = record table { entries = with_record key rec table.entries; arrived = arrived_with key table.arrived }
 
 -- with one entry more: its lane ends behind it, and it is in its table
 abbrev pub with_entry : Bool → Key → Rec → LogState → LogState
@@ -59,7 +62,7 @@ with_entry false key rec log = record log { b = folded_into key rec log.b; lanes
 
 -- table A is dropped, B is A, and B is empty; the lanes turn
 abbrev pub turned_log : LogState → LogState
-turned_log log = record { a = log.b; b = record { entries = []; reserved = log.a.reserved; arrived = [] }; lanes = turned log.lanes }
+turned_log log = record { a = log.b; b = empty_table log.a.reserved; lanes = turned log.lanes }
 
 -- An entry of this weight was appended: its lane is longer by it and its gate, and the other lane ends where it did.
 pub record Grows (ahead : Bool) (w : ℕ) (old new : LogState) : Type 0 where

@@ -6,6 +6,7 @@ ghost use Rattle.blsm_model.specs.Geometry.{file_length};
 ghost use Rattle.blsm_model.specs.Lanes.{region_length};
 ghost use Rattle.record_delta.specs.Records.{weight};
 ghost use Rattle.record_delta.specs.Entries.{entries_weight, over_any, record_of_key, with_record};
+ghost use Rattle.mem_table.specs.Tables.{IsWhole};
 ghost use Rattle.gated_write.specs.Ends.{EndsSynced};
 ghost use Rattle.gated_log.specs.Lane.{lane_region, Appends};
 ghost use Rattle.gated_log.specs.Lanes.{end_of, moved};
@@ -50,6 +51,7 @@ fn append_to<D: Disk>(
 ) -> Result<(), Failed>
     requires lane { lane < 3 }
     requires fits { end_of lanes.old lane + 1 + weight key.now rec.now + 1 ≤ region_length lanes.old.sizes }
+    requires whole { IsWhole table.old }
     requires room { entries_weight (with_record key.now rec.now table.old.entries) ≤ table.old.reserved }
     requires length { IsTrue (D.state disk.old).tells_bytes → length (D.state disk.old).bytes ≡ file_length lanes.old.sizes }
     ensures lanes { lanes.new ≡ (if is_ok result then moved lanes.old lane (weight key.now rec.now + 1) else lanes.old) }
@@ -66,9 +68,11 @@ fn append_to<D: Disk>(
 }
 
 impl LoggedTables {
-    /// The memory table of two tables that were replayed from these lanes, A and B. What both may weigh together is a 64-bit number.
+    /// The memory table of two tables that were replayed from these lanes, A and B, of which nothing was dropped. What both may weigh together
+    /// is a 64-bit number.
     pub fn open(a: Table, b: Table, lanes: Lanes) -> LoggedTables
         requires small { a.reserved + b.reserved < 2 ^ 64 }
+        requires whole { IsWhole a × IsWhole b }
         ensures { result ≡ record { a = a; b = b; lanes = lanes } }
     {
         // The lanes have their roles.

@@ -12,6 +12,7 @@ use Rattle.page_file.specs.declared.file.Broken.{Broken}
 use Rattle.page_file.specs.declared.file.Broken.TheVariants as broken
 use Rattle.page_file.specs.Component.{RunPage, ReadsAs, numbers_of}
 use Rattle.page_space.specs.Space.{HasRole, SpaceState}
+use Rattle.mem_table.specs.Tables.{IsWhole}
 use Rattle.gated_log.specs.Lane.{HasEntries, blocks}
 use Rattle.gated_log.specs.Lanes.{end_of}
 use Rattle.catalog_swap.specs.declared.catalog.Catalog.{Catalog}
@@ -95,6 +96,8 @@ pub record IsFound (found : Found) (honest : Bool) (file : List ℕ) : Type 0 wh
       (record { place = end_of found.lanes (b_of found.catalogue.lanes); records = found.records_b }) honest file
   pub reserved_a : found.a.reserved ≡ high_mark found.geometry + most_weight
   pub reserved_b : found.b.reserved ≡ high_mark found.geometry + most_weight
+  pub whole_a : IsWhole found.a
+  pub whole_b : IsWhole found.b
 
 -- The file holds a tree of the sizes that were found, with what was found of it.
 pub record HoldsFound (found : Found) (file : List ℕ) : Type 0 where

@@ -5,6 +5,7 @@ ghost use Rattle.disk_trait.specs.Reads.{OnlyReads};
 ghost use Rattle.blsm_model.specs.Format.{most_weight};
 ghost use Rattle.blsm_model.specs.Geometry.{file_length};
 ghost use Rattle.record_delta.specs.Entries.{entries_weight, with_record};
+ghost use Rattle.mem_table.specs.Tables.{IsWhole};
 ghost use Rattle.tree_reading.specs.Lane.{TellsReplay, lane_calls};
 
 use blsm_model::{Geometry, Key};
@@ -26,8 +27,10 @@ pub struct LaneEnd {
 fn take(table: &mut Table, room: u64, lane: u8, key: &Key, rec: &Rec) -> Result<(), LaneBroken>
     requires held { entries_weight table.old.entries ≤ room }
     requires reserved { room + most_weight ≤ table.old.reserved }
+    requires whole { IsWhole table.old }
     ensures folded { table.new.entries ≡ with_record key.now rec.now table.old.entries }
     ensures reserved { table.new.reserved ≡ table.old.reserved }
+    ensures whole { IsWhole table.new }
     ensures within { OnOk result (entries_weight table.new.entries ≤ room) }
     ensures heavy { OnErr result (room < entries_weight table.new.entries) }
     ensures lane { OnErr result (result ≡ Err (LaneBroken.Damaged lane)) }
@@ -58,9 +61,11 @@ pub(crate) fn replay_lane<D: Disk>(
     requires lane { lane < 3 }
     requires empty { table.old.entries ≡ [] }
     requires reserved { room + most_weight ≤ table.old.reserved }
+    requires whole { IsWhole table.old }
     requires length { IsTrue (D.state disk.old).tells_bytes → length (D.state disk.old).bytes ≡ file_length geo.now }
     ensures tells { TellsReplay geo.now lane room table.new.entries (D.state disk.old).is_honest (D.state disk.old).bytes result }
     ensures reserved { table.new.reserved ≡ table.old.reserved }
+    ensures whole { IsWhole table.new }
     ensures faults { TellsFaultsBy (Err LaneBroken.Fault) result (D.state disk.old) (D.state disk.new) }
     ensures effect { OnlyReads (file_length geo.now) (lane_calls geo.now) (D.state disk.old) (D.state disk.new) }
     ensures calls { IfOk result (λ end. (D.state disk.new).clock ≤ (D.state disk.old).clock + (end.records + 1)) }

@@ -4,6 +4,7 @@ ghost use Rattle.disk_trait.specs.Disk.{TellsFaultsBy};
 ghost use Rattle.disk_trait.specs.Reads.{OnlyReads};
 ghost use Rattle.blsm_model.specs.Format.{most_weight};
 ghost use Rattle.blsm_model.specs.Geometry.{file_length, high_mark};
+ghost use Rattle.mem_table.specs.Tables.{IsWhole};
 ghost use Rattle.page_file.specs.Component.{RunPage};
 ghost use Rattle.tree_reading.specs.Damage.{HasCatalogue, HasComponents, IsDamagedLog, catalogue_weight, room_for_a};
 ghost use Rattle.tree_reading.specs.Lane.{lane_calls};
@@ -49,6 +50,7 @@ fn replay_both<D: Disk>(
     requires empty_b { b.old.entries ≡ [] }
     requires reserved_a { high_mark head.now.geometry + most_weight ≤ a.old.reserved }
     requires reserved_b { high_mark head.now.geometry + most_weight ≤ b.old.reserved }
+    requires whole { IsWhole a.old × IsWhole b.old }
     requires length { IsTrue (D.state disk.old).tells_bytes → length (D.state disk.old).bytes ≡ file_length head.now.geometry }
     ensures replayed { IfOk result (λ ends. AreReplayed head.now.geometry head.now.catalogue a.new.entries b.new.entries ends.a ends.b
         (D.state disk.old).is_honest (D.state disk.old).bytes) }
@@ -56,6 +58,7 @@ fn replay_both<D: Disk>(
         → IsDamagedLog head.now.geometry head.now.catalogue n (D.state disk.old).bytes }
     ensures reserved_a { a.new.reserved ≡ a.old.reserved }
     ensures reserved_b { b.new.reserved ≡ b.old.reserved }
+    ensures whole { IsWhole a.new × IsWhole b.new }
     ensures faults { TellsFaultsBy (Err LaneBroken.Fault) result (D.state disk.old) (D.state disk.new) }
     ensures effect { OnlyReads (file_length head.now.geometry) (lane_calls head.now.geometry + lane_calls head.now.geometry)
         (D.state disk.old) (D.state disk.new) }
@@ -80,6 +83,7 @@ pub(crate) fn read_lanes<D: Disk>(
     requires empty_b { b.old.entries ≡ [] }
     requires reserved_a { high_mark head.now.geometry + most_weight ≤ a.old.reserved }
     requires reserved_b { high_mark head.now.geometry + most_weight ≤ b.old.reserved }
+    requires whole { IsWhole a.old × IsWhole b.old }
     requires length { IsTrue (D.state disk.old).tells_bytes → length (D.state disk.old).bytes ≡ file_length head.now.geometry }
     ensures replayed { IfOk result (λ ends. AreReplayed head.now.geometry head.now.catalogue a.new.entries b.new.entries ends.a ends.b
         (D.state disk.old).is_honest (D.state disk.old).bytes) }
@@ -89,6 +93,7 @@ pub(crate) fn read_lanes<D: Disk>(
         → IfErr result (λ why. IsWhy why (D.state disk.old).bytes) }
     ensures reserved_a { a.new.reserved ≡ a.old.reserved }
     ensures reserved_b { b.new.reserved ≡ b.old.reserved }
+    ensures whole { IsWhole a.new × IsWhole b.new }
     ensures faults { TellsFaultsBy (Err Unreadable.Fault) result (D.state disk.old) (D.state disk.new) }
     ensures effect { OnlyReads (file_length head.now.geometry) (2 * lane_calls head.now.geometry) (D.state disk.old) (D.state disk.new) }
     ensures calls { IfOk result (λ ends. (D.state disk.new).clock ≤ (D.state disk.old).clock + ((ends.a.records + 1) + (ends.b.records + 1))) }

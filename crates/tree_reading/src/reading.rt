@@ -6,6 +6,7 @@ ghost use Rattle.blsm_model.specs.Format.{most_weight};
 ghost use Rattle.blsm_model.specs.Geometry.{file_length, high_mark, page_count};
 ghost use Rattle.blsm_model.specs.Lanes.{a_of, b_of, region_length};
 ghost use Rattle.page_space.specs.Space.{IsSpace, unused};
+ghost use Rattle.mem_table.specs.Tables.{IsWhole, empty_table};
 ghost use Rattle.gated_log.specs.Lanes.{end_of};
 ghost use Rattle.tree_runs.specs.Noting.{AreRooms, HasSameRoom};
 ghost use Rattle.tree_runs.specs.Runs.{AreGuides, AreRead, first_tags};
@@ -66,8 +67,8 @@ fn reserve(alloc: Global, head: &Head, purpose: Purpose) -> Result<Room, NoMemor
     requires right { IsHead head.now.geometry head.now.catalogue }
     ensures space { IfOk result (λ room. room.space ≡ unused (page_count head.now.geometry)) }
     ensures shape { IfOk result (λ room. IsSpace room.space) }
-    ensures a { IfOk result (λ room. room.a ≡ record { entries = []; reserved = high_mark head.now.geometry + most_weight; arrived = [] }) }
-    ensures b { IfOk result (λ room. room.b ≡ record { entries = []; reserved = high_mark head.now.geometry + most_weight; arrived = [] }) }
+    ensures a { IfOk result (λ room. room.a ≡ empty_table (high_mark head.now.geometry + most_weight)) }
+    ensures b { IfOk result (λ room. room.b ≡ empty_table (high_mark head.now.geometry + most_weight)) }
     ensures rooms { IfOk result (λ room. AreRooms head.now.catalogue room.guides) }
     ensures guides { purpose ≡ Purpose.Opening → IfOk result (λ room. AreGuides head.now.geometry first_tags room.guides) }
 {
@@ -86,14 +87,15 @@ fn read_parts<D: Disk>(disk: &mut D, head: &Head, room: &mut Room) -> Result<End
     requires unused { room.old.space ≡ unused (page_count head.now.geometry) }
     requires shape { IsSpace room.old.space }
     requires rooms { AreRooms head.now.catalogue room.old.guides }
-    requires empty_a { room.old.a ≡ record { entries = []; reserved = high_mark head.now.geometry + most_weight; arrived = [] } }
-    requires empty_b { room.old.b ≡ record { entries = []; reserved = high_mark head.now.geometry + most_weight; arrived = [] } }
+    requires empty_a { room.old.a ≡ empty_table (high_mark head.now.geometry + most_weight) }
+    requires empty_b { room.old.b ≡ empty_table (high_mark head.now.geometry + most_weight) }
     requires length { IsTrue (D.state disk.old).tells_bytes → length (D.state disk.old).bytes ≡ file_length head.now.geometry }
     ensures tags { IfOk result (λ ends. AreRead head.now.geometry head.now.catalogue room.new.space) }
     ensures tagged { IsTrue (D.state disk.old).is_honest
         → IfOk result (λ ends. AreTagged head.now.geometry head.now.catalogue room.new.space (D.state disk.old).bytes) }
     ensures replayed { IfOk result (λ ends. AreReplayed head.now.geometry head.now.catalogue room.new.a.entries room.new.b.entries ends.a ends.b
         (D.state disk.old).is_honest (D.state disk.old).bytes) }
+    ensures whole { IsWhole room.new.a × IsWhole room.new.b }
     ensures reserved { IfOk result (λ ends. (room.new.a.reserved ≡ room.old.a.reserved) × (room.new.b.reserved ≡ room.old.b.reserved)) }
     ensures guides { IfOk result (λ ends. HasSameRoom room.old.guides room.new.guides) }
     ensures guided { IsTrue (D.state disk.old).is_honest

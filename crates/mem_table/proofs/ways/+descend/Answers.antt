@@ -1,4 +1,4 @@
-use Rattle.std.proofs.Common.{ℕ, sym, ◌∙◌, arith}
+use Rattle.std.proofs.Common.{sym, ◌∙◌, arith}
 use Rattle.mem_table.specs.Ways.{place_of}
 use Rattle.mem_table.proofs.WayLemmas.{forked, answer_left, answer_right, answer_here, answer_none, place_there}
 use Rattle.mem_table.proofs.ways.+descend.Goals as goal

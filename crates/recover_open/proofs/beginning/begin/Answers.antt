@@ -3,6 +3,9 @@ use Rattle.tree_settling.proofs.LightLemmas.{all_before_it}
 use Rattle.recover_open.proofs.BeginLemmas.{has_begun, begins_in}
 use Rattle.recover_open.proofs.beginning.begin.Goals as goal
 
+pub open-log-requires-clause-whole : goal.open-log-requires-clause-whole
+open-log-requires-clause-whole c = (c.requires.found.2.whole_a, c.requires.found.2.whole_b)
+
 pub returns-clause-numbers : goal.returns-clause-numbers
 returns-clause-numbers c =
     let found = c.requires.found in

@@ -5,6 +5,7 @@ use Rattle.blsm_model.specs.Lanes.{region_length}
 use Rattle.record_delta.specs.Entries.{Entries, entries_weight, replayed}
 use Rattle.gated_log.specs.Lane.{blocks}
 use Rattle.gated_log.specs.Replay.{HasGiven}
+use Rattle.mem_table.specs.Tables.{IsWhole}
 use Rattle.tree_reading.specs.Lane.{StaysWithin}
 use Rattle.tree_reading.proofs.lane.replay_lane.Given as goal
 
@@ -13,6 +14,7 @@ invariant-loop-key g l = record {
   sizes : l.replay.sizes ≡ l.geo;
   lane : l.replay.lane ≡ l.lane;
   reserved : l.table.reserved ≡ l.fn.table.reserved;
+  whole : IsWhole l.table;
   short : region_length l.geo < 2 ^ 32;
   counted : 15 * l.records ≤ l.replay.end;
   few : 15 * l.records ≤ region_length l.geo;

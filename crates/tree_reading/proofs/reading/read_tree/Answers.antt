@@ -54,6 +54,8 @@ returns-clause-found g c =
           c.lanes_of-lanes.ensures.end_a c.lanes_of-lanes.ensures.end_b;
       reserved_a = c.in_ok-ends.ensures.reserved.0 ∙ ap (λ (t : Contents). t.reserved) c.in-Ok.ensures.a;
       reserved_b = c.in_ok-ends.ensures.reserved.1 ∙ ap (λ (t : Contents). t.reserved) c.in-Ok.ensures.b;
+      whole_a = c.in_ok-ends.ensures.whole.0;
+      whole_b = c.in_ok-ends.ensures.whole.1;
     }
 
 pub returns-clause-holds : goal.returns-clause-holds

@@ -1,4 +1,4 @@
-use Rattle.std.proofs.Common.{◌≡◌, ℕ, ◌≤◌, ◌++◌, ◌∷◌, [], length, take, drop, ap, sym, subst, ◌∙◌, arith}
+use Rattle.std.proofs.Common.{◌≡◌, ◌+◌, ◌*◌, ◌≤◌, ◌++◌, ◌∷◌, [], length, take, drop, ap, sym, subst, ◌∙◌, arith}
 use Rattle.record_delta.specs.Records.{text_of as text_in}
 use Rattle.record_delta.specs.Entries.{Entries, entries_weight}
 use Rattle.entry_store.specs.Stores.{Stored, entries_in, len_of}
@@ -7,7 +7,7 @@ use Rattle.entry_store.proofs.store.Store.push.Goals as goal
 use Rattle.entry_store.proofs.store.Store.push.Goals.{After-as_slice, After-fill-self-inside}
 
 fits : (c : After-as_slice) → entries_weight (entries_in c.self.inside.chunks.items c.self.inside.heads.items ++ (c.args.key.now, c.args.rec.now) ∷ []) ≤ c.self.inside.reserved
-fits c = subst (λ (v : Stored). entries_weight (v.slots ++ (c.args.key.now, c.args.rec.now) ∷ []) ≤ v.reserved) (sym c.self.view_is) c.requires
+fits c = subst (λ (v : Stored). entries_weight (v.slots ++ (c.args.key.now, c.args.rec.now) ∷ []) ≤ v.reserved) (sym c.self.view_is) c.requires.fits
 
 bytes_are : (c : After-as_slice) → c.as_slice.result.now ≡ c.args.key.now ++ text_in c.args.rec.now
 bytes_are c = c.as_slice.ensures.value ∙ c.packed-bytes.ensures.bytes
@@ -23,7 +23,14 @@ fill-self-inside-requires c =
 pub unreachable-requires : goal.unreachable-requires
 unreachable-requires c =
     let b = (goal.at.unreachable-requires c).After-as_slice in
-    omega (arith, c.in-Err.ensures.full, c.self.inside.heads.ok.0, head_left c.self.inside.chunks.items c.self.inside.heads.items c.self.inside.free _ _ c.self.invariant c.args.key.now c.args.rec.now c.packed-bytes.result.0 c.packed-bytes.ensures.head (fits b))
+    omega (
+      arith,
+      c.in-Err.ensures.full,
+      c.self.inside.heads.ok.0,
+      head_left c.self.inside.chunks.items c.self.inside.heads.items c.self.inside.free _ _ c.self.invariant c.args.key.now c.args.rec.now
+          c.packed-bytes.result.0 c.packed-bytes.ensures.head (fits b)
+          (subst (λ (v : Stored). 14 * (length v.slots + 1) ≤ v.reserved) (sym c.self.view_is) c.requires.place),
+    )
 
 done : (c : After-fill-self-inside) → c.as_slice.result.now ≡ c.args.key.now ++ text_in c.args.rec.now
     → IsFilled c.self.inside.chunks.items c.fill-self-inside.new.chunks c.self.inside.free (len_of c.packed-bytes.result.0) (c.args.key.now ++ text_in c.args.rec.now) c.fill-self-inside.result

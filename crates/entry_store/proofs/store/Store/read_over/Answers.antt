@@ -1,11 +1,13 @@
-use Rattle.std.proofs.Common.{◌<◌, length, ap, sym, ◌∙◌, arith}
+use Rattle.std.proofs.Common.{◌<◌, length, ap, sym, subst, ◌∙◌, arith}
 use Rattle.std.proofs.lemmas.List.{length-take}
-use Rattle.entry_store.proofs.StoreLemmas.{place_within, chain_inside, room_whole, IsRead, read_whole, entry_there}
+use Rattle.entry_store.specs.Stores.{Stored, HasEntry}
+use Rattle.entry_store.proofs.StoreLemmas.{entry_within, key_there, place_within, chain_inside, room_whole, IsRead, read_whole, entry_there}
 use Rattle.entry_store.proofs.store.Store.read_over.Goals as goal
 use Rattle.entry_store.proofs.store.Store.read_over.Goals.{After-chunks, After-as_slice}
 
 within : (c : After-chunks) → c.args.place < length c.self.inside.heads.items
-within c = place_within c.self.inside.chunks.items c.self.inside.heads.items _ _ c.args.place (sym c.self.view_is) c.requires
+within c = place_within c.self.inside.chunks.items c.self.inside.heads.items _ _ c.args.place (sym c.self.view_is)
+    (entry_within _ c.args.place c.requires)
 
 pub read-requires-clause-inside : goal.read-requires-clause-inside
 read-requires-clause-inside c =
@@ -25,7 +27,8 @@ read-requires-clause-room c =
 whole : (c : After-as_slice) → IsRead c.self.inside.chunks.items c.index.result.now c.as_slice.result.now
 whole c =
     read_whole c.self.inside.chunks.items c.self.inside.heads.items _ _ _ c.self.invariant c.index.result.now c.args.place
-    (place_within c.self.inside.chunks.items c.self.inside.heads.items _ _ c.args.place (sym c.self.view_is) c.requires) c.index.ensures
+    (place_within c.self.inside.chunks.items c.self.inside.heads.items _ _ c.args.place (sym c.self.view_is) (entry_within _ c.args.place c.requires))
+    c.index.ensures
     c.deref.result.now c.chunks.result _ _ c.deref.ensures.value c.chunks.ensures c.new-bytes.ensures (c.as_slice.ensures.value ∙ c.read.ensures)
 
 pub slice_bounds-parts_over-end : goal.slice_bounds-parts_over-end
@@ -33,7 +36,12 @@ slice_bounds-parts_over-end c = let w = whole (goal.at.slice_bounds-parts_over-e
     (arith, c.len.ensures, w.long, length-take c.len.result c.as_slice.result.now)
 
 pub parts_over-requires : goal.parts_over-requires
-parts_over-requires c = let w = whole (goal.at.parts_over-requires c).After-as_slice in rw c.len.ensures (record { head = w.head; len = w.taken })
+parts_over-requires c =
+    let w = whole (goal.at.parts_over-requires c).After-as_slice in
+    let key = key_there c.self.inside.chunks.items c.self.inside.heads.items _ _ _ c.self.invariant c.index.result.now c.args.place
+    (within (goal.at.parts_over-requires c).After-chunks) c.index.ensures
+    (subst (λ (v : Stored). HasEntry v.slots c.args.place) (sym c.self.view_is) c.requires) in
+    rw c.len.ensures (record { head = w.head; key = key; len = w.taken })
 
 pub returns : goal.returns
 returns c = λ entry.

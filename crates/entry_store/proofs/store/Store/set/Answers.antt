@@ -1,22 +1,28 @@
-use Rattle.std.proofs.Common.{◌≡◌, refl, ℕ, suc, ◌-◌, ◌<◌, ◌≤◌, ◌++◌, List, length, take, drop, set, ap, sym, subst, ◌∙◌, arith}
+use Rattle.std.proofs.Common.{◌≡◌, refl, suc, ◌-◌, ◌<◌, ◌≤◌, ◌++◌, List, length, take, drop, set, ap, sym, subst, ◌∙◌, arith}
 use Rattle.record_delta.specs.Records.{text_of as text_in}
 use Rattle.record_delta.specs.Entries.{Entries, entries_weight}
 use Rattle.entry_store.specs.declared.chunks.Chunk.{Chunk}
 use Rattle.entry_store.specs.Chains.{walk, linked}
-use Rattle.entry_store.specs.Stores.{Stored, entries_in, len_of, size_of}
-use Rattle.entry_store.proofs.StoreLemmas.{place_within, packed_len, put_back, IsFilled, filled, head_is, chain_inside}
+use Rattle.entry_store.specs.Stores.{Stored, HasEntry, entries_in, len_of, size_of}
+use Rattle.entry_store.proofs.StoreLemmas.{entry_within, place_within, packed_len, put_back, IsFilled, filled, key_there, chain_inside}
 use Rattle.entry_store.proofs.SetLemmas.{set_inside, set_apart, set_full, entries_changed, store_changed}
 use Rattle.entry_store.proofs.store.Store.set.Goals as goal
 use Rattle.entry_store.proofs.store.Store.set.Goals.{After-index, After-give_back, After-as_slice, After-fill-self-inside}
 
 inside : (c : After-index) → c.args.place < length c.self.inside.heads.items
-inside c = place_within c.self.inside.chunks.items c.self.inside.heads.items _ _ c.args.place (sym c.self.view_is) c.requires.place
+inside c = place_within c.self.inside.chunks.items c.self.inside.heads.items _ _ c.args.place (sym c.self.view_is)
+    (entry_within _ c.args.place c.requires.place)
 
 fits : (c : After-index) → entries_weight (set (entries_in c.self.inside.chunks.items c.self.inside.heads.items) c.args.place (c.args.key.now, c.args.rec.now)) ≤ c.self.inside.reserved
 fits c = subst (λ (v : Stored). entries_weight (set v.slots c.args.place (c.args.key.now, c.args.rec.now)) ≤ v.reserved) (sym c.self.view_is) c.requires.fits
 
 size_is : (c : After-index) → size_of c.index.result.now ≡ suc (size_of c.index.result.now - 1)
-size_is c = omega (arith, (head_is c.self.inside.chunks.items c.self.inside.heads.items _ _ _ c.self.invariant c.index.result.now c.args.place (inside c) c.index.ensures).key_least)
+size_is c =
+    omega (
+      arith,
+      key_there c.self.inside.chunks.items c.self.inside.heads.items _ _ _ c.self.invariant c.index.result.now c.args.place (inside c) c.index.ensures
+          (subst (λ (v : Stored). HasEntry v.slots c.args.place) (sym c.self.view_is) c.requires.place),
+    )
 
 pub give_back-requires-clause-inside : goal.give_back-requires-clause-inside
 give_back-requires-clause-inside c =

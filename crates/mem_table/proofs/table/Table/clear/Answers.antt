@@ -1,5 +1,6 @@
-use Rattle.std.proofs.Common.{[], ap, arith}
+use Rattle.std.proofs.Common.{ap, arith}
 use Rattle.record_delta.specs.Entries.{Entries}
+use Rattle.mem_table.specs.Tables.{empty_table}
 use Rattle.mem_table.proofs.TableLemmas.{arena_empty, entries_empty}
 use Rattle.mem_table.proofs.table.Table.clear.Goals as goal
 
@@ -11,4 +12,5 @@ invariant_of-self c =
 
 pub returns : goal.returns
 returns c =
-    rw (c.clear-2.ensures.items, c.clear.ensures, ← c.self.view_is) (ap (λ (es : Entries). record { entries = es; reserved = c.self.inside.store.reserved; arrived = [] }) entries_empty)
+    rw (c.clear-2.ensures.items, c.clear.ensures, ← c.self.view_is) (ap (λ (es : Entries). record (empty_table c.self.inside.store.reserved)
+    { entries = es }) entries_empty)

@@ -1,5 +1,6 @@
-use Rattle.std.proofs.Common.{[], ap, arith}
+use Rattle.std.proofs.Common.{ap, arith}
 use Rattle.record_delta.specs.Entries.{Entries}
+use Rattle.mem_table.specs.Tables.{empty_table}
 use Rattle.mem_table.proofs.TableLemmas.{arena_empty, entries_empty}
 use Rattle.mem_table.proofs.table.Table.reserve.Goals as goal
 
@@ -10,4 +11,5 @@ invariant_of-result c =
 
 pub returns : goal.returns
 returns c =
-    rw (c.in_ok-with_capacity.ensures.items, c.in_ok-reserve.ensures) (ap (λ (es : Entries). record { entries = es; reserved = c.args.weight; arrived = [] }) entries_empty)
+    rw (c.in_ok-with_capacity.ensures.items, c.in_ok-reserve.ensures) (ap (λ (es : Entries). record (empty_table c.args.weight) { entries = es })
+    entries_empty)
