@@ -12,7 +12,8 @@ ghost use Rattle.record_delta.specs.Entries.{Entries, folded_over, settled_entri
 ghost use Rattle.page_space.specs.Space.{SpaceState, HasRole, IsFree};
 ghost use Rattle.page_file.specs.Component.{numbers_of, HasList};
 ghost use Rattle.page_file.specs.File.{Writes};
-ghost use Rattle.run_writer.specs.Writer.{IsInside, role_region};
+ghost use Rattle.run_writer.specs.Writer.{IsInside, open_region};
+ghost use Rattle.merge_ends.specs.Closed.{KeepsClosed};
 ghost use Rattle.merge_ends.specs.Quantum.{IsNext, NoneAbove, IsQuantum};
 ghost use Rattle.merge_ends.specs.Progress.{IsRunning, MayGoOn, MergesOn, TakesGroup, TakesQuantum, left_to_take, stage};
 ghost use Rattle.deep_merge.specs.Merge.{started, IsMerge, progress_of_deep};
@@ -131,6 +132,8 @@ impl Deep {
         // On any disk what was taken and what is left add up, and it is a quantum or all that was left, and less than one group more. Each group
         // weighs 14 bytes at least, and makes three calls at most.
         ensures numbers { MergesOn geo.now (geo.now.quantum / 4 + 3) (TakesQuantum geo.now.quantum) (stage (progress_of_deep self.old) space.old filter.old fences.old (D.state disk.old)) (stage (progress_of_deep self.new) space.new filter.new fences.new (D.state disk.new)) result }
+        // What is on closed pages of its run stays there, whatever it answers.
+        ensures closed { KeepsClosed geo.now space.old space.new self.old.writer self.new.writer (D.state disk.old) (D.state disk.new) }
         ensures kept { IsErr result → self.new.at ≡ self.old.at }
     {
         self.merge
@@ -150,9 +153,8 @@ impl Deep {
             → IfOk result (λ c. (list : HasList geo.now c (settled_entries (folded_over c1x c2)) (D.state disk.new).bytes)
             × ((n : ℕ) → Contains (numbers_of list.pages) n → HasRole space self.old.writer.role n) × Guide filter fences list.pages) }
         ensures same { self.new ≡ self.old }
-        // One call of the disk at most. No byte outside the run's pages changes, in no image of any moment.
-        ensures writes { (space : SpaceState) (filter : BitState) (fences : FencesState) → IsRunning geo.now (D.state disk.old).is_honest (D.state disk.old).bytes space self.old.writer self.old.at (self.old.c1x ∷ self.old.c2 ∷ []) filter fences
-            → Writes (role_region geo.now space self.old.writer.role) (file_length geo.now) result (D.state disk.old) (D.state disk.new) }
+        // One call of the disk at most. No byte outside the open page changes, in no image of any moment.
+        ensures writes { Writes (open_region geo.now self.old.writer) (file_length geo.now) result (D.state disk.old) (D.state disk.new) }
     {
         self.merge.finish(disk, geo)
     }

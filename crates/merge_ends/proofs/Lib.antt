@@ -8,3 +8,4 @@ pub mod KeptLemmas
 pub mod NewerLemmas
 pub mod MergeLemmas
 pub mod LeftLemmas
+pub mod ClosedLemmas

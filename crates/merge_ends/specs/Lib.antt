@@ -4,3 +4,4 @@ pub mod Quantum
 pub mod Newer
 pub mod Progress
 pub mod Merge
+pub mod Closed

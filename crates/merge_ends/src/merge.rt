@@ -13,10 +13,10 @@ ghost use Rattle.page_space.specs.Space.{SpaceState, HasRole, IsFree};
 ghost use Rattle.page_file.specs.Component.{numbers_of, HasList};
 ghost use Rattle.page_file.specs.File.{Writes};
 ghost use Rattle.run_cursor.specs.Cursor.{CursorState};
-ghost use Rattle.run_writer.specs.Writer.{IsInside, role_region, HasPushed};
+ghost use Rattle.run_writer.specs.Writer.{IsInside, open_region, HasPushed};
 ghost use Rattle.merge_ends.specs.Input.{left_in, IsInput};
 ghost use Rattle.merge_ends.specs.Newer.{component_left, newer_calls, IsNewer};
-ghost use Rattle.merge_ends.specs.Output.{HasRun, kept};
+ghost use Rattle.merge_ends.specs.Output.{kept};
 ghost use Rattle.merge_ends.specs.Quantum.{IsNext, NoneAbove, IsQuantum};
 ghost use Rattle.merge_ends.specs.Progress.{MayGoOn, MergesOn, TakesGroup, TakesQuantum, left_to_take, stage};
 ghost use Rattle.merge_ends.specs.Merge.{started, progress, group_calls, quantum_calls, Covers, IsMerging};
@@ -288,9 +288,8 @@ impl Merge {
             → IfOk result (λ c. (list : HasList geo.now c (kept settles (folded_over over under)) (D.state disk.new).bytes)
             × ((n : ℕ) → Contains (numbers_of list.pages) n → HasRole space self.old.writer.role n) × Guide filter fences list.pages) }
         ensures same { self.new ≡ self.old }
-        // One call of the disk at most. No byte outside the run's pages changes, in no image of any moment.
-        ensures writes { (space : SpaceState) (filter : BitState) (fences : FencesState) → HasRun geo.now (D.state disk.old).is_honest (D.state disk.old).bytes space self.old.writer filter fences self.old.at
-            → Writes (role_region geo.now space self.old.writer.role) (file_length geo.now) result (D.state disk.old) (D.state disk.new) }
+        // One call of the disk at most. No byte outside the open page changes, in no image of any moment.
+        ensures writes { Writes (open_region geo.now self.old.writer) (file_length geo.now) result (D.state disk.old) (D.state disk.new) }
     {
         self.writer.end(disk, geo)
     }

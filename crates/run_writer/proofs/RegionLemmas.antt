@@ -1,7 +1,7 @@
 -- Where a writer writes: in its open page, which is one of the run's, and none of the closed ones.
 use Rattle.std.proofs.lemmas.Bool.Decides.{nat_tests}
 use Rattle.std.proofs.lemmas.Grind.{common_steps}
-use Rattle.std.proofs.Common.{◌≡◌, Bool, ℕ, ◌<◌, List, [], ◌∷◌, ◌++◌, length, Some, refl, sym, subst, ◌∙◌, inl, inr, Result, arith}
+use Rattle.std.proofs.Common.{◌≡◌, ◌≢◌, Bool, ℕ, ◌<◌, List, [], ◌∷◌, ◌++◌, length, Some, refl, sym, subst, ◌∙◌, inl, inr, Result, arith}
 use Rattle.record_delta.specs.Entries.{Entries}
 use Rattle.std.specs.Prelude.{IsTrue, OnOk, OnErr, IsErr, nat_eq}
 use Rattle.std.specs.List.{Contains, IsDistinct}
@@ -13,12 +13,13 @@ use Rattle.blsm_model.specs.Sizes.{Sizes}
 use Rattle.blsm_model.specs.Geometry.{page_count}
 use Rattle.record_delta.specs.declared.record.Rec.{Rec}
 use Rattle.page_space.specs.Space.{SpaceState, HasRole, IsSpace}
-use Rattle.page_file.specs.File.{pages_region}
+use Rattle.page_file.specs.File.{page_region, pages_region}
 use Rattle.page_file.specs.Component.{RunPage, numbers_of}
 use Rattle.page_file.proofs.PageLemmas.{others_apart, same_pages}
 use Rattle.page_file.proofs.ComponentLemmas.{chain_kept}
 use Rattle.bloom_bits.specs.BitSet.{BitState}
 use Rattle.bloom_bits.specs.Fences.{FencesState}
+use Rattle.run_writer.specs.Closed.{IsClosedPage}
 use Rattle.run_writer.specs.Run.{Run, open_number, all_numbers, IsRun}
 use Rattle.run_writer.specs.Writer.{WriterState, open_region, role_region, loose_region, IsInside, Holds, Stands, HasPushed}
 use Rattle.run_writer.proofs.GrowthLemmas.{here, has_open, in_range, differs_from_last}
@@ -47,17 +48,38 @@ open_inside sizes honest file space writer filter fences entries has shape pages
 
 -- ---- and none of the closed ones
 
+closed_differs : (writer : WriterState) (run : Run) → Holds writer run → IsRun run → 0 < writer.component.pages
+    → (n : ℕ) → Contains (numbers_of run.closed) n → n ≢ writer.number
+closed_differs writer run held is_run some n among =
+    let last = open_in run.closed run.number run.entries (has_open writer run held some) in
+    let apart = subst (λ (l : List ℕ). IsDistinct nat_eq (numbers_of run.closed ++ l)) last is_run.apart in
+    let other = differs_from_last (numbers_of run.closed) run.number n apart among in
+    λ same. other (same ∙ held.number)
+
 closed_apart : (sizes : Sizes) (writer : WriterState) (run : Run) → Holds writer run → IsRun run → AreApart (open_region sizes writer) (pages_region sizes (numbers_of run.closed))
 closed_apart sizes writer run held is_run i inside page =
-    let last = open_in run.closed run.number run.entries (has_open writer run held inside.0) in
-    let other = differs_from_last (numbers_of run.closed) run.number page.0 (subst (λ (l : List ℕ). IsDistinct nat_eq (numbers_of run.closed ++ l)) last is_run.apart) page.1 in
-    others_apart sizes page.0 writer.number (λ same. other (same ∙ held.number)) i page.2 inside.1
+    others_apart sizes page.0 writer.number (closed_differs writer run held is_run inside.0 page.0 page.1) i page.2 inside.1
 
 -- so these stand whatever becomes of it
 pub still_stands : (sizes : Sizes) (writer : WriterState) (run : Run) (old new : List ℕ) → Holds writer run → IsRun run → IsSameOutside (open_region sizes writer) old new
     → Stands sizes run old → Stands sizes run new
 still_stands sizes writer run old new held is_run same stands =
     chain_kept sizes run.closed (Some run.number) old new (same_pages sizes (numbers_of run.closed) old new (same_wider (closed_apart sizes writer run held is_run) same)) stands
+
+-- They have the tag, and no byte of such a page is loose.
+pub closed_page : (sizes : Sizes) (honest : Bool) (file : List ℕ) (space : SpaceState) (writer : WriterState) (filter : BitState)
+    (fences : FencesState) (entries : List (Key × Rec)) → (has : HasPushed sizes honest file space writer filter fences entries)
+    → (n : ℕ) → Contains (numbers_of has.run.closed) n → IsClosedPage space writer n
+closed_page sizes honest file space writer filter fences entries has n among =
+    let run = has.run in (
+      has.tagged n (Contains-append_left (numbers_of run.closed) (open_number run.closed run.number run.entries) n among),
+      λ some. closed_differs writer run has.held has.is_run some n among,
+    )
+
+pub closed_page_apart : (sizes : Sizes) (space : SpaceState) (writer : WriterState) (n : ℕ) → IsClosedPage space writer n
+    → AreApart (loose_region sizes space writer) (page_region sizes n)
+closed_page_apart sizes space writer n closed i (inl here) there = others_apart sizes n writer.number (closed.1 here.0) i there here.1
+closed_page_apart sizes space writer n closed i (inr other) there = other (n, closed.0, there)
 
 -- The list that was pushed stays where no byte of its role's pages changes but of the open one, and these keep the tag.
 pub pushed_kept : (sizes : Sizes) (honest : Bool) (old new : List ℕ) (space after : SpaceState) (writer : WriterState) (filter : BitState) (fences : FencesState) (entries : List (Key × Rec))
@@ -76,8 +98,9 @@ pushed_kept sizes honest old new space after writer filter fences entries tags s
 }
   where
     apart : AreApart (loose_region sizes space writer) (pages_region sizes (numbers_of has.run.closed))
-    apart i (inl here) page = closed_apart sizes writer has.run has.held has.is_run i here page
-    apart i (inr other) page = other (page.0, has.tagged page.0 (Contains-append_left (numbers_of has.run.closed) (open_number has.run.closed has.run.number has.run.entries) page.0 page.1), page.2)
+    apart i loose page =
+        let closed = closed_page sizes honest old space writer filter fences entries has page.0 page.1 in
+        closed_page_apart sizes space writer page.0 closed i loose page.2
 
 -- an error gives no value, and what holds anyway holds after it
 pub not_ok : {T E : Type 0} (P : Type 0) (r : Result T E) → IsErr r → OnOk r P

@@ -1,3 +1,4 @@
 pub mod Buffer
 pub mod Run
 pub mod Writer
+pub mod Closed

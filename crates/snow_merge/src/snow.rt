@@ -20,7 +20,7 @@ ghost use Rattle.merge_step.specs.declared.group.Taken.TheVariants.{InRoom};
 ghost use Rattle.page_space.specs.Space.{SpaceState, HasRole, IsFree};
 ghost use Rattle.page_file.specs.Component.{numbers_of, HasList};
 ghost use Rattle.page_file.specs.File.{Writes};
-ghost use Rattle.run_writer.specs.Writer.{IsInside, role_region};
+ghost use Rattle.run_writer.specs.Writer.{IsInside, open_region};
 ghost use Rattle.merge_ends.specs.Quantum.{IsNext, NoneAbove, IsQuantum};
 ghost use Rattle.merge_ends.specs.Progress.{IsRunning, MayGoOn, MergesOn, TakesGroup, TakesQuantum, left_to_take, stage};
 ghost use Rattle.snow_merge.specs.Pass.{started, Covers, IsPass, progress_of_pass};
@@ -310,9 +310,8 @@ impl Snow {
             → IfOk result (λ c. (list : HasList geo.now c (folded_over a.now.entries c1) (D.state disk.new).bytes)
             × ((n : ℕ) → Contains (numbers_of list.pages) n → HasRole space self.old.writer.role n) × Guide filter fences list.pages) }
         ensures same { self.new ≡ self.old }
-        // One call of the disk at most. No byte outside the run's pages changes, in no image of any moment.
-        ensures writes { (space : SpaceState) (filter : BitState) (fences : FencesState) → IsRunning geo.now (D.state disk.old).is_honest (D.state disk.old).bytes space self.old.writer self.old.at (self.old.c1 ∷ []) filter fences
-            → Writes (role_region geo.now space self.old.writer.role) (file_length geo.now) result (D.state disk.old) (D.state disk.new) }
+        // One call of the disk at most. No byte outside the open page changes, in no image of any moment.
+        ensures writes { Writes (open_region geo.now self.old.writer) (file_length geo.now) result (D.state disk.old) (D.state disk.new) }
     {
         self.merge.finish(disk, geo)
     }

@@ -5,3 +5,4 @@ pub mod Swaps
 pub mod Lookups
 pub mod Damage
 pub mod Noting
+pub mod Writing

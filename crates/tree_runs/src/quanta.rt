@@ -1,9 +1,11 @@
 //! Quanta of the merges.
 ghost use Rattle.std.specs.Prelude.{◌≡◌, ◌+◌, ◌/◌, length, IsTrue, IsErr, IsSome, IfOk};
+ghost use Rattle.disk_trait.specs.Effects.{Affects};
 ghost use Rattle.blsm_model.specs.Geometry.{file_length};
 ghost use Rattle.page_file.specs.Component.{entries_of};
 ghost use Rattle.tree_runs.specs.Runs.{AreRunning, Fits};
 ghost use Rattle.tree_runs.specs.Damage.{PassMeetsDamage, DeepMeetsDamage};
+ghost use Rattle.tree_runs.specs.Writing.{region_of_pass, region_of_deep};
 ghost use Rattle.tree_runs.specs.Holding.{KeepsAllButPass, KeepsAllButDeep, PassTakes, PassTook, DeepTakes, DeepTook, TellsQuantum, cursor_of_pass, cursor_of_deep};
 
 use crate::runs::Runs;
@@ -26,6 +28,9 @@ impl Runs {
         ensures told { TellsQuantum a.now.entries a.now.entries (self.old.sizes.quantum / 7 + 2)
             (λ tree n. PassTook self.old.sizes.quantum self.old.pass self.new.pass a.now.entries (entries_of tree.c1) n)
             (PassMeetsDamage self.new.sizes self.new.pass) self.old self.new result (D.state disk.old) (D.state disk.new) }
+        // It writes the page that was open, and pages that the run takes: none that was closed.
+        ensures writes { Affects (region_of_pass self.old.sizes self.old.space self.new.space self.old.pass) (file_length self.old.sizes)
+            (self.old.sizes.quantum / 7 + 2) (D.state disk.old) (D.state disk.new) }
         // On any disk what was taken and what is left add up, and it is a quantum or all that was left.
         ensures takes { IfOk result (PassTakes self.old.sizes.quantum self.old.pass self.new.pass a.now.entries) }
         ensures kept { IsErr result → cursor_of_pass self.new.pass ≡ cursor_of_pass self.old.pass }
@@ -62,6 +67,9 @@ impl Runs {
         ensures told { TellsQuantum a.now.entries a.now.entries (self.old.sizes.quantum / 4 + 3)
             (λ tree n. DeepTook self.old.sizes.quantum self.old.deep self.new.deep (entries_of tree.c1x) (entries_of tree.c2) n)
             (DeepMeetsDamage self.new.sizes self.new.deep) self.old self.new result (D.state disk.old) (D.state disk.new) }
+        // It writes the page that was open, and pages that the run takes: none that was closed.
+        ensures writes { Affects (region_of_deep self.old.sizes self.old.space self.new.space self.old.deep) (file_length self.old.sizes)
+            (self.old.sizes.quantum / 4 + 3) (D.state disk.old) (D.state disk.new) }
         ensures takes { IfOk result (DeepTakes self.old.sizes.quantum self.old.deep self.new.deep) }
         ensures kept { IsErr result → cursor_of_deep self.new.deep ≡ cursor_of_deep self.old.deep }
         ensures runs { IsSome self.new.deep }

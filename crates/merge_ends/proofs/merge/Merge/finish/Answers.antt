@@ -1,18 +1,16 @@
-use Rattle.std.proofs.Common.{Bool, true, sym, subst, arith}
+use Rattle.std.proofs.Common.{Bool, true, sym, subst}
 use Rattle.std.specs.Prelude.{IfOk}
 use Rattle.std.specs.List.{Contains}
 use Rattle.std.proofs.Common.{ℕ}
-use Rattle.disk_trait.proofs.EffectLemmas.{affects_wider}
 use Rattle.bloom_bits.specs.Guides.{Guide}
 use Rattle.record_delta.specs.Entries.{folded_over}
 use Rattle.page_space.specs.Space.{HasRole}
 use Rattle.page_file.specs.Component.{numbers_of, HasList}
 use Rattle.page_file.specs.File.{Writes}
-use Rattle.run_writer.specs.Writer.{role_region, HasEntries, HasPushed}
-use Rattle.run_writer.proofs.RegionLemmas.{open_tagged}
+use Rattle.run_writer.specs.Writer.{open_region, HasEntries, HasPushed}
 use Rattle.blsm_model.specs.Geometry.{file_length}
 use Rattle.merge_ends.specs.Merge.{MergeState}
-use Rattle.merge_ends.specs.Output.{HasRun, kept}
+use Rattle.merge_ends.specs.Output.{kept}
 use Rattle.merge_ends.proofs.MergeLemmas.{pushed_all}
 use Rattle.merge_ends.proofs.merge.Merge.finish.Goals as goal
 
@@ -28,14 +26,8 @@ returns-clause-list g c = λ settles space input table filter fences overs under
     (c.end.ensures.list space filter fences out honest (subst (λ (s : MergeState). HasEntries s.writer) (sym c.self.view_is) merging.begun) (subst (λ (b : Bool). HasPushed sizes b d.bytes space c.self.inside.writer filter fences out) (sym honest) here))
 
 pub returns-clause-writes : goal.returns-clause-writes
-returns-clause-writes g c = λ space filter fences run.
-    let d = g.D.Disk.state c.args.disk.now in
-    let old = subst (λ (s : MergeState). HasRun c.args.geo.now d.is_honest d.bytes space s.writer filter fences s.at) (sym c.self.view_is) run in
-    let w = c.end.ensures.writes in
-    subst (λ (s : MergeState). Writes (role_region c.args.geo.now space s.writer.role) (file_length c.args.geo.now) c.end.result d (g.D.Disk.state c.end.new.disk)) c.self.view_is
-    (record {
-      effect = affects_wider (open_tagged c.args.geo.now d.is_honest d.bytes space c.self.inside.writer filter fences old.out old.pushed) (omega arith) (omega arith) w.effect;
-      no_sync = w.no_sync;
-      stands = w.stands;
-      failed = w.failed;
-    })
+returns-clause-writes g c =
+    let old = g.D.Disk.state c.args.disk.now in
+    let new = g.D.Disk.state c.end.new.disk in
+    subst (λ (s : MergeState). Writes (open_region c.args.geo.now s.writer) (file_length c.args.geo.now) c.end.result old new) c.self.view_is
+    c.end.ensures.writes

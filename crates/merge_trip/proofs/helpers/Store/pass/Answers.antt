@@ -19,7 +19,7 @@ finish-requires-clause-inside g c =
 
 pub invariant_of-ended : goal.invariant_of-ended
 invariant_of-ended g c = record {
-  long = affects_length (c.finish.ensures.writes c.quanta.space c.quanta.filter c.quanta.fences c.quanta.invariant.running).effect refl c.quanta.invariant.long;
+  long = affects_length c.finish.ensures.writes.effect refl c.quanta.invariant.long;
 }
 
 pub ended-requires-clause-taken : goal.ended-requires-clause-taken

@@ -7,8 +7,8 @@ use Rattle.record_delta.specs.Entries.{folded_over}
 use Rattle.page_space.specs.Space.{HasRole}
 use Rattle.page_file.specs.Component.{numbers_of, HasList}
 use Rattle.page_file.specs.File.{Writes}
-use Rattle.run_writer.specs.Writer.{role_region}
-use Rattle.merge_ends.specs.Progress.{IsRunning, left_to_take}
+use Rattle.run_writer.specs.Writer.{open_region}
+use Rattle.merge_ends.specs.Progress.{left_to_take}
 use Rattle.snow_merge.specs.Pass.{SnowState, IsPass, progress_of_pass}
 use Rattle.snow_merge.proofs.snow.Snow.finish.Goals as goal
 
@@ -23,8 +23,8 @@ returns-clause-list g c = λ space filter fences pages c1 honest pass.
     (c.finish.ensures.list false space None a filter fences [] pages a c1 honest done old)
 
 pub returns-clause-writes : goal.returns-clause-writes
-returns-clause-writes g c = λ space filter fences runs.
-    let d = g.D.Disk.state c.args.disk.now in
-    let old = subst (λ (s : SnowState). IsRunning c.args.geo.now d.is_honest d.bytes space s.writer s.at (s.c1 ∷ []) filter fences) (sym c.self.view_is) runs in
-    subst (λ (s : SnowState). Writes (role_region c.args.geo.now space s.writer.role) (file_length c.args.geo.now) c.finish.result d (g.D.Disk.state c.finish.new.disk)) c.self.view_is
-    (c.finish.ensures.writes space filter fences old.run)
+returns-clause-writes g c =
+    let old = g.D.Disk.state c.args.disk.now in
+    let new = g.D.Disk.state c.finish.new.disk in
+    subst (λ (s : SnowState). Writes (open_region c.args.geo.now s.writer) (file_length c.args.geo.now) c.finish.result old new) c.self.view_is
+    c.finish.ensures.writes

@@ -1,14 +1,16 @@
 use Rattle.std.proofs.Common.{rules, ◌≡◌, ◌/◌, ◌+◌, Option, Some, OnOk, ◌∙◌, ap, sym, subst, refl, arith}
 use Rattle.std.specs.Prelude.{List, slice_set}
+use Rattle.disk_trait.specs.Effects.{Affects}
 use Rattle.disk_trait.proofs.EffectLemmas.{affects_wider}
 use Rattle.blsm_model.specs.Sizes.{Sizes}
-use Rattle.blsm_model.specs.Geometry.{capacity}
+use Rattle.blsm_model.specs.Geometry.{capacity, file_length}
 use Rattle.merge_ends.specs.Quantum.{Works}
 use Rattle.merge_ends.specs.Progress.{MayGoOn, stage}
 use Rattle.deep_merge.specs.Merge.{DeepState, progress_of_deep}
 use Rattle.scan_view.proofs.StayLemmas.{writes_beside}
 use Rattle.tree_runs.specs.Runs.{GuideState, RunsState, AreRunning, DeepRuns, guide_at, left_for_deep}
 use Rattle.tree_runs.specs.Damage.{DeepMeetsDamage}
+use Rattle.tree_runs.specs.Writing.{region_of_deep}
 use Rattle.tree_runs.specs.Holding.{StandOver}
 use Rattle.tree_runs.proofs.GuideLemmas.{WritesGuide, guide_named, pages_within, writes_guide}
 use Rattle.tree_runs.proofs.QuantumLemmas.{DeepQuantum, deep_has_room, deep_light, deepened_is, deep_ran, deep_stands, deep_works, tree_stays, deep_is_run}
@@ -66,6 +68,17 @@ works_are g c =
     let now = c.args.self.now in
     deep_works now c.quantum-taken.new.space (guide_at now.guides now.tags.deep) (guide_after g c) c.in-Some.deep c.quantum-taken.new.self c.quantum-taken.result
     (g.D.Disk.state c.args.disk.now) (g.D.Disk.state c.quantum-taken.new.disk) (deep_is g c) c.requires.running.in_order (quantum_is g c)
+
+pub returns-clause-writes : goal.returns-clause-writes
+returns-clause-writes g c =
+    let now = c.args.self.now in
+    let after = c.quantum-taken.new.space in
+    let old = g.D.Disk.state c.args.disk.now in
+    let new = g.D.Disk.state c.quantum-taken.new.disk in
+    let arm = (goal.at.returns-clause-writes g c).After-pages-pages in
+    subst
+    (λ (m : Option DeepState). Affects (region_of_deep now.sizes now.space after m) (file_length now.sizes) (now.sizes.quantum / 4 + 3) old new)
+    (sym (deep_is g arm)) (quantum_is g arm).on.works.effect
 
 pub returns-clause-others : goal.returns-clause-others
 returns-clause-others g c = record { sizes = search rules; catalogue = search rules; tags = search rules; pass = search rules; takes = (works_are g c).takes; guides = (writes g c).others }

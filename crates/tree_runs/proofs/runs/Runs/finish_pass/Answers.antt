@@ -14,6 +14,7 @@ use Rattle.merge_ends.specs.Progress.{IsRunning}
 use Rattle.tree_runs.specs.declared.runs.Merges.{Merges}
 use Rattle.tree_runs.specs.Runs.{RunsState, PassRuns, PassHasTag, fences_of_tag, filter_of, guide_at}
 use Rattle.tree_runs.specs.Holding.{AreTagged, IsPassOver}
+use Rattle.tree_runs.proofs.SwapRegions.{end_writes}
 use Rattle.tree_runs.proofs.runs.Runs.finish_pass.Goals as goal
 
 pub finish-requires-clause-inside : goal.finish-requires-clause-inside
@@ -49,4 +50,4 @@ returns-clause-writes g c =
     let runs = subst (λ (o : Option SnowState). PassRuns now.sizes old.is_honest old.bytes now.space (guide_at now.guides now.tags.pass) o) is c.requires.running.pass in
     let here = subst (λ (s : RunsState). IsRunning s.sizes old.is_honest old.bytes now.space c.in-Some.snow.writer c.in-Some.snow.at (c.in-Some.snow.c1 ∷ []) (filter_of now now.tags.pass) (fences_of_tag now now.tags.pass)) (sym c.self.view_is) runs in
     subst (λ (s : RunsState). Writes (role_region s.sizes now.space now.tags.pass) (file_length s.sizes) c.finish.result old new) c.self.view_is
-    (subst (λ (r : ℕ). Writes (role_region c.self.inside.geometry now.space r) (file_length c.self.inside.geometry) c.finish.result old new) role (c.finish.ensures.writes now.space (filter_of now now.tags.pass) (fences_of_tag now now.tags.pass) here))
+    (subst (λ (r : ℕ). Writes (role_region c.self.inside.geometry now.space r) (file_length c.self.inside.geometry) c.finish.result old new) role (end_writes here.run.pushed c.finish.ensures.writes))

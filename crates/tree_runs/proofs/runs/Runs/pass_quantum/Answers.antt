@@ -1,6 +1,8 @@
 use Rattle.std.proofs.Common.{rules, ◌≡◌, ◌/◌, ◌+◌, Option, Some, OnOk, ◌∙◌, ap, sym, subst, refl, arith}
 use Rattle.std.specs.Prelude.{List, IfOk, slice_set}
+use Rattle.disk_trait.specs.Effects.{Affects}
 use Rattle.disk_trait.proofs.EffectLemmas.{affects_wider}
+use Rattle.blsm_model.specs.Geometry.{file_length}
 use Rattle.blsm_model.specs.Sizes.{Sizes}
 use Rattle.merge_ends.specs.Quantum.{Works}
 use Rattle.merge_ends.specs.Progress.{MayGoOn, stage}
@@ -8,6 +10,7 @@ use Rattle.snow_merge.specs.Pass.{SnowState, progress_of_pass}
 use Rattle.scan_view.proofs.StayLemmas.{writes_beside}
 use Rattle.tree_runs.specs.Runs.{GuideState, RunsState, AreRunning, PassRuns, guide_at, left_for_pass, run_most}
 use Rattle.tree_runs.specs.Damage.{PassMeetsDamage}
+use Rattle.tree_runs.specs.Writing.{region_of_pass}
 use Rattle.tree_runs.specs.Holding.{PassTakes, StandOver}
 use Rattle.tree_runs.proofs.GuideLemmas.{WritesGuide, guide_named, pages_within, writes_guide}
 use Rattle.tree_runs.proofs.QuantumLemmas.{PassQuantum, pass_has_room, pass_light, passed_is, pass_ran, pass_stands, pass_works, tree_stays, pass_is_run}
@@ -65,6 +68,17 @@ works_are g c =
     let now = c.args.self.now in
     pass_works now c.quantum-taken.new.space (guide_at now.guides now.tags.pass) (guide_after g c) c.in-Some.snow c.quantum-taken.new.self c.args.a.now.entries c.quantum-taken.result
     (g.D.Disk.state c.args.disk.now) (g.D.Disk.state c.quantum-taken.new.disk) (pass_is g c) c.requires.running.in_order (quantum_is g c)
+
+pub returns-clause-writes : goal.returns-clause-writes
+returns-clause-writes g c =
+    let now = c.args.self.now in
+    let after = c.quantum-taken.new.space in
+    let old = g.D.Disk.state c.args.disk.now in
+    let new = g.D.Disk.state c.quantum-taken.new.disk in
+    let arm = (goal.at.returns-clause-writes g c).After-pages-pages in
+    subst
+    (λ (m : Option SnowState). Affects (region_of_pass now.sizes now.space after m) (file_length now.sizes) (now.sizes.quantum / 7 + 2) old new)
+    (sym (pass_is g arm)) (quantum_is g arm).on.works.effect
 
 pub returns-clause-others : goal.returns-clause-others
 returns-clause-others g c = record { sizes = search rules; catalogue = search rules; tags = search rules; deep = search rules; takes = (works_are g c).takes; guides = (writes g c).others }
