@@ -8,10 +8,11 @@ use Rattle.bloom_bits.specs.Fences.{FencesState}
 use Rattle.record_delta.specs.Entries.{Entries}
 use Rattle.page_space.specs.Space.{SpaceState}
 use Rattle.run_cursor.specs.Cursor.{CursorState, started as cursor_started}
-use Rattle.run_writer.specs.Writer.{WriterState, started as writer_started}
+use Rattle.run_writer.specs.Writer.{WriterState, resumed, started as writer_started}
 use Rattle.merge_ends.specs.Input.{left_in}
 use Rattle.merge_ends.specs.Merge.{MergeState, IsMerging}
 use Rattle.merge_ends.specs.Progress.{Progress}
+use Rattle.merge_ends.specs.declared.finished.Finished.{Finished}
 
 -- the run that is written, the cursors over C1' and C2, the greatest key that was taken, the one up to which all is on closed pages of the run,
 -- and how much was left of both above that one
@@ -30,6 +31,11 @@ merge_of deep = record { writer = deep.writer; older = deep.c2; at = deep.at; cl
 -- a merge that has taken nothing
 abbrev pub started : ℕ → Component → Component → DeepState
 started role c1x c2 = record { writer = writer_started role; c1x = cursor_started c1x; c2 = cursor_started c2; at = None; closed = None; left = 0 }
+
+-- one that is taken up behind what was finished of it, where its cursors stand there
+abbrev pub taken_up : ℕ → Finished → CursorState → CursorState → DeepState
+taken_up role done c1x c2 =
+    record { writer = resumed role done.output done.next; c1x = c1x; c2 = c2; at = Some done.key; closed = Some done.key; left = done.left }
 
 -- where it stands by its numbers, between C1' and C2
 abbrev pub progress_of_deep : DeepState → Progress

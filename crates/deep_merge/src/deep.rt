@@ -1,5 +1,5 @@
 //! A deep merge.
-ghost use Rattle.std.specs.Prelude.{◌≡◌, ◌≢◌, ◌↔◌, ◌⊎◌, ◌+◌, ◌/◌, ◌≤◌, [], ◌∷◌, ℕ, Bool, List, Ok, Err, length, IsTrue, IsErr, IfOk};
+ghost use Rattle.std.specs.Prelude.{◌≡◌, ◌≢◌, ◌↔◌, ◌⊎◌, ◌+◌, ◌/◌, ◌≤◌, ◌<◌, ◌^◌, [], ◌∷◌, ℕ, Bool, true, List, Ok, Err, Some, length, IsTrue, IsErr, IfOk};
 ghost use Rattle.std.specs.List.{Contains};
 ghost use Rattle.blsm_model.specs.Components.{empty_component};
 ghost use Rattle.blsm_model.specs.Sizes.{Sizes};
@@ -10,18 +10,20 @@ ghost use Rattle.bloom_bits.specs.Filter.{rounded};
 ghost use Rattle.bloom_bits.specs.Guides.{Guide, KeepSized};
 ghost use Rattle.record_delta.specs.Entries.{Entries, folded_over, settled_entries};
 ghost use Rattle.page_space.specs.Space.{SpaceState, HasRole, IsFree};
-ghost use Rattle.page_file.specs.Component.{numbers_of, HasList};
+ghost use Rattle.page_file.specs.Component.{RunPage, entries_of, numbers_of, HasList};
 ghost use Rattle.page_file.specs.File.{Writes};
-ghost use Rattle.run_writer.specs.Writer.{IsInside, open_region};
+ghost use Rattle.run_writer.specs.Writer.{IsCounted, IsInside, open_region, resumed};
+ghost use Rattle.merge_ends.specs.Input.{IsInput, IsReady};
 ghost use Rattle.merge_ends.specs.Closed.{KeepsClosed};
+ghost use Rattle.merge_ends.specs.Merge.{finished_of, HasFinished, IsFront};
 ghost use Rattle.merge_ends.specs.Quantum.{IsNext, NoneAbove, IsQuantum};
 ghost use Rattle.merge_ends.specs.Progress.{IsRunning, MayGoOn, MergesOn, TakesGroup, TakesQuantum, left_to_take, stage};
-ghost use Rattle.deep_merge.specs.Merge.{started, IsMerge, progress_of_deep};
+ghost use Rattle.deep_merge.specs.Merge.{started, merge_of, taken_up, IsMerge, progress_of_deep};
 
 use bloom_bits::{Fences, Filter};
 use blsm_model::{Component, Geometry, Key};
 use disk_trait::Disk;
-use merge_ends::Merge;
+use merge_ends::{Finished, Merge};
 use page_file::Broken;
 use page_space::{Role, Space};
 use refusal::Failed;
@@ -76,6 +78,31 @@ impl Deep {
         }
     }
 
+    /// The merge that is taken up behind what was finished of it: its cursors over C1' and C2 stand above the key, and its run goes on behind the
+    /// finished pages with the next one, which has the role's tag already. Filter and fences are those of the finished pages. It calls no device.
+    pub fn resume(c1x: Cursor, c2: Cursor, role: Role, done: &Finished) -> Deep
+        requires counted { IsCounted (resumed role done.now.output done.now.next) }
+        requires few { done.now.output.pages + 1 < 2 ^ 32 }
+        ensures resumed { result ≡ taken_up role done.now c1x c2 }
+        ensures running { (sizes : Sizes) (honest : Bool) (file : List ℕ) (space : SpaceState) (filter : BitState) (fences : FencesState)
+            (pages : List RunPage) → HasFinished sizes honest file space role filter fences done.now pages
+            → IsReady (Some done.now.key) c1x → IsReady (Some done.now.key) c2
+            → IsRunning sizes honest file space result.writer result.at (result.c1x ∷ result.c2 ∷ []) filter fences }
+        // What comes of both lists up to the key is on the pages, and less than comes of them in all: the next page gets an entry.
+        ensures merge { (sizes : Sizes) (file : List ℕ) (space : SpaceState) (filter : BitState) (fences : FencesState)
+            (newer_pages older_pages : List ℕ) (newer older : Entries) (pages : List RunPage)
+            → IsInput sizes file space role (Some done.now.key) c1x newer_pages newer
+            → IsInput sizes file space role (Some done.now.key) c2 older_pages older
+            → HasFinished sizes true file space role filter fences done.now pages
+            → IsFront true (Some done.now.key) (Some c1x) newer older (entries_of pages) done.now.left
+            → IsMerge sizes file space result filter fences newer_pages older_pages newer older }
+    {
+        Deep {
+            merge: Merge::resume(c2, role, done),
+            c1x,
+        }
+    }
+
     /// The greatest key that was taken; `None` where none was.
     pub fn cursor(&self) -> Option<Key>
         ensures { result ≡ self.now.at }
@@ -95,6 +122,13 @@ impl Deep {
         ensures { result ≡ self.now.left }
     {
         self.merge.left()
+    }
+
+    /// What is on closed pages of the run, so that the merge may be taken up behind it; `None` where no page is closed.
+    pub fn finished(&self) -> Option<Finished>
+        ensures { result ≡ finished_of (merge_of self.now) }
+    {
+        self.merge.finished()
     }
 
     /// Whether C1' and C2 are wholly taken.

@@ -9,3 +9,4 @@ pub mod NewerLemmas
 pub mod MergeLemmas
 pub mod LeftLemmas
 pub mod ClosedLemmas
+mod SkipLemmas

@@ -1,8 +1,11 @@
 -- A merge that takes one key group, and one that has taken all.
 use Rattle.std.proofs.lemmas.Bool.Decides.{nat_tests}
 use Rattle.std.proofs.lemmas.Grind.{common_steps}
-use Rattle.std.proofs.Common.{◌≡◌, ◌∙◌, ◌+◌, ◌≤◌, ◌⊎◌, ℕ, Bool, true, false, List, [], ◌∷◌, Option, Some, None, IsSome, cond, not, refl, ap, sym, subst, inl, inr, arith}
+use Rattle.std.proofs.Common.{◌≡◌, ◌≢◌, ◌++◌, ◌∙◌, ◌+◌, ◌≤◌, ◌⊎◌, ℕ, Bool, true, false, List, [], ◌∷◌, Option, Some, None, IsSome, length, take, cond, not, refl, ap, sym, subst, inl, inr, arith}
 use Rattle.std.specs.Prelude.{if◌then◌else◌}
+use Rattle.std.proofs.lemmas.Bool.{false≢true}
+use Rattle.std.proofs.Math.Seq.{take-append_seam}
+use Rattle.blsm_model.specs.declared.component.Component.{Component}
 use Rattle.blsm_model.specs.declared.key.Key.{Key}
 use Rattle.blsm_model.specs.Sizes.{Sizes}
 use Rattle.bloom_bits.specs.BitSet.{BitState}
@@ -12,7 +15,7 @@ use Rattle.record_delta.specs.Records.{weight}
 use Rattle.record_delta.specs.Entries.{Entries, AreSorted, entries_weight, folded_over, first_of, is_above, above, up_to}
 use Rattle.page_space.specs.Space.{SpaceState}
 use Rattle.run_cursor.specs.Cursor.{CursorState, from_head}
-use Rattle.run_writer.specs.Writer.{HasPushed}
+use Rattle.run_writer.specs.Writer.{WriterState, closed_entries, resumed, HasEntries, HasPushed}
 use Rattle.merge_step.specs.Group.{group_of}
 use Rattle.merge_step.specs.Merged.{IsTaken}
 use Rattle.merge_step.proofs.StepLemmas.{goes_on}
@@ -23,7 +26,7 @@ use Rattle.merge_ends.specs.Quantum.{NoneAbove}
 use Rattle.merge_ends.specs.Progress.{left_to_take}
 use Rattle.merge_ends.specs.Merge.{MergeState, IsMerging, progress}
 use Rattle.merge_ends.proofs.GroupLemmas.{further, head_first, head_sorted, input_done, all_up_to, up_to_none}
-use Rattle.merge_ends.proofs.KeptLemmas.{kept_none}
+use Rattle.merge_ends.proofs.KeptLemmas.{kept_none, same_none}
 use Rattle.merge_ends.proofs.NewerLemmas.{hand_sorted, newer_done}
 
 pub group_taken : (input : Option CursorState) (table : Entries) (older : CursorState) (at : Option Key) (key : Key) (rec : Rec) (taken : ℕ) → AreSorted table → IsReady at older
@@ -71,8 +74,46 @@ pub nothing_out : (settles : Bool) (newer older : Entries) → [] ≡ kept settl
 nothing_out settles newer older =
     sym (ap (λ (l : Entries). kept settles (folded_over l (up_to None older))) (up_to_none newer) ∙ ap (λ (l : Entries). kept settles l) (up_to_none older) ∙ kept_none settles)
 
+-- and one that was taken up behind pages that have all that was pushed
+pub all_closed : (writer : WriterState) (role page : ℕ) (closed : Component) (out : Entries) → writer ≡ resumed role closed page → length out ≡ closed.entries → closed_entries writer out ≡ out
+all_closed writer role page closed out is many =
+    ap (λ (w : WriterState). closed_entries w out) is
+    ∙ subst (λ (n : ℕ). take n out ≡ out) (omega (arith, many)) (ap (λ (l : Entries). take (length out) l) (same_none out) ∙ take-append_seam out [])
+
 pub none_closed : (closed : Option Key) → closed ≡ None → IsSome closed → ⊥
 none_closed closed h1 h2 = grind (arith, common_steps, nat_tests)
+
+-- ---- the open page
+
+-- more is to come of components than was pushed
+abbrev MoreComes : Option CursorState → Entries → Entries → Type 0
+MoreComes input out whole = IsSome input × (out ≢ whole)
+
+-- an input stays one of components
+same_input : (input next : Option CursorState) → newer_calls next ≡ newer_calls input → IsSome input → IsSome next
+same_input input next h1 h2 = grind (arith, common_steps, nat_tests)
+
+pub begun_read : {A : Type 0} {out whole : Entries} (input next : Option CursorState) → newer_calls next ≡ newer_calls input
+    → A ⊎ MoreComes input out whole → A ⊎ MoreComes next out whole
+begun_read input next same (inl has) = inl has
+begun_read input next same (inr more) = inr (same_input input next same more.0, more.1)
+
+-- where nothing came of a group, as much is to come as before
+pub begun_more : {A B : Type 0} {out whole : Entries} (input next : Option CursorState) (came : Entries) → newer_calls next ≡ newer_calls input
+    → A ⊎ MoreComes input out whole → (A ⊎ (came ≢ []) → B) → B ⊎ MoreComes next (out ++ came) whole
+begun_more input next came same (inl has) put = inl (put (inl has))
+begun_more input next [] same (inr more) put = inr (same_input input next same more.0, λ all. more.1 (same_none _ ∙ all))
+begun_more input next (e ∷ es) same (inr more) put = inl (put (inr (λ none. cc)))
+
+-- of a table nothing but an entry counts, since it may grow
+pub begun_table : {A : Type 0} {out whole grown : Entries} → A ⊎ MoreComes None out whole → A ⊎ MoreComes None out grown
+begun_table (inl has) = inl has
+begun_table (inr more) = absurd (false≢true more.0)
+
+-- once all was pushed the open page has an entry
+begun_all : {A : Type 0} {out whole : Entries} (input : Option CursorState) → out ≡ whole → A ⊎ MoreComes input out whole → A
+begun_all input all (inl has) = has
+begun_all input all (inr more) = absurd (more.1 all)
 
 -- ---- a table that grows ahead
 
@@ -95,7 +136,7 @@ module _ {settles : Bool} {sizes : Sizes} {file : List ℕ} {space : SpaceState}
         newer_is = refl;
         older_is = is.older_is;
         run = is.run;
-        begun = is.begun;
+        begun = begun_table is.begun;
         out_is = is.out_is ∙ sym (ap (λ (l : Entries). kept settles (folded_over l (up_to merge.at under))) same);
         closed_up = is.closed_up;
         left_is = is.left_is;
@@ -116,11 +157,15 @@ module _ {settles : Bool} {sizes : Sizes} {file : List ℕ} {space : SpaceState}
     input_done sizes file space merge.writer.role merge.at merge.older under (last_part (newer_left merge.at input table) (left_in merge.at merge.older) done) merging.older_is,
   )
 
-  -- All was pushed.
+  -- All was pushed, and the open page, if there is one, has an entry.
+  all_out : left_to_take (progress merge input table) ≡ 0 → (merging : IsMerging settles sizes file space merge input table filter fences over_pages under_pages over under) → merging.run.out ≡ kept settles (folded_over over under)
+  all_out done merging =
+      let none = none_above done merging in
+      merging.out_is ∙ ap (λ (l : Entries). kept settles (folded_over (up_to merge.at over) l)) (all_up_to merge.at under none.1) ∙ ap (λ (l : Entries). kept settles (folded_over l under)) (all_up_to merge.at over none.0)
+
   pub pushed_all : left_to_take (progress merge input table) ≡ 0 → IsMerging settles sizes file space merge input table filter fences over_pages under_pages over under
       → HasPushed sizes true file space merge.writer filter fences (kept settles (folded_over over under))
-  pushed_all done merging =
-      let none = none_above done merging in
-      subst (λ (l : Entries). HasPushed sizes true file space merge.writer filter fences (kept settles (folded_over l under))) (all_up_to merge.at over none.0)
-      (subst (λ (l : Entries). HasPushed sizes true file space merge.writer filter fences (kept settles (folded_over (up_to merge.at over) l))) (all_up_to merge.at under none.1)
-      (subst (λ (l : Entries). HasPushed sizes true file space merge.writer filter fences l) merging.out_is merging.run.pushed))
+  pushed_all done merging = subst (λ (l : Entries). HasPushed sizes true file space merge.writer filter fences l) (all_out done merging) merging.run.pushed
+
+  pub all_begun : left_to_take (progress merge input table) ≡ 0 → IsMerging settles sizes file space merge input table filter fences over_pages under_pages over under → HasEntries merge.writer
+  all_begun done merging = begun_all input (all_out done merging) merging.begun

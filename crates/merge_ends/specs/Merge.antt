@@ -1,5 +1,5 @@
 -- What contracts see of a merge of two inputs, and where it stands between them. Weights are in bytes.
-use Rattle.std.specs.Prelude.{◌≡◌, ℕ, ◌+◌, ◌/◌, ◌≤◌, Bool, true, false, List, ◌++◌, length, Option, Some, None, IsSome}
+use Rattle.std.specs.Prelude.{◌≡◌, ◌≢◌, ◌⊎◌, ℕ, ◌+◌, ◌/◌, ◌≤◌, Bool, true, false, List, ◌++◌, length, Option, Some, None, IsSome, nat_lt, option_map, if◌then◌else◌}
 use Rattle.blsm_model.specs.declared.component.Component.{Component}
 use Rattle.blsm_model.specs.declared.key.Key.{Key}
 use Rattle.blsm_model.specs.Sizes.{Sizes}
@@ -10,11 +10,12 @@ use Rattle.page_file.specs.Component.{RunPage, ReadsOn, entries_of}
 use Rattle.record_delta.specs.Entries.{Entries, above, entries_weight, folded_over, up_to}
 use Rattle.page_space.specs.Space.{SpaceState}
 use Rattle.run_cursor.specs.Cursor.{CursorState, started as cursor_started}
-use Rattle.run_writer.specs.Writer.{WriterState, closed_entries, closed_of, HasEntries, started as writer_started}
+use Rattle.run_writer.specs.Writer.{WriterState, closed_entries, closed_of, HasEntries, IsResumed, resumed as writer_resumed, started as writer_started}
 use Rattle.merge_ends.specs.Input.{left_in, IsInput}
 use Rattle.merge_ends.specs.Newer.{IsNewer, component_left, components_above, cursors_with, newer_left}
-use Rattle.merge_ends.specs.Output.{HasRun, IsUpTo, kept}
+use Rattle.merge_ends.specs.Output.{EndBy, HasRun, IsUpTo, kept}
 use Rattle.merge_ends.specs.Progress.{Progress}
+use Rattle.merge_ends.specs.declared.finished.Finished.{Finished}
 
 -- The run that is written, the cursor over the older input, the greatest key that was taken, the one up to which all is on closed pages of the run, and
 -- how much was left of the components above that one. The newer input is lent at each call.
@@ -28,6 +29,18 @@ pub record MergeState : Type 0 where
 -- a merge that has taken nothing
 abbrev pub started : ℕ → Component → MergeState
 started role older = record { writer = writer_started role; older = cursor_started older; at = None; closed = None; left = 0 }
+
+-- a merge that is taken up behind what was finished of it, where its cursor over the older input stands there
+abbrev pub resumed : ℕ → Finished → CursorState → MergeState
+resumed role done older =
+    record { writer = writer_resumed role done.output done.next; older = older; at = Some done.key; closed = Some done.key; left = done.left }
+
+-- what is on closed pages of its run, where there are any
+abbrev pub finished_of : MergeState → Option Finished
+finished_of merge =
+    if nat_lt 1 merge.writer.component.pages
+    then option_map (λ key. record { output = closed_of merge.writer; next = merge.writer.number; key = key; left = merge.left }) merge.closed
+    else None
 
 -- where it stands by its numbers, with a newer input that has this cursor, or is this table
 abbrev pub progress : MergeState → Option CursorState → Entries → Progress
@@ -53,13 +66,14 @@ pub record Covers (settles : Bool) (merge : MergeState) (input : Option CursorSt
   pub light : settles ≡ false → input ≡ None → entries_weight (above merge.closed table) ≤ entries_weight (above merge.at table) + length merge.writer.buffer.text
   pub left : IsSome merge.closed → components_left merge input ≤ merge.left
 
--- Of both lists, what is up to the greatest key taken was taken, folded key by key, settled where the merge settles, and pushed, so the open page, if
--- there is one, has an entry. What is above it is left. The closed pages have what comes of both up to a key that isn't above that one.
+-- Of both lists, what is up to the greatest key taken was taken, folded key by key, settled where the merge settles, and pushed; what is above it is
+-- left. The open page, if there is one, has an entry; or, of components, more is to come than was pushed, as where the merge was taken up. The closed
+-- pages have what comes of both up to a key that isn't above that one.
 pub record IsMerging (settles : Bool) (sizes : Sizes) (file : List ℕ) (space : SpaceState) (merge : MergeState) (input : Option CursorState) (table : Entries) (filter : BitState) (fences : FencesState) (newer_pages older_pages : List ℕ) (newer older : Entries) : Type 0 where
   pub newer_is : IsNewer sizes file space merge.writer.role merge.at input table newer_pages newer
   pub older_is : IsInput sizes file space merge.writer.role merge.at merge.older older_pages older
   pub run : HasRun sizes true file space merge.writer filter fences merge.at
-  pub begun : HasEntries merge.writer
+  pub begun : HasEntries merge.writer ⊎ (IsSome input × (run.out ≢ kept settles (folded_over newer older)))
   pub out_is : run.out ≡ kept settles (folded_over (up_to merge.at newer) (up_to merge.at older))
   pub closed_up : IsUpTo merge.closed merge.at
   pub closed_is : closed_entries merge.writer run.out ≡ kept settles (folded_over (up_to merge.closed newer) (up_to merge.closed older))
@@ -72,3 +86,19 @@ pub record HasClosed (sizes : Sizes) (file : List ℕ) (writer : WriterState) (f
   pub reads : ReadsOn sizes (closed_of writer) pages (Some writer.number) file
   pub entries_are : entries_of pages ≡ entries
   pub guide : Guide filter fences (pages ++ behind)
+
+-- These pages are what was finished of a run, which can be taken up behind them: none of their keys is above the one up to which all is on them.
+-- Filter and fences are those of them.
+pub record HasFinished (sizes : Sizes) (honest : Bool) (file : List ℕ) (space : SpaceState) (role : ℕ) (filter : BitState) (fences : FencesState)
+    (done : Finished) (pages : List RunPage) : Type 0 where
+  pub stand : IsResumed sizes honest file space role done.output done.next pages
+  pub guide : Guide filter fences pages
+  pub one_a_page : length fences.list ≡ done.output.pages
+  pub ends : EndBy (Some done.key) (entries_of pages)
+
+-- The entries are what comes of both lists, which are those of components, up to the key, and so much is left above it; they aren't all that comes.
+pub record IsFront (settles : Bool) (at : Option Key) (input : Option CursorState) (newer older entries : Entries) (left : ℕ) : Type 0 where
+  pub components : IsSome input
+  pub up_to_key : entries ≡ kept settles (folded_over (up_to at newer) (up_to at older))
+  pub more : entries ≢ kept settles (folded_over newer older)
+  pub left_is : left ≡ components_above at input newer older

@@ -2,13 +2,15 @@
 //! The merges use it.
 #![tactic(auto)]
 
+mod finished;
 mod input;
 mod laws;
 mod merge;
 mod newer;
 mod output;
 
-pub use input::{go_above, is_through};
+pub use finished::Finished;
+pub use input::{go_above, go_up_to, is_through, left_above};
 pub use laws::what_is_finished;
 pub use merge::Merge;
 pub use newer::Newer;

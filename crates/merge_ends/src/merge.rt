@@ -1,5 +1,5 @@
 //! A merge of two inputs, a quantum at a time.
-ghost use Rattle.std.specs.Prelude.{◌≡◌, ◌≢◌, ◌↔◌, ◌⊎◌, ◌+◌, ◌/◌, ◌≤◌, ◌<◌, ◌^◌, [], ◌∷◌, ℕ, Bool, List, Option, None, Ok, Err, length, if◌then◌else◌, IsTrue, IsErr, IfOk, OnOk};
+ghost use Rattle.std.specs.Prelude.{◌≡◌, ◌≢◌, ◌↔◌, ◌⊎◌, ◌+◌, ◌/◌, ◌≤◌, ◌<◌, ◌^◌, [], ◌∷◌, ℕ, Bool, true, List, Option, None, Some, Ok, Err, length, if◌then◌else◌, IsTrue, IsErr, IfOk, OnOk};
 ghost use Rattle.std.specs.List.{Contains, AllByRecursion};
 ghost use Rattle.blsm_model.specs.Components.{empty_component};
 ghost use Rattle.blsm_model.specs.Sizes.{Sizes};
@@ -10,17 +10,19 @@ ghost use Rattle.bloom_bits.specs.Filter.{rounded};
 ghost use Rattle.bloom_bits.specs.Guides.{Guide, KeepSized};
 ghost use Rattle.record_delta.specs.Entries.{Entries, AreSorted, folded_over};
 ghost use Rattle.page_space.specs.Space.{SpaceState, HasRole, IsFree};
-ghost use Rattle.page_file.specs.Component.{numbers_of, HasList};
+ghost use Rattle.page_file.specs.Component.{RunPage, entries_of, numbers_of, HasList};
 ghost use Rattle.page_file.specs.File.{Writes};
 ghost use Rattle.run_cursor.specs.Cursor.{CursorState};
-ghost use Rattle.run_writer.specs.Writer.{IsInside, open_region, HasPushed};
+ghost use Rattle.run_writer.specs.Writer.{IsCounted, IsInside, open_region, resumed as writer_resumed, HasPushed};
 ghost use Rattle.merge_ends.specs.Input.{left_in, IsInput};
 ghost use Rattle.merge_ends.specs.Newer.{component_left, newer_calls, IsNewer};
-ghost use Rattle.merge_ends.specs.Output.{kept};
+ghost use Rattle.merge_ends.specs.Output.{HasRun, kept};
 ghost use Rattle.merge_ends.specs.Quantum.{IsNext, NoneAbove, IsQuantum};
 ghost use Rattle.merge_ends.specs.Progress.{MayGoOn, MergesOn, TakesGroup, TakesQuantum, left_to_take, stage};
+ghost use Rattle.merge_ends.specs.Merge.{finished_of, resumed, HasFinished, IsFront};
 ghost use Rattle.merge_ends.specs.Merge.{started, progress, group_calls, quantum_calls, Covers, IsMerging};
 
+use crate::finished::Finished;
 use crate::input::{go_above, is_through, left_above};
 use crate::newer::Newer;
 use crate::output::put;
@@ -130,6 +132,35 @@ impl Merge {
         }
     }
 
+    /// The merge that is taken up behind what was finished of it: its cursor over the older input stands above the key, and its run goes on behind
+    /// the finished pages with the next one, which has the role's tag already. Filter and fences are those of the finished pages. It calls no device.
+    pub fn resume(older: Cursor, role: Role, done: &Finished) -> Merge
+        requires counted { IsCounted (writer_resumed role done.now.output done.now.next) }
+        requires few { done.now.output.pages + 1 < 2 ^ 32 }
+        ensures resumed { result ≡ resumed role done.now older }
+        ensures run { (sizes : Sizes) (honest : Bool) (file : List ℕ) (space : SpaceState) (filter : BitState) (fences : FencesState)
+            (pages : List RunPage) → HasFinished sizes honest file space role filter fences done.now pages
+            → HasRun sizes honest file space result.writer filter fences result.at }
+        // What comes of both lists up to the key is on the pages, and less than comes of them in all: the next page gets an entry.
+        ensures merging { (settles : Bool) (sizes : Sizes) (file : List ℕ) (space : SpaceState) (input : Option CursorState) (table : Entries)
+            (filter : BitState) (fences : FencesState) (over_pages under_pages : List ℕ) (over under : Entries) (pages : List RunPage)
+            → IsNewer sizes file space role (Some done.now.key) input table over_pages over
+            → IsInput sizes file space role (Some done.now.key) older under_pages under
+            → HasFinished sizes true file space role filter fences done.now pages
+            → IsFront settles (Some done.now.key) input over under (entries_of pages) done.now.left
+            → IsMerging settles sizes file space result input table filter fences over_pages under_pages over under }
+    {
+        Merge {
+            writer: Writer::resume(role, &done.output, done.next),
+            older,
+            at: Some(done.key.copy()),
+            closed: Some(done.key.copy()),
+            left: done.left,
+            room: None,
+            base: None,
+        }
+    }
+
     /// The greatest key that was taken; `None` where none was.
     pub fn cursor(&self) -> Option<Key>
         ensures { result ≡ self.now.at }
@@ -149,6 +180,22 @@ impl Merge {
         ensures { result ≡ self.now.left }
     {
         self.left
+    }
+
+    /// What is on closed pages of the run; `None` where no page is closed.
+    pub fn finished(&self) -> Option<Finished>
+        ensures { result ≡ finished_of self.now }
+    {
+        if self.writer.component().pages <= 1 {
+            return None;
+        }
+        let key = self.closed()?;
+        Some(Finished {
+            output: self.writer.closed(),
+            next: self.writer.next(),
+            key,
+            left: self.left,
+        })
     }
 
     /// Whether a component is wholly taken, of which this is the cursor.

@@ -1,5 +1,5 @@
 //! The run that a merge writes.
-ghost use Rattle.std.specs.Prelude.{◌≡◌, ◌+◌, ◌≤◌, ◌∷◌, ◌++◌, [], ℕ, false, length, if◌then◌else◌, option_map, IsTrue, IfSome, OnOk, OnErr};
+ghost use Rattle.std.specs.Prelude.{◌≡◌, ◌≢◌, ◌⊎◌, ◌+◌, ◌≤◌, ◌∷◌, ◌++◌, [], ℕ, false, length, if◌then◌else◌, option_map, IsTrue, IfSome, OnOk, OnErr};
 ghost use Rattle.disk_trait.specs.Region.{IsWithin};
 ghost use Rattle.blsm_model.specs.Geometry.{page_count, file_length};
 ghost use Rattle.bloom_bits.specs.Guides.{KeepReserves};
@@ -96,8 +96,8 @@ pub fn put<D: Disk>(
         → OnOk result (closed_entries writer.new (out ++ kept settles ((key.now, rec.now) ∷ [])) ≡ (if has_turned writer.old writer.new then out else closed_entries writer.old out)) }
     ensures here { settles ≡ false
         → OnOk result (length writer.new.buffer.text ≡ (if has_turned writer.old writer.new then 0 else length writer.old.buffer.text) + weight_with key.now rec.now) }
-    // An open page that has an entry has one still, and so has a new one.
-    ensures begun { HasEntries writer.old → OnOk result (HasEntries writer.new) }
+    // An open page that has an entry has one still, and one to which something came has one.
+    ensures begun { HasEntries writer.old ⊎ (kept settles ((key.now, rec.now) ∷ []) ≢ []) → OnOk result (HasEntries writer.new) }
     ensures room { (left : ℕ) → HasRoom space.old writer.old (weight_with key.now rec.now + left) → OnOk result (HasRoom space.new writer.new left) }
     ensures light { OnOk result (writer.new.component.weight ≤ writer.old.component.weight + weight_with key.now rec.now) }
     ensures size { OnOk result (role_size space.new writer.old.role + writer.old.component.pages ≡ role_size space.old writer.old.role + writer.new.component.pages) }

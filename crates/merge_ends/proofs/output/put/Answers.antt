@@ -1,11 +1,11 @@
-use Rattle.std.proofs.Common.{rules, ◌<◌, ◌≤◌, ◌≡◌, ◌∙◌, ◌+◌, [], ◌∷◌, ◌++◌, ℕ, Option, length, inl, ap, sym, subst, arith}
+use Rattle.std.proofs.Common.{rules, ◌<◌, ◌≤◌, ◌≡◌, ◌∙◌, ◌+◌, [], ◌∷◌, ◌++◌, ℕ, Option, length, inl, ⊎_elim, ap, sym, subst, arith}
 use Rattle.std.specs.Prelude.{if◌then◌else◌, IfSome, OnOk}
 use Rattle.blsm_model.specs.declared.key.Key.{Key}
 use Rattle.record_delta.specs.declared.record.Rec.{Rec}
 use Rattle.record_delta.specs.Entries.{Entries}
 use Rattle.record_delta.specs.Records.{weight}
 use Rattle.page_space.proofs.FreeLemmas.{free_within}
-use Rattle.run_writer.specs.Writer.{closed_entries, has_place}
+use Rattle.run_writer.specs.Writer.{closed_entries, has_place, HasEntries}
 use Rattle.run_writer.proofs.ClosedLemmas.{closed_pushed, text_more}
 use Rattle.run_writer.proofs.GrowthLemmas.{next_above, room_for_more}
 use Rattle.run_writer.proofs.RegionLemmas.{open_inside, open_tagged}
@@ -95,6 +95,11 @@ returns-clause-opens g c =
 
 pub returns-in_default-clause-closed : goal.returns-in_default-clause-closed
 returns-in_default-clause-closed g c = λ out has. closed_none c.args.writer.now out _ (none_kept g (goal.at.returns-in_default-clause-closed g c).In_default c.args.key.now)
+
+pub returns-in_default-clause-begun : goal.returns-in_default-clause-begun
+returns-in_default-clause-begun g c = λ begun.
+    let none = none_kept g (goal.at.returns-in_default-clause-begun g c).In_default c.args.key.now in
+    ⊎_elim (λ (has : HasEntries c.args.writer.now). has) (λ more. absurd (more none)) begun
 
 pub returns-clause-begun : goal.returns-clause-begun
 returns-clause-begun g c = λ begun.

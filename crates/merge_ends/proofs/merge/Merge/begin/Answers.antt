@@ -1,4 +1,4 @@
-use Rattle.std.proofs.Common.{◌≡◌, ◌∙◌, ℕ, true, None, [], refl, ap, sym, subst, arith}
+use Rattle.std.proofs.Common.{◌≡◌, ◌∙◌, ℕ, true, None, [], refl, ap, sym, subst, inl, arith}
 use Rattle.bloom_bits.specs.Fences.{FencesState}
 use Rattle.page_file.specs.Entry.{AreRising}
 use Rattle.page_file.proofs.OrderLemmas.{orders}
@@ -26,7 +26,7 @@ returns-clause-merging c = λ settles sizes file space input table pages newer e
         pushed = c.start.ensures.pushed sizes true file space c.reset.new.self c.clear.new.self (record { keys = c.reset.ensures.none; fences_are = ap (λ (f : FencesState). f.list) c.clear.ensures });
         ends = tt;
       };
-      begun = λ some. absurd (omega (arith, some, ap (λ (w : WriterState). w.component.pages) c.start.ensures.started));
+      begun = inl (λ some. absurd (omega (arith, some, ap (λ (w : WriterState). w.component.pages) c.start.ensures.started)));
       out_is = nothing_out settles newer entries;
       closed_up = λ key key_above. key_above;
       closed_is = ap (λ (w : WriterState). closed_entries w []) c.start.ensures.started ∙ nothing_out settles newer entries;

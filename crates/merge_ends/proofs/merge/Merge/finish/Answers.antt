@@ -11,7 +11,7 @@ use Rattle.run_writer.specs.Writer.{open_region, HasEntries, HasPushed}
 use Rattle.blsm_model.specs.Geometry.{file_length}
 use Rattle.merge_ends.specs.Merge.{MergeState}
 use Rattle.merge_ends.specs.Output.{kept}
-use Rattle.merge_ends.proofs.MergeLemmas.{pushed_all}
+use Rattle.merge_ends.proofs.MergeLemmas.{all_begun, pushed_all}
 use Rattle.merge_ends.proofs.merge.Merge.finish.Goals as goal
 
 pub returns-clause-list : goal.returns-clause-list
@@ -23,7 +23,7 @@ returns-clause-list g c = λ settles space input table filter fences overs under
     let here = subst (λ (s : MergeState). HasPushed sizes true d.bytes space s.writer filter fences out) (sym c.self.view_is) pushed in
     subst (λ (s : MergeState). IfOk c.end.result (λ run. (list : HasList sizes run out (g.D.Disk.state c.end.new.disk).bytes)
     × ((n : ℕ) → Contains (numbers_of list.pages) n → HasRole space s.writer.role n) × Guide filter fences list.pages)) c.self.view_is
-    (c.end.ensures.list space filter fences out honest (subst (λ (s : MergeState). HasEntries s.writer) (sym c.self.view_is) merging.begun) (subst (λ (b : Bool). HasPushed sizes b d.bytes space c.self.inside.writer filter fences out) (sym honest) here))
+    (c.end.ensures.list space filter fences out honest (subst (λ (s : MergeState). HasEntries s.writer) (sym c.self.view_is) (all_begun c.args.self.now over under done merging)) (subst (λ (b : Bool). HasPushed sizes b d.bytes space c.self.inside.writer filter fences out) (sym honest) here))
 
 pub returns-clause-writes : goal.returns-clause-writes
 returns-clause-writes g c =

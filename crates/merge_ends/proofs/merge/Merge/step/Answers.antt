@@ -25,7 +25,7 @@ use Rattle.merge_ends.specs.Progress.{MayGoOn, MergesOn, TakesGroup, stage, page
 use Rattle.merge_ends.proofs.GroupLemmas.{behind_group, end_left, first_none, group_none, head_is, input_further, older_stays}
 use Rattle.merge_ends.proofs.InputLemmas.{input_kept}
 use Rattle.merge_ends.proofs.KeptLemmas.{kept_more, ends_kept}
-use Rattle.merge_ends.proofs.MergeLemmas.{closed_is_more, closed_up_more, gave_less, group_taken, light_more, still_table}
+use Rattle.merge_ends.proofs.MergeLemmas.{begun_more, begun_read, closed_is_more, closed_up_more, gave_less, group_taken, light_more, still_table}
 use Rattle.merge_ends.proofs.LeftLemmas.{component_few, component_less, components_are, left_behind_is, left_covers, left_small, same_above, same_left}
 use Rattle.merge_ends.proofs.NewerLemmas.{behind_both, counts_read, counts_written, group_is, newer_behind, newer_damage, newer_end, newer_first, newer_further, newer_kept, newer_less, newer_sorted, older_damage, ready_behind}
 use Rattle.merge_ends.proofs.OutputLemmas.{rising_more, turned_behind}
@@ -135,7 +135,7 @@ returns-in_default-clause-lists g c = λ overs unders over under honest merging 
           pushed = pushed_read sizes true before new space c.self.inside.writer c.args.filter.now c.args.fences.now old.run.out (λ told. same ∙ only_reads_same first honest) old.run.pushed;
           ends = old.run.ends;
         };
-        begun = old.begun;
+        begun = begun_read (g.N.Newer.run c.args.newer.now) input c.go_above.ensures.same_kind old.begun;
         out_is = old.out_is;
         closed_up = old.closed_up;
         closed_is = old.closed_is;
@@ -397,7 +397,7 @@ returns-clause-lists g c = λ overs unders over under honest merging other.
               (c.in_ok-put.ensures.pushed out (λ any. rising_more at out key any rise old.run.ends taken.above_at) pushed);
           ends = ends_kept settles at out key rec old.run.ends taken.above_at;
         };
-        begun = c.in_ok-put.ensures.begun old.begun;
+        begun = begun_more (g.N.Newer.run c.args.newer.now) input (kept settles ((key, rec) ∷ [])) c.go_above.ensures.same_kind old.begun c.in_ok-put.ensures.begun;
         out_is = ap (λ (l : Entries). l ++ kept settles ((key, rec) ∷ [])) old.out_is
             ∙ sym (kept_more settles (folded_over (up_to at over) (up_to at under)) key rec)
             ∙ sym (ap (λ (l : Entries). kept settles l) taken.out);
