@@ -92,8 +92,11 @@ impl Key {
         requires fits { length bytes.now ≤ most_key }
         ensures { self.new ≡ bytes.now }
     {
-        self.bytes.clear();
-        match self.bytes.try_extend_from_slice(bytes) {
+        // What is written over need not be blanked before.
+        self.bytes.truncate(bytes.len());
+        let (over, behind) = bytes.split_at(self.bytes.len());
+        self.bytes.as_mut_slice().copy_from_slice(over);
+        match self.bytes.try_extend_from_slice(behind) {
             Ok(()) => {}
             Err(_) => unreachable!(),
         }

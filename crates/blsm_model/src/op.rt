@@ -1,5 +1,6 @@
 //! Writes and commands.
 ghost use Rattle.std.specs.Prelude.{◌≡◌, ◌↔◌, ◌∷◌, ◌<◌, ◌≤◌, ◌^◌, [], IsTrue, length};
+ghost use Rattle.blsm_model.specs.declared.op.Op.TheVariants as op;
 ghost use Rattle.blsm_model.specs.Format.{least_weight, most_key, most_text, most_weight};
 ghost use Rattle.blsm_model.specs.Histories.{is_met_by, looks_first, writes_of};
 ghost use Rattle.blsm_model.specs.Tails.{TailFits};
@@ -44,6 +45,21 @@ impl Write {
     }
 }
 
+// What copies a tail or a swap stays a call: a function zeroes all its locals at entry, and their texts would be such of each copy.
+#[inline(never)]
+fn tail_of(key: &Key, tail: &Text) -> Op
+    ensures { result ≡ op.Tail key.now tail.now }
+{
+    Op::Tail(key.copy(), tail.copy())
+}
+
+#[inline(never)]
+fn swap_of(key: &Key, count: u64, value: &Value) -> Op
+    ensures { result ≡ op.Swap key.now count value.now }
+{
+    Op::Swap(key.copy(), count, value.copy())
+}
+
 /// A command of a caller.
 #[derive(PartialEq, Eq, Debug, Drop)]
 pub enum Op {
@@ -85,10 +101,10 @@ impl Op {
         match self {
             Op::Put(key, value) => Op::Put(key.copy(), value.copy()),
             Op::Add(key, count) => Op::Add(key.copy(), *count),
-            Op::Tail(key, tail) => Op::Tail(key.copy(), tail.copy()),
+            Op::Tail(key, tail) => tail_of(key, tail),
             Op::Del(key) => Op::Del(key.copy()),
             Op::New(key, value) => Op::New(key.copy(), value.copy()),
-            Op::Swap(key, count, value) => Op::Swap(key.copy(), *count, value.copy()),
+            Op::Swap(key, count, value) => swap_of(key, *count, value),
             Op::Get(key) => Op::Get(key.copy()),
             Op::Hold(low, high) => Op::Hold(low.copy(), high.copy()),
             Op::Next(n) => Op::Next(*n),

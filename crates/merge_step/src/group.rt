@@ -1,6 +1,6 @@
 //! The least key of two runs.
-ghost use Rattle.std.specs.Prelude.{◌≡◌, ◌≤◌, ◌+◌, ◌*◌, IfSome, Some, None, option_map};
-ghost use Rattle.blsm_model.specs.Format.{least_weight, most_weight};
+ghost use Rattle.std.specs.Prelude.{◌≡◌, ◌≤◌, ◌+◌, ◌*◌, IfSome, Some, None, length, option_map};
+ghost use Rattle.blsm_model.specs.Format.{least_weight, most_weight, overhead};
 ghost use Rattle.merge_step.specs.Group.{least_of, group_of, group_at};
 ghost use Rattle.merge_step.specs.declared.group.Taken.TheVariants.{InRoom};
 ghost use Rattle.record_delta.specs.Folding.{fold as fold_of};
@@ -112,8 +112,20 @@ fn folded(key: &Key, rec: &Rec, other: &Key, below: &Rec, room: &mut Option<(Key
     ensures light { weight_with key.now (fold_of rec.now below.now) ≤ weight_with key.now rec.now + weight_with other.now below.now }
     ensures grows { weight_with key.now rec.now ≤ weight_with key.now (fold_of rec.now below.now) }
 {
-    *room = Some((key.copy(), fold(rec.copy(), below.copy())));
+    *room = Some((key.copy(), fold_lent(rec, below)));
     Taken::InRoom(weight(key, rec) + weight(other, below))
+}
+
+// A newer record over an older one, which is copied only where the newer one is a change of it.
+fn fold_lent(rec: &Rec, below: &Rec) -> Rec
+    ensures folded { result ≡ fold_of rec.now below.now }
+    ensures lighter { (key : Key) → weight_with key result + (overhead + length key) ≤ weight_with key rec.now + weight_with key below.now }
+    ensures grows { (key : Key) → weight_with key rec.now ≤ weight_with key result }
+{
+    match rec {
+        Rec::Base(_) | Rec::Tomb => rec.copy(),
+        Rec::Delta(_) => fold(rec.copy(), below.copy()),
+    }
 }
 
 /// The group that lies there, lent, with its weight in bytes.

@@ -22,8 +22,10 @@ use Rattle.blsm_model.specs.declared.history.Reply.TheVariants.{Done, Full, Faul
 use Rattle.blsm_model.specs.Histories.{is_done, is_met, writes_of}
 use Rattle.blsm_model.specs.Images.{is_unsure}
 use Rattle.blsm_model.specs.Legal.{total_weight, is_del}
-use Rattle.blsm_model.specs.Values.{added_count, key_of, text_written}
-use Rattle.blsm_model.specs.Format.{most_key, most_text}
+use Rattle.blsm_model.specs.Values.{key_of}
+use Rattle.blsm_model.specs.Format.{least_weight}
+use Rattle.record_delta.specs.declared.record.Rec.{Rec}
+use Rattle.record_delta.specs.Records.{IsWithin, record_of, weight}
 use Rattle.disk_trait.specs.Disk.{DiskState}
 use Rattle.disk_trait.specs.Moments.{IsTimed, LeavesOnly}
 use Rattle.disk_trait.proofs.MomentLemmas.{leaves_only_weaken, leaves_only_now}
@@ -42,7 +44,7 @@ use Rattle.tree_machine.specs.Outcomes.{IsPossible, calls_behind_look, is_broken
 use Rattle.tree_machine.specs.Plays.{may}
 use Rattle.tree_machine.specs.Stands.{FitsFormat, WritesFit}
 use Rattle.tree_machine.proofs.GrowLemmas.{taken_book}
-use Rattle.tree_machine.proofs.LightLemmas.{fits_format}
+use Rattle.tree_machine.proofs.WeightLemmas.{weight_of_record}
 use Rattle.tree_machine.specs.Steps.{
   Outcome,
   Well,
@@ -77,18 +79,31 @@ use Rattle.core_lists.proofs.ShowingLemmas.{standing_shows, showing_is_kept, qui
 use Rattle.core_lists.proofs.WriteLands.{book_lands}
 use Rattle.tree_core.specs.Standing.{AnyRows, HasStopped, RunsOver, StandsFor}
 use Rattle.tree_core.specs.Steps.{IsStep}
-use Rattle.tree_core.specs.Taking.{TellsOf, TakenOver, HasLost, TakesOver}
+use Rattle.tree_core.specs.Taking.{TellsOf, TakenOver, HasLost, Spells, TakesOver, written_by}
 use Rattle.tree_core.specs.declared.admission.Taking.TheVariants.{Failed}
 use Rattle.tree_core.proofs.BoundLemmas.{rose}
-use Rattle.blsm_model.specs.Tails.{TailFits}
+use Rattle.tree_core.proofs.TakingLemmas.{at_write}
 use Rattle.tree_core.proofs.TakingLists.{tells_of}
 use Rattle.disk_trait.proofs.ReadLemmas.{only_reads_start}
 use Rattle.tree_core.proofs.QuietLemmas.{quiet_step}
 use Rattle.core_lists.proofs.Terms.{IsAt, CountsAs}
 
 -- a command's write fits the format
-pub write_fits : (op : Op) (write : Write) → writes_of op ≡ write ∷ [] → added_count write < 2 ^ 64 → (1 ≤ length (key_of write)) × (length (key_of write) ≤ most_key) → length (text_written write) ≤ most_text → TailFits write → WritesFit (kind.Admit op)
-write_fits op write writes count key text tail = subst (λ (ws : List Write). AllByRecursion FitsFormat ws) (sym writes) (fits_format write count key text tail, tt)
+pub write_fits : (op : Op) (key : Key) (rec : Rec) (n : ℕ) → Spells op key rec → IsWithin key rec → n ≡ weight key rec → least_weight ≤ n → WritesFit (kind.Admit op)
+write_fits op key rec n is within weighs least =
+    let write = written_by op in
+    let same : (P : Key → Rec → Type 0) → P key rec → P (key_of write) (record_of write) =
+    λ P holds. at_write P (key_of write) key (record_of write) rec is.key_is is.rec_is holds in
+    subst (λ (ws : List Write). AllByRecursion FitsFormat ws) (sym is.writes) (
+      record {
+        counts = is.count;
+        within = same IsWithin within;
+        tail = is.tail;
+        least = subst (λ (n : ℕ). least_weight ≤ n) (weight_of_record write) (same (λ (k : Key) (r : Rec). least_weight ≤ weight k r)
+            (subst (λ (m : ℕ). least_weight ≤ m) weighs least));
+      },
+      tt,
+    )
 
 -- ---- what the next state shows
 

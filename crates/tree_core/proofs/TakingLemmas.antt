@@ -27,6 +27,7 @@ use Rattle.tree_runs.specs.Runs.{AreRunning}
 use Rattle.core_moves.specs.declared.held.Held.{Held}
 use Rattle.core_moves.specs.Needs.{IsOn, WriteFits}
 use Rattle.core_moves.specs.Moves.{begun_in}
+use Rattle.tree_core.specs.Taking.{Spells, written_by}
 use Rattle.tree_core.proofs.KeepLemmas.{KeepsPins}
 
 -- ---- what a result tells
@@ -75,6 +76,12 @@ weighs op write writes = writes_once op write [] writes ∙ sym (weight_of_recor
 
 pub at_write : (P : Key → Rec → Type 0) (key key' : Key) (rec rec' : Rec) → key' ≡ key → rec' ≡ rec → P key' rec' → P key rec
 at_write P key key' rec rec' same_key same_rec holds = subst (λ (k : Key). P k rec) same_key (subst (λ (r : Rec). P key' r) same_rec holds)
+
+-- so what it spells weighs what it writes
+pub spelled_weighs : (op : Op) (key : Key) (rec : Rec) → Spells op key rec → weight key rec ≡ total_weight (writes_of op)
+spelled_weighs op key rec is =
+    at_write (λ (k : Key) (r : Rec). weight k r ≡ total_weight (writes_of op)) key (key_of (written_by op)) rec (record_of (written_by op)) (sym is.key_is)
+    (sym is.rec_is) (sym (weighs op (written_by op) is.writes))
 
 -- ---- the calls together
 

@@ -1,16 +1,20 @@
 -- What the parts of a call leave, before the book is told.
-use Rattle.std.specs.Prelude.{◌≡◌, ◌⊎◌, ℕ, true, false, List, length}
+use Rattle.std.specs.Prelude.{◌≡◌, ◌⊎◌, ◌<◌, ◌^◌, ℕ, true, false, List, [], ◌∷◌, get_or, length}
 use Rattle.refusal.specs.Count.{HasRisen}
 use Rattle.blsm_model.specs.declared.key.Key.{Key}
 use Rattle.blsm_model.specs.declared.row.Value.{Value}
 use Rattle.blsm_model.specs.declared.op.Op.{Op}
+use Rattle.blsm_model.specs.declared.op.Write.{Write}
+use Rattle.blsm_model.specs.declared.op.Write.TheVariants.{Del}
 use Rattle.blsm_model.specs.declared.history.Reply.TheVariants.{Done, FaultUnsure}
 use Rattle.blsm_model.specs.Histories.{writes_of}
 use Rattle.blsm_model.specs.Legal.{total_weight}
+use Rattle.blsm_model.specs.Tails.{TailFits}
+use Rattle.blsm_model.specs.Values.{added_count, key_of}
 use Rattle.disk_trait.specs.Disk.{DiskState}
 use Rattle.disk_trait.specs.Moments.{LeavesOnly}
 use Rattle.record_delta.specs.declared.record.Rec.{Rec}
-use Rattle.record_delta.specs.Records.{weight}
+use Rattle.record_delta.specs.Records.{record_of, weight}
 use Rattle.pacing.specs.Pace.{Pace}
 use Rattle.pacing.specs.Fronts.{Fronts}
 use Rattle.tree_machine.specs.Machine.{Machine, charge, deep_done, pass_done}
@@ -30,6 +34,18 @@ use Rattle.core_lists.specs.Going.{GoesOn}
 use Rattle.tree_core.specs.declared.admission.Taking.{Taking}
 use Rattle.tree_core.specs.declared.admission.Taking.TheVariants.{Taken, Failed}
 use Rattle.tree_core.specs.Core.{IsLive}
+
+-- the write of a write's command; any other one has none, and what stands here for it means nothing
+abbrev pub written_by : Op → Write
+written_by op = get_or (writes_of op) 0 (Del [])
+
+-- A write's command writes this record of this key, whose tail and count are of the format.
+pub record Spells (op : Op) (key : Key) (rec : Rec) : Type 0 where
+  pub writes : writes_of op ≡ written_by op ∷ []
+  pub key_is : key ≡ key_of (written_by op)
+  pub rec_is : rec ≡ record_of (written_by op)
+  pub tail : TailFits (written_by op)
+  pub count : added_count (written_by op) < 2 ^ 64
 
 -- it runs, and has this pace
 pub record Runs (held : Held) (d : DiskState) : Type 0 where

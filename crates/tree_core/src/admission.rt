@@ -1,18 +1,19 @@
 //! Writes are admitted.
-ghost use Rattle.std.specs.Prelude.{◌≡◌, ◌+◌, ℕ, List, Option, if◌then◌else◌, true, None, [], ◌∷◌, IsTrue};
+ghost use Rattle.std.specs.Prelude.{◌≡◌, ◌≤◌, ◌+◌, ℕ, List, Option, if◌then◌else◌, true, None, [], ◌∷◌, IsTrue};
 ghost use Rattle.blsm_model.specs.declared.key.Key.{Key};
 ghost use Rattle.blsm_model.specs.declared.row.Value.{Value};
 ghost use Rattle.blsm_model.specs.Stored.{as_reply};
 ghost use Rattle.blsm_model.specs.declared.history.Reply.TheVariants.{FaultLost, FaultUnsure};
+ghost use Rattle.blsm_model.specs.Book.{HasRoom};
+ghost use Rattle.blsm_model.specs.Format.{least_weight, most_weight};
 ghost use Rattle.blsm_model.specs.Geometry.{file_length};
 ghost use Rattle.blsm_model.specs.Histories.{is_met, looks_first, writes_of};
 ghost use Rattle.blsm_model.specs.Legal.{TailsFit, is_write, total_weight, is_del};
-ghost use Rattle.blsm_model.specs.Tails.{TailFits};
 ghost use Rattle.blsm_model.specs.Values.{key_of};
 ghost use Rattle.disk_trait.specs.Effects.{Affects};
 ghost use Rattle.gear_sched.specs.Gears.{first_debt, second_debt};
 ghost use Rattle.record_delta.specs.Records.{record_of};
-ghost use Rattle.seat_book.specs.State.{may_note_in};
+ghost use Rattle.seat_book.specs.State.{may_note_in, noted_in};
 ghost use Rattle.scan_view.specs.Pins.{beside_pins};
 ghost use Rattle.tree_machine.specs.declared.step.Kind.TheVariants as kind;
 ghost use Rattle.tree_machine.specs.Lists.{value_in};
@@ -24,21 +25,22 @@ ghost use Rattle.disk_trait.specs.Reads.{OnlyReads};
 ghost use Rattle.tree_file.specs.Tree.{HoldsTree, Tree};
 ghost use Rattle.tree_runs.specs.Holding.{AreGuided};
 ghost use Rattle.core_moves.specs.Needs.{IsOn};
-ghost use Rattle.tree_core.specs.Answers.{found_in};
+ghost use Rattle.tree_core.specs.Answers.{found_in, reply_to_write};
 ghost use Rattle.tree_core.specs.Calls.{Admits, AdmitsMet, LooksFirst};
 ghost use Rattle.tree_core.specs.Causes.{CountsFirst, Finds, IsAbout, Tries, calls_to_admit, tried_by};
 ghost use Rattle.tree_core.specs.Ruling.{ruled_by};
 ghost use Rattle.tree_core.specs.Clock.{EndsTaken};
 ghost use Rattle.tree_core.specs.Standing.{AnyRows, StandsFor};
-ghost use Rattle.tree_core.specs.Taking.{Runs, Takes, TakesOver, TellsTaking};
+ghost use Rattle.tree_core.specs.Taking.{Runs, Spells, Takes, TakesOver, TellsTaking, written_by};
 
 use crate::lookup::look_up;
 use crate::settling::{settle_deep, settle_pass};
 use crate::{Admission, Core, Lookup};
-use blsm_model::{Key, Op, ShortReply, Value, Why, Write};
+use blsm_model::{Key, Op, ShortReply, Value, Why};
 use core_moves::Held;
 use disk_trait::Disk;
-use record_delta::Rec;
+use record_delta::{Rec, weight};
+use seat_book::SeatBook;
 
 // How a write was taken: it is in the tree; or a call of the disk failed, before its append had begun or after.
 enum Taking {
@@ -46,14 +48,40 @@ enum Taking {
     Failed { begun: bool },
 }
 
+// The key that a write's command writes, and its record, for which the room of another one is taken.
+fn spell<'a>(op: &'a Op, rec: &mut Rec) -> &'a Key
+    requires is_write { IsTrue (is_write op.now) }
+    requires tails { TailsFit op.now }
+    ensures { Spells op.now result.now rec.new }
+{
+    match op {
+        Op::Put(key, value) | Op::New(key, value) | Op::Swap(key, _, value) => {
+            rec.set_base(value.count, value.text.as_bytes());
+            key
+        }
+        Op::Add(key, amount) => {
+            rec.set_delta(*amount, &[]);
+            key
+        }
+        Op::Tail(key, tail) => {
+            rec.set_delta(0, tail.as_bytes());
+            key
+        }
+        Op::Del(key) => {
+            *rec = Rec::Tomb;
+            key
+        }
+        _ => unreachable!(),
+    }
+}
+
 // Takes a command's write that there is room for: the swaps that are due, a begin where it is due, the append.
-fn take<D: Disk>(held: &mut Held, disk: &mut D, seat: u32, op: &Op, write: &Write) -> Taking
+fn take<D: Disk>(held: &mut Held, disk: &mut D, seat: u32, op: &Op, key: &Key, rec: &Rec) -> Taking
     requires runs { Runs held.old (D.state disk.old) }
     requires is_write { IsTrue (is_write op.now) }
-    requires write { writes_of op.now ≡ write.now ∷ [] }
-    requires tail { TailFits write.now }
+    requires spelled { Spells op.now key.now rec.now }
     requires may { MayWrite seat (total_weight (writes_of op.now)) op.now held.old }
-    ensures takes { Takes result seat (key_of write.now) (record_of write.now) held.old held.new (D.state disk.new) }
+    ensures takes { Takes result seat (key_of (written_by op.now)) (record_of (written_by op.now)) held.old held.new (D.state disk.new) }
     ensures lists { (opening : List (Key × Value)) (m : Machine) → IsTrue (D.state disk.old).is_honest → StandsFor AnyRows opening held.old m (D.state disk.old)
         → held.old.book.stopped ≡ None → IsTrue (may m seat (kind.Admit op.now)) → WritesFit (kind.Admit op.now) → IsTrue
         (is_met op.now (value_in m.lists))
@@ -62,7 +90,6 @@ fn take<D: Disk>(held: &mut Held, disk: &mut D, seat: u32, op: &Op, write: &Writ
     ensures ends { EndsTaken result held.old (D.state disk.old) (D.state disk.new) }
     ensures faults { TellsTaking result (D.state disk.old) (D.state disk.new) }
 {
-    let rec = Rec::of_write(write);
     if settle_deep(held, disk).is_err() {
         return Taking::Failed { begun: false };
     }
@@ -70,7 +97,7 @@ fn take<D: Disk>(held: &mut Held, disk: &mut D, seat: u32, op: &Op, write: &Writ
         return Taking::Failed { begun: false };
     }
     held.begin_for(op.weight());
-    match held.write(disk, seat, write.key(), &rec) {
+    match held.write(disk, seat, key, rec) {
         Ok(()) => Taking::Taken,
         Err(_) => Taking::Failed { begun: true },
     }
@@ -92,6 +119,30 @@ fn failed(begun: bool) -> ShortReply
     } else {
         ShortReply::FaultLost
     }
+}
+
+// The reply of an answer, where no value was found.
+fn reply_of(answer: Admission) -> ShortReply
+    ensures { as_reply result ≡ reply_to_write (ruled_by answer None) }
+{
+    match answer {
+        Admission::Admitted => ShortReply::Done,
+        Admission::Kept => ShortReply::Kept(None),
+        Admission::Full(charge) => ShortReply::Full(charge),
+        Admission::ReadFault => ShortReply::Fault,
+        Admission::Damaged(page) => ShortReply::Damaged(page),
+        Admission::Fault { begun } => failed(begun),
+        Admission::Stopped(why) => ShortReply::Stopped(why),
+    }
+}
+
+// Notes it. It stays a call, as a function zeroes all its locals at entry, and an entry has a kilobyte.
+#[inline(never)]
+fn note(book: &mut SeatBook, seat: u32, op: &Op, answer: Admission)
+    requires { HasRoom book.old.book.room (record { seat = seat; op = op.now; reply = reply_to_write (ruled_by answer None) }) }
+    ensures { book.new ≡ noted_in seat op.now (reply_to_write (ruled_by answer None)) book.old }
+{
+    book.note(seat, op.copy(), reply_of(answer));
 }
 
 // What the lookup came to of a write that looks first: its condition holds; the value doesn't meet it; a call of the disk failed; or
@@ -180,10 +231,12 @@ impl<D: Disk + Drop> Core<D> {
     }
 
     // Admits a write whose condition holds, or refuses it for its size.
-    fn admit_met(&mut self, seat: u32, op: &Op, write: &Write) -> Admission
+    fn admit_met(&mut self, seat: u32, op: &Op, key: &Key, rec: &Rec, weight: u64) -> Admission
         requires write { IsTrue (is_write op.now) }
-        requires writes { writes_of op.now ≡ write.now ∷ [] }
-        requires tail { TailFits write.now }
+        requires spelled { Spells op.now key.now rec.now }
+        requires weight { weight ≡ total_weight (writes_of op.now) }
+        requires least { least_weight ≤ weight }
+        requires most { weight ≤ most_weight }
         requires fits { WritesFit (kind.Admit op.now) }
         requires runs { self.old.held.book.stopped ≡ None }
         requires note { IsTrue (may_note_in seat 0 self.old.held.book) }
@@ -193,22 +246,19 @@ impl<D: Disk + Drop> Core<D> {
             → is_met op.now (value_in m.lists) ≡ true }
         ensures { AdmitsMet D.state seat op.now result self.old self.new }
     {
-        let weight = op.weight();
         let charge = self.charge();
         if !self.geometry().admits(is_del(op), charge, weight) {
-            self.held
-                .book
-                .note(seat, op.copy(), ShortReply::Full(charge));
+            note(&mut self.held.book, seat, op, Admission::Full(charge));
             return Admission::Full(charge);
         }
-        match take(&mut self.held, &mut self.disk, seat, op, write) {
+        match take(&mut self.held, &mut self.disk, seat, op, key, rec) {
             Taking::Taken => {
-                self.held.book.note(seat, op.copy(), ShortReply::Done);
+                note(&mut self.held.book, seat, op, Admission::Admitted);
                 Admission::Admitted
             }
             Taking::Failed { begun } => {
                 self.held.book.stop(Why::Faulted(self.disk.faults()));
-                self.held.book.note(seat, op.copy(), failed(begun));
+                note(&mut self.held.book, seat, op, Admission::Fault { begun });
                 Admission::Fault { begun }
             }
         }
@@ -227,19 +277,19 @@ impl<D: Disk + Drop> Core<D> {
         requires even { self.old.held.book.stopped ≡ None → first_debt self.old.held.gears seat + second_debt self.old.held.gears seat ≡ 0 }
         ensures { (found : Option Value) × Admits D.state seat op.now (ruled_by result found) self.old self.new }
     {
-        let write = op.write();
+        let mut rec = Rec::Tomb;
+        let key = spell(op, &mut rec);
+        let bytes = weight(key, &rec);
         if let Some(why) = self.held.book.stopped() {
-            self.held
-                .book
-                .note(seat, op.copy(), ShortReply::Stopped(why));
+            note(&mut self.held.book, seat, op, Admission::Stopped(why));
             return Admission::Stopped(why);
         }
         if !op.looks_first() {
-            return self.admit_met(seat, op, &write);
+            return self.admit_met(seat, op, key, &rec, bytes);
         }
         match self.look_first(seat, op) {
             Some(refused) => refused,
-            None => self.admit_met(seat, op, &write),
+            None => self.admit_met(seat, op, key, &rec, bytes),
         }
     }
 }

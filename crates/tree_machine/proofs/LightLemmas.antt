@@ -1,15 +1,14 @@
 -- The records of the lists are within the format's lengths, so none weighs more than the heaviest entry.
-use Rattle.std.proofs.Common.{ℕ, length, ◌^◌, ◌<◌, ◌-◌, ◌≤◌, [], ◌∷◌, ◌++◌, arith}
+use Rattle.std.proofs.Common.{ℕ, ◌-◌, ◌≤◌, [], ◌∷◌, ◌++◌, arith}
 use Rattle.std.proofs.lemmas.Grind.{common_steps}
 use Rattle.std.proofs.lemmas.Bool.Decides.{nat_tests}
 use Rattle.std.specs.List.{AllByRecursion}
 use Rattle.std.specs.FinMap.{put}
-use Rattle.blsm_model.specs.Format.{most_key, most_text, most_weight}
+use Rattle.blsm_model.specs.Format.{most_weight}
 use Rattle.blsm_model.specs.declared.key.Key.{Key}
 use Rattle.blsm_model.specs.declared.op.Write.{Write}
-use Rattle.blsm_model.specs.Tails.{TailFits}
 use Rattle.blsm_model.specs.Keys.{key_cmp}
-use Rattle.blsm_model.specs.Values.{added_count, key_of, text_written, weight_of}
+use Rattle.blsm_model.specs.Values.{key_of, weight_of}
 use Rattle.record_delta.specs.declared.record.Rec.{Rec}
 use Rattle.record_delta.specs.Records.{record_of, weight, settle, IsWithin}
 use Rattle.record_delta.specs.Folding.{over}
@@ -32,9 +31,6 @@ light_weighs (e ∷ es) light = (within_is_light e.0 e.1 light.0, light_weighs e
 
 pub write_is_light : (write : Write) → FitsFormat write → weight_of write ≤ most_weight
 write_is_light write fits = omega (arith, within_is_light (key_of write) (record_of write) fits.within, weight_of_record write)
-
-pub fits_format : (write : Write) → added_count write < 2 ^ 64 → (1 ≤ length (key_of write)) × (length (key_of write) ≤ most_key) → length (text_written write) ≤ most_text → TailFits write → FitsFormat write
-fits_format write count key text tail = grind (arith, common_steps, nat_tests)
 
 -- ---- lists that are made of others
 

@@ -3,15 +3,13 @@ use Rattle.std.specs.Prelude.{◌≡◌, ℕ, List, [], ◌∷◌, IsTrue, Optio
 use Rattle.std.proofs.lemmas.Grind.{common_steps}
 use Rattle.std.proofs.lemmas.Bool.Decides.{nat_tests}
 use Rattle.std.proofs.Common.{arith}
-use Rattle.std.proofs.Common.{◌∙◌, ap, inl, sym, subst}
+use Rattle.std.proofs.Common.{◌∙◌, inl, sym, subst}
 use Rattle.disk_trait.specs.Disk.{DiskState}
 use Rattle.disk_trait.specs.Reads.{OnlyReads}
 use Rattle.blsm_model.specs.declared.component.Component.{Component}
 use Rattle.blsm_model.specs.declared.key.Key.{Key}
 use Rattle.blsm_model.specs.Sizes.{Sizes}
 use Rattle.record_delta.specs.declared.record.Rec.{Rec}
-use Rattle.record_delta.specs.Entries.{over_any}
-use Rattle.record_delta.specs.Folding.{fold}
 use Rattle.page_file.specs.declared.file.Broken.{Broken}
 use Rattle.page_file.specs.declared.file.Broken.TheVariants.{Damaged}
 use Rattle.run_cursor.specs.Lookup.{IsDamaged, IsFoundBy}
@@ -29,13 +27,6 @@ pub record TellsOne (sizes : Sizes) (key : Key) (c : Component × GuideState) (n
 pub told_alone : (H : Type 0) (sizes : Sizes) (key : Key) (file : List ℕ) (c : Component × GuideState) (calls : ℕ) (result : Result (Option Rec) Broken)
     → IfOk result (λ found. H → IsFoundBy sizes c.0 c.1.filter c.1.fences key found calls file) → IfOk result (λ found. H → IsToldBy sizes key file c None found)
 told_alone H sizes key file c calls result h1 = grind (arith, common_steps, nat_tests)
-
--- a record that was folded over an older one, or stands alone
-pub over_found : (newer older record_now : Rec) (found : Option Rec) → found ≡ Some older → record_now ≡ fold newer older → Some record_now ≡ over_any (Some newer) found
-over_found newer older record_now found is folded = subst (λ (o : Option Rec). Some record_now ≡ over_any (Some newer) o) (sym is) (ap (λ (r : Rec). Some r) folded)
-
-pub over_none : (newer record_now : Rec) (found : Option Rec) → found ≡ None → record_now ≡ newer → Some record_now ≡ over_any (Some newer) found
-over_none newer record_now found is same = subst (λ (o : Option Rec). Some record_now ≡ over_any (Some newer) o) (sym is) (ap (λ (r : Rec). Some r) same)
 
 -- ---- one after the other
 

@@ -2,6 +2,7 @@
 ghost use Rattle.std.specs.Prelude.{◌≡◌, ◌≢◌, ◌+◌, ℕ, List, Ok, Err, length, IsTrue, IfOk};
 ghost use Rattle.blsm_model.specs.Geometry.{file_length};
 ghost use Rattle.record_delta.specs.Entries.{over_any, record_of_key};
+ghost use Rattle.record_delta.specs.Folding.{over};
 ghost use Rattle.page_space.specs.Space.{role_count};
 ghost use Rattle.page_file.specs.Component.{RunPage, ReadsAs, entries_of};
 ghost use Rattle.page_file.specs.File.{Reads};
@@ -18,6 +19,17 @@ use page_file::Broken;
 use page_space::Role;
 use record_delta::{Rec, fold};
 use run_cursor::find;
+
+// A record over an older one, if there is one. It stays a call, as a function zeroes all its locals at entry, and most lookups have nothing to fold.
+#[inline(never)]
+fn fold_under(newer: Rec, older: Option<Rec>) -> Rec
+    ensures { result ≡ over newer older }
+{
+    match older {
+        Some(older) => fold(newer, older),
+        None => newer,
+    }
+}
 
 impl Runs {
     /// The record of a key over what the components have of it: `newer`, which stands above them all, folded over the records of C1, C1' and
@@ -92,11 +104,7 @@ impl Runs {
         if !matches!(newer, Rec::Delta(_)) {
             return Ok(Some(newer));
         }
-        Ok(Some(
-            match find(disk, &self.geometry, run, filter, fences, key)? {
-                Some(older) => fold(newer, older),
-                None => newer,
-            },
-        ))
+        let older = find(disk, &self.geometry, run, filter, fences, key)?;
+        Ok(Some(fold_under(newer, older)))
     }
 }

@@ -1,7 +1,6 @@
 use Rattle.std.specs.Prelude.{◌≡◌, true, None}
 use Rattle.std.proofs.Common.{◌∙◌, refl, sym, subst}
 use Rattle.std.proofs.lemmas.Bool.{false≢true}
-use Rattle.blsm_model.specs.declared.history.Reply.TheVariants.{Stopped}
 use Rattle.blsm_model.proofs.OpLemmas.{no_condition}
 use Rattle.disk_trait.proofs.ReadLemmas.{only_reads_start}
 use Rattle.seat_book.specs.State.{may_note_in}
@@ -13,10 +12,11 @@ use Rattle.tree_core.specs.Core.{CoreState, IsCore}
 use Rattle.tree_core.specs.Ruling as ruling
 use Rattle.tree_core.specs.Steps.{may_in}
 use Rattle.tree_core.proofs.AdmissionJoins.{joined, looked_at_nothing}
-use Rattle.tree_core.proofs.AdmissionLemmas.{none_of, noted_same}
+use Rattle.tree_core.proofs.AdmissionLemmas.{none_of}
 use Rattle.tree_core.proofs.AdmissionSteps.{write_fits}
 use Rattle.tree_core.proofs.LastLemmas.{kept_on, may_admit}
 use Rattle.tree_core.proofs.RefusalCalls.{refused_stopped}
+use Rattle.tree_core.proofs.TakingLemmas.{spelled_weighs}
 use Rattle.tree_core.proofs.store.Core.admit.Goals as goal
 
 -- ---- the store is stopped
@@ -28,15 +28,13 @@ returns-in-Some g c = (
       let can = subst (λ (s : CoreState g.row.D.Denot). may_in s.held c.args.seat (kind.Admit c.args.op.now) ≡ true) (sym c.self.view_is)
       (may_admit c.args.seat c.args.op.now c.args.self.now.held c.requires.write c.requires.note c.requires.even) in
       let room = subst (λ (s : CoreState g.row.D.Denot). may_note_in c.args.seat 0 s.held.book ≡ true) (sym c.self.view_is) c.requires.note in
-      let fits = write_fits c.args.op.now c.write-write.result c.write-write.ensures.write c.write-write.ensures.count c.write-write.ensures.key
-      c.write-write.ensures.text (c.write-write.ensures.tail c.requires.tails) in
-      let same = noted_same c.args.seat c.args.op.now c.copy.result (Stopped c.in-Some.why) old.held.book c.note.new.self c.note.ensures
-      c.copy.ensures in
+      let fits = write_fits c.args.op.now c.spell-key.result.now c.spell-key.new.rec c.weight-bytes.result c.spell-key.ensures c.weight-bytes.ensures.within
+      c.weight-bytes.ensures.weight c.weight-bytes.ensures.least in
       subst (λ (s : CoreState g.row.D.Denot). Admits g.D.Disk.state c.args.seat c.args.op.now (ruling.Stopped c.in-Some.why) s
-      (record { disk = old.disk; held = with_book c.note.new.self old.held; holds = old.holds })) c.self.view_is
+      (record { disk = old.disk; held = with_book c.note.new.book old.held; holds = old.holds })) c.self.view_is
       (refused_stopped g.D.Disk.state c.args.seat c.args.op.now old old.disk c.self.invariant.0 (g.met.D.Disk.timed old.disk) can room fits
-      (λ n counts. only_reads_start (g.D.Disk.state old.disk) (g.met.D.Disk.timed old.disk)) c.in-Some.why c.note.new.self refl
-      (sym c.stopped.ensures ∙ c.in-Some.is) same),
+      (λ n counts. only_reads_start (g.D.Disk.state old.disk) (g.met.D.Disk.timed old.disk)) c.in-Some.why c.note.new.book refl
+      (sym c.stopped.ensures ∙ c.in-Some.is) c.note.ensures),
 )
 
 pub invariant_of-self : goal.invariant_of-self
@@ -46,11 +44,11 @@ invariant_of-self g c = kept_on g.D.Disk.state c.self.view_is (g.met.D.Disk.time
 -- ---- it doesn't look first
 
 pub admit_met-requires-clause-fits : goal.admit_met-requires-clause-fits
-admit_met-requires-clause-fits g c = write_fits c.args.op.now c.write-write.result c.write-write.ensures.write c.write-write.ensures.count
-    c.write-write.ensures.key c.write-write.ensures.text (c.write-write.ensures.tail c.requires.tails)
+admit_met-requires-clause-fits g c = write_fits c.args.op.now c.spell-key.result.now c.spell-key.new.rec c.weight-bytes.result c.spell-key.ensures c.weight-bytes.ensures.within
+    c.weight-bytes.ensures.weight c.weight-bytes.ensures.least
 
-pub admit_met-requires-clause-tail : goal.admit_met-requires-clause-tail
-admit_met-requires-clause-tail g c = c.write-write.ensures.tail c.requires.tails
+pub admit_met-requires-clause-weight : goal.admit_met-requires-clause-weight
+admit_met-requires-clause-weight g c = c.weight-bytes.ensures.weight ∙ spelled_weighs c.args.op.now c.spell-key.result.now c.spell-key.new.rec c.spell-key.ensures
 
 pub admit_met-requires-clause-runs : goal.admit_met-requires-clause-runs
 admit_met-requires-clause-runs g c = subst (λ (s : CoreState g.row.D.Denot). s.held.book.stopped ≡ None) c.self.view_is
@@ -77,14 +75,17 @@ returns-then-not-looks_first g c = (
 -- ---- it looks first
 
 pub look_first-requires-clause-fits : goal.look_first-requires-clause-fits
-look_first-requires-clause-fits g c = write_fits c.args.op.now c.write-write.result c.write-write.ensures.write c.write-write.ensures.count
-    c.write-write.ensures.key c.write-write.ensures.text (c.write-write.ensures.tail c.requires.tails)
+look_first-requires-clause-fits g c = write_fits c.args.op.now c.spell-key.result.now c.spell-key.new.rec c.weight-bytes.result c.spell-key.ensures c.weight-bytes.ensures.within
+    c.weight-bytes.ensures.weight c.weight-bytes.ensures.least
 
 -- and its condition holds
 
 pub admit_met-requires-in-None-clause-fits : goal.admit_met-requires-in-None-clause-fits
-admit_met-requires-in-None-clause-fits g c = write_fits c.args.op.now c.write-write.result c.write-write.ensures.write c.write-write.ensures.count
-    c.write-write.ensures.key c.write-write.ensures.text (c.write-write.ensures.tail c.requires.tails)
+admit_met-requires-in-None-clause-fits g c = write_fits c.args.op.now c.spell-key.result.now c.spell-key.new.rec c.weight-bytes.result c.spell-key.ensures c.weight-bytes.ensures.within
+    c.weight-bytes.ensures.weight c.weight-bytes.ensures.least
+
+pub admit_met-requires-in-None-clause-weight : goal.admit_met-requires-in-None-clause-weight
+admit_met-requires-in-None-clause-weight g c = c.weight-bytes.ensures.weight ∙ spelled_weighs c.args.op.now c.spell-key.result.now c.spell-key.new.rec c.spell-key.ensures
 
 pub returns-in-None : goal.returns-in-None
 returns-in-None g c = (

@@ -10,9 +10,9 @@ use Rattle.tree_runs.specs.Lookups.{CountsYes, HidesOlder, IsToldBy}
 use Rattle.tree_runs.specs.Runs.{GuideState, filter_of, guide_at}
 use Rattle.tree_runs.proofs.GuideLemmas.{guide_named}
 use Rattle.tree_runs.proofs.FindLemmas.{answered, reads_failed, reads_found}
-use Rattle.tree_runs.proofs.ToldLemmas.{over_found, over_none, told_alone}
+use Rattle.tree_runs.proofs.ToldLemmas.{told_alone}
 use Rattle.tree_runs.proofs.runs.Runs.find_below.Goals as goal
-use Rattle.tree_runs.proofs.runs.Runs.find_below.Goals.{After-guide, After-find-2, in-Delta, in_default-matches, in-Some-2, in-None}
+use Rattle.tree_runs.proofs.runs.Runs.find_below.Goals.{After-guide, After-find-2, in-Delta, in_default-matches}
 
 -- ---- the filter and the fences that were asked are the tag's
 
@@ -101,12 +101,8 @@ returns-clause-told g c = λ honest.
     let run = c.args.run.now in
     let d = g.D.Disk.state c.args.disk.now in
     let sizes : c.self.inside.geometry ≡ now.sizes = search rules in
-    let folds : Some c.match-branch-2.result ≡ over_any (Some c.in-Some.newer) c.in_ok-older.field-0 =
-    elim c.match-branch-2.branch [
-      | in-Some-2 w ↦ over_found c.in-Some.newer _ c.match-branch-2.result c.in_ok-older.field-0 w.in-Some-2.is (cc (w.result-is, w.fold.ensures.record))
-      | in-None w ↦ over_none c.in-Some.newer c.match-branch-2.result c.in_ok-older.field-0 w.in-None.is (cc w.result-is)
-    ] in
-    subst (λ (n : Option Rec). IsToldBy now.sizes key d.bytes (run, guide_at now.guides c.args.role) n (Some c.match-branch-2.result)) (sym c.in-Some.is)
-    (subst (λ (s : Sizes). IsToldBy s key d.bytes (run, guide_at now.guides c.args.role) (Some c.in-Some.newer) (Some c.match-branch-2.result)) sizes
-    (subst (λ (r : GuideState). IsToldBy c.self.inside.geometry key d.bytes (run, r) (Some c.in-Some.newer) (Some c.match-branch-2.result)) (guide_was g (goal.at.returns-clause-told g c).After-guide)
-    (inr (plain g (goal.at.returns-clause-told g c).After-find-2, c.in_ok-older.field-0, (g.D.Disk.state c.find-2.new.disk).clock - d.clock, c.in_ok-older.ensures.told honest, folds))))
+    let folds : Some c.fold_under.result ≡ over_any (Some c.in-Some.newer) c.in_ok-older.older = ap (λ (r : Rec). Some r) c.fold_under.ensures in
+    subst (λ (n : Option Rec). IsToldBy now.sizes key d.bytes (run, guide_at now.guides c.args.role) n (Some c.fold_under.result)) (sym c.in-Some.is)
+    (subst (λ (s : Sizes). IsToldBy s key d.bytes (run, guide_at now.guides c.args.role) (Some c.in-Some.newer) (Some c.fold_under.result)) sizes
+    (subst (λ (r : GuideState). IsToldBy c.self.inside.geometry key d.bytes (run, r) (Some c.in-Some.newer) (Some c.fold_under.result)) (guide_was g (goal.at.returns-clause-told g c).After-guide)
+    (inr (plain g (goal.at.returns-clause-told g c).After-find-2, c.in_ok-older.older, (g.D.Disk.state c.find-2.new.disk).clock - d.clock, c.in_ok-older.ensures.told honest, folds))))
