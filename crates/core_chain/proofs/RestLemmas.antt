@@ -52,6 +52,7 @@ use Rattle.core_pace.specs.Turns.{move_in}
 use Rattle.core_lists.specs.Steps.{choice_of}
 use Rattle.core_lists.proofs.StepLands.{choices_agree}
 use Rattle.core_lists.proofs.Terms.{chosen_by}
+use Rattle.core_lists.proofs.WeighLemmas.{table_a}
 use Rattle.tree_core.specs.Answers.{answer_to_pay, newest_in, reply_to_next}
 use Rattle.tree_core.specs.Calls.{Admits, Helps, IsCall, Looks, Pays, ReadsOn, TurnsOnce}
 use Rattle.tree_core.specs.Causes.{PaysNone, ScansNone, TurnsNone}
@@ -183,7 +184,7 @@ module _ {D : Type 0} (state : D → DiskState) (opening : List (Key × Value)) 
       let d = state old.disk in
       let any : StandsFor AnyRows opening old.held m d = with_rows opening old.held m d (λ none. tt) whole in
       let k = (keeps.holds.live runs).paced in
-      choices_agree w old.held (any.runs runs).tree m d.bytes (steady_at opening old.held m d (any.runs runs).tree (running_at opening old.held m d keeps.pace any runs k.numbers k.one.gears))
+      choices_agree w old.held (any.runs runs).tree m d.bytes (steady_at opening old.held m d (any.runs runs).tree (running_at opening old.held m d keeps.pace any runs k.numbers k.one))
 
   turn_quiet : (answer : Turned) → TurnsOnce state seat answer old new → calls m seat kind.WorkTurn ≡ false → new.disk ≡ old.disk
   turn_quiet answer call none = call.in_memory (ap calls_disk (sym (same_choice false)) ∙ none)
@@ -216,7 +217,7 @@ module _ {D : Type 0} (state : D → DiskState) (opening : List (Key × Value)) 
   newest_hides key found =
       let holds = (whole.runs runs).holds in
       let b = ap (λ (l : Lists). l.b) holds.lists ∙ sym holds.of_log.b in
-      let a = ap (λ (l : Lists). l.a) holds.lists ∙ sym holds.of_log.a in
+      let a = table_a old.held (whole.runs runs).tree m holds (keeps.holds.live runs).paced.one in
       subst (λ (es : Entries). HidesOlder (over_any (record_of_key key es) (record_of_key key old.held.log.a.entries))) b
       (subst (λ (es : Entries). HidesOlder (over_any (record_of_key key m.lists.b) (record_of_key key es))) a (hides (over_any (record_of_key key m.lists.b) (record_of_key key m.lists.a)) found))
 

@@ -21,7 +21,8 @@ use Rattle.tree_file.specs.Tree.{Tree}
 use Rattle.tree_log.specs.Log.{appended, IsLogOf}
 use Rattle.tree_runs.specs.Holding.{AreOf}
 use Rattle.core_moves.specs.declared.held.Held.{Held}
-use Rattle.core_moves.specs.Held.{goes_ahead}
+use Rattle.core_moves.specs.Held.{IsOne, goes_ahead}
+use Rattle.core_pace.proofs.OneLemmas.{each_move_keeps_one}
 use Rattle.core_moves.specs.Moves.{SettlesDeep, SettlesPass, with_pass_begun, with_book, begun_in, WritesIn}
 use Rattle.core_lists.specs.Admissions.{DeepSettlesTree}
 use Rattle.core_lists.proofs.SwapLands.{deep_swap_lands, pass_swap_lands, begin_lands}
@@ -56,14 +57,14 @@ deep_settling_lands old new tree next m pace file after at sound has settles tre
     subst (λ (b : Bool). IsAt new next (cond b (swap_deep m) m) after) (sym is) (same_tree old new tree next m file after rests.1 (trees.rests rests.0) at are_of))
     settles
 
-pub pass_settling_lands : (old new : Held) (tree next : Tree) (m : Machine) (pace : Pace) (file after : List ℕ) → IsAt old tree m file → IsSound m → HasPace old pace → old.gears.sizes ≡ old.runs.sizes
+pub pass_settling_lands : (old new : Held) (tree next : Tree) (m : Machine) (pace : Pace) (file after : List ℕ) → IsAt old tree m file → IsSound m → HasPace old pace → IsOne old
     → SettlesPass old new → PassSettlesTree old new tree next → AreOf new.runs next new.log.a.entries after → IsAt new next (pass_swapped m) after
-pass_settling_lands old new tree next m pace file after at sound has sizes settles trees are_of =
+pass_settling_lands old new tree next m pace file after at sound has one settles trees are_of =
     let agrees : Agrees old m = tests_agree_with_lists old tree m file pace at sound has in
     ⊎_elim (λ done.
     let is : pass_done m ≡ true = agrees.pass_is_done.0 done.0 in
     subst (λ (b : Bool). IsAt new next (cond b (swap_pass m) m) after) (sym is)
-    (pass_swap_lands old new tree next m file after at sound is sizes done.1 (trees.done done.0) (trees.turns done.0) are_of))
+    (pass_swap_lands old new tree next m file after at one sound is done.1 (trees.done done.0) (trees.turns done.0) are_of))
     (λ rests.
     let is : pass_done m ≡ false = fails (pass_done m) (λ yes. rests.0 (agrees.pass_is_done.1 yes)) in
     subst (λ (b : Bool). IsAt new next (cond b (swap_pass m) m) after) (sym is) (same_tree old new tree next m file after rests.1 (trees.rests rests.0) at are_of))
@@ -91,24 +92,24 @@ beginning_lands w held tree m file at sound sizes are_of =
     by true of = begin_lands held tree m file at of
     by false of = at
 
--- the swaps leave the sizes
-sizes_after_deep : (old new : Held) → SettlesDeep old new → old.gears.sizes ≡ old.runs.sizes → new.gears.sizes ≡ new.runs.sizes
-sizes_after_deep old new settles sizes = grind (arith, common_steps, nat_tests)
+-- the swaps leave one geometry
+one_after_deep : (old new : Held) → SettlesDeep old new → IsOne old → IsOne new
+one_after_deep old new settles one = ⊎_elim (λ done. (each_move_keeps_one old new one).deep_swap done.1) (λ rests. subst IsOne (sym rests.1) one) settles
 
-sizes_after_pass : (old new : Held) → SettlesPass old new → old.gears.sizes ≡ old.runs.sizes → new.gears.sizes ≡ new.runs.sizes
-sizes_after_pass old new settles sizes = grind (arith, common_steps, nat_tests)
+one_after_pass : (old new : Held) → SettlesPass old new → IsOne old → IsOne new
+one_after_pass old new settles one = ⊎_elim (λ done. (each_move_keeps_one old new one).pass_swap done.1) (λ rests. subst IsOne (sym rests.1) one) settles
 
 -- The numbers before each swap are some pace's.
 pub readying_lands : (w : ℕ) (old settled ready : Held) (tree middle next : Tree) (m : Machine) (before after : Pace) (file between last : List ℕ) → IsAt old tree m file → IsSound m → HasWay m
-    → old.gears.sizes ≡ old.runs.sizes → HasPace old before → HasPace settled after → Readies w old settled ready tree middle next between last → IsReadied w settled ready middle next m between last
-readying_lands w old settled ready tree middle next m before after file between last at sound way sizes has then_has moves =
-    let then_sizes = sizes_after_deep old settled moves.deep sizes in
+    → IsOne old → HasPace old before → HasPace settled after → Readies w old settled ready tree middle next between last → IsReadied w settled ready middle next m between last
+readying_lands w old settled ready tree middle next m before after file between last at sound way one has then_has moves =
+    let then_one = one_after_deep old settled moves.deep one in
     let first = deep_settling_lands old settled tree middle m before file between at sound has moves.deep moves.deep_tree moves.after_deep in
-    let second = pass_settling_lands settled ready middle next (deep_swapped m) after between last first (deep_swapped_carries m sound).sound then_has then_sizes moves.pass moves.pass_tree moves.after_pass in
+    let second = pass_settling_lands settled ready middle next (deep_swapped m) after between last first (deep_swapped_carries m sound).sound then_has then_one moves.pass moves.pass_tree moves.after_pass in
     record {
       after_deep = first;
       after_pass = second;
-      begun = beginning_lands w ready next (swapped m) last second (swapped_carries m sound way).sound (sizes_after_pass settled ready moves.pass then_sizes) moves.begun;
+      begun = beginning_lands w ready next (swapped m) last second (swapped_carries m sound way).sound (one_after_pass settled ready moves.pass then_one).gears moves.begun;
     }
 
 -- The admission is the machine's own, where all went well.

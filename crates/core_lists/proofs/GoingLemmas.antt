@@ -49,7 +49,7 @@ use Rattle.pacing.proofs.Terms.{fronts_by}
 pub standing_is_steady : (opening : List (Key × Value)) (held : Held) (m : Machine) (fronts : Fronts) (tree : Tree) (file : List ℕ) → StandsIn opening held m fronts tree file → m.stopped ≡ None
     → IsSteady held tree m file × GoesOn opening m fronts tree
 standing_is_steady opening held m fronts tree file is runs =
-    let sizes : m.gears.sizes ≡ held.runs.sizes = ap (λ (g : GearState). g.sizes) is.at.holds.gears ∙ is.one in (
+    let sizes : m.gears.sizes ≡ held.runs.sizes = ap (λ (g : GearState). g.sizes) is.at.holds.gears ∙ is.one.gears in (
       record {
         at = is.at;
         sound = is.paced.stands.sound;

@@ -111,7 +111,7 @@ module _ (opening : List (Key × Value)) (old settled : Held) (m : Machine) (fro
   shows_either next image done turned either =
       let over : pass_done (deep_swapped m) ≡ true = agrees.pass_is_done.0 done in
       let lists : (swapped m).lists ≡ lists_of next = subst (λ (b : Bool). (cond b (swap_pass (deep_swapped m)) (deep_swapped m)).lists ≡ lists_of next) (sym over)
-      (pass_swap_has_lists settled middle next (deep_swapped m) between is.at sound over is.one turned) in
+      (pass_swap_has_lists settled middle next (deep_swapped m) between is.at is.one sound over turned) in
       ⊎_elim (settled_shows opening m fronts middle image is.stood.paced is.stood.within is.at.holds.lists lanes)
       (swapped_shows opening m fronts next image is.stood.paced is.stood.within lists (fronts_by_test next (λ yes. turned) (λ never. absurd (never done))))
       either

@@ -7,7 +7,6 @@ use Rattle.catalog_swap.specs.declared.catalog.Catalog.{Catalog}
 use Rattle.record_delta.specs.Entries.{Entries, entries_weight, replayed}
 use Rattle.page_file.specs.Component.{entries_of}
 use Rattle.deep_merge.specs.Merge.{DeepState}
-use Rattle.gear_sched.specs.Gears.{GearState}
 use Rattle.pacing.specs.Pace.{Pace}
 use Rattle.pacing.specs.Laws.{IsOpening}
 use Rattle.pacing.proofs.Fronts.{opening_fronts}
@@ -20,9 +19,11 @@ use Rattle.paced_tree.proofs.Promises.{opened_is_paced}
 use Rattle.tree_file.specs.Tree.{Tree, lists_of, map_of_tree}
 use Rattle.tree_file.proofs.ListLemmas.{sorted_component, lists_light}
 use Rattle.tree_log.specs.Log.{IsLogOf}
+use Rattle.tree_log.proofs.RestLemmas.{rest_whole}
 use Rattle.tree_runs.specs.Runs.{guide_at}
 use Rattle.tree_runs.specs.Holding.{AreOf, IsDeepOver}
 use Rattle.core_moves.specs.declared.held.Held.{Held}
+use Rattle.core_moves.specs.Held.{IsOne}
 use Rattle.core_lists.specs.Standing.{HoldsMachine, catalogue_of}
 use Rattle.core_pace.specs.Opening.{IsOpened}
 use Rattle.core_lists.proofs.SwapLands.{same_lists}
@@ -30,7 +31,7 @@ use Rattle.core_pace.specs.Pacing.{HasPace}
 use Rattle.core_lists.proofs.Terms.{StandsIn}
 use Rattle.pacing.proofs.Terms.{no_fronts}
 
-module _ (annals : Book) (faults : ℕ) (held : Held) (tree : Tree) (file : List ℕ) (is : IsOpened annals faults held) (roles : held.log.lanes.roles ≡ held.runs.catalogue.lanes)
+module _ (annals : Book) (faults : ℕ) (held : Held) (tree : Tree) (file : List ℕ) (is : IsOpened annals faults held) (one : IsOne held)
     (of : AreOf held.runs tree held.log.a.entries file) (lane_a : tree.lane_a ≡ []) (lane_b : tree.lane_b ≡ []) (opening : IsOpening held.runs.sizes held.runs.catalogue.c1.weight held.runs.catalogue.c2.weight) where
   abbrev first : Machine
   first = opened held.runs.sizes (entries_of tree.c1) (entries_of tree.c2) (catalogue_of held.runs.catalogue) faults annals.room
@@ -56,7 +57,13 @@ module _ (annals : Book) (faults : ℕ) (held : Held) (tree : Tree) (file : List
   lists = same_lists first.lists (lists_of tree) (ap replayed (sym lane_b)) (ap replayed (sym lane_a)) refl (ap entries_of (sym no_c1x)) refl
 
   of_log : IsLogOf tree held.log
-  of_log = grind (arith, common_steps, nat_tests)
+  of_log = record {
+    roles = one.roles ∙ sym (ap (λ (k : Catalog). k.lanes) of.catalogue);
+    end_a = grind (arith, common_steps, nat_tests);
+    end_b = grind (arith, common_steps, nat_tests);
+    a = rest_whole (replayed tree.lane_a) held.log.a one.whole_a (is.a ∙ sym (ap replayed lane_a));
+    b = is.b ∙ sym (ap replayed lane_b);
+  }
 
   holds : HoldsMachine held tree first
   holds = grind (arith, common_steps, nat_tests)
@@ -78,17 +85,17 @@ module _ (annals : Book) (faults : ℕ) (held : Held) (tree : Tree) (file : List
       (opened_is_paced held.runs.sizes (entries_of tree.c1) (entries_of tree.c2) (catalogue_of held.runs.catalogue) faults annals.room are)
 
 -- Where the file holds a tree whose lanes are empty, the machine's history begins with the map of that tree.
-pub opening_stands : (annals : Book) (faults : ℕ) (held : Held) (numbers : Pace) (tree : Tree) (file : List ℕ) → IsOpened annals faults held → held.log.lanes.roles ≡ held.runs.catalogue.lanes → HasPace held numbers
+pub opening_stands : (annals : Book) (faults : ℕ) (held : Held) (numbers : Pace) (tree : Tree) (file : List ℕ) → IsOpened annals faults held → IsOne held → HasPace held numbers
     → AreOf held.runs tree held.log.a.entries file → tree.lane_a ≡ [] → tree.lane_b ≡ [] → IsOpening held.runs.sizes held.runs.catalogue.c1.weight held.runs.catalogue.c2.weight
     → StandsIn (map_of_tree tree) held (opened held.runs.sizes (entries_of tree.c1) (entries_of tree.c2) (catalogue_of held.runs.catalogue) faults annals.room)
     no_fronts tree file
-opening_stands annals faults held numbers tree file is roles has of lane_a lane_b opening = record {
-  at = record { are_of = of; holds = holds annals faults held tree file is roles of lane_a lane_b opening };
-  paced = paced annals faults held tree file is roles of lane_a lane_b opening;
+opening_stands annals faults held numbers tree file is one has of lane_a lane_b opening = record {
+  at = record { are_of = of; holds = holds annals faults held tree file is one of lane_a lane_b opening };
+  paced = paced annals faults held tree file is one of lane_a lane_b opening;
   numbers = numbers;
   has = has;
-  one = ap (λ (g : GearState). g.sizes) is.gears;
-  within = opening_fronts held.runs.sizes (entries_weight (entries_of tree.c1)) (entries_weight (entries_of tree.c2)) (are annals faults held tree file is roles of lane_a lane_b opening).numbers;
+  one = one;
+  within = opening_fronts held.runs.sizes (entries_weight (entries_of tree.c1)) (entries_weight (entries_of tree.c2)) (are annals faults held tree file is one of lane_a lane_b opening).numbers;
   lanes = record {
     lane_a = subst (λ (es : Entries). IsLane es [] 0) (sym lane_a) empty_lane;
     lane_b = subst (λ (es : Entries). IsLane es [] 0) (sym lane_b) empty_lane;

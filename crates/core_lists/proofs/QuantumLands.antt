@@ -22,6 +22,7 @@ use Rattle.tree_machine.specs.Layers.{IsSound}
 use Rattle.tree_machine.specs.Machine.{Machine}
 use Rattle.tree_file.specs.Tree.{Tree}
 use Rattle.core_moves.specs.declared.held.Held.{Held}
+use Rattle.core_moves.specs.Held.{IsOne}
 use Rattle.core_moves.specs.Moves.{TakesOfPass, TakesOfDeep}
 use Rattle.core_lists.proofs.Terms.{IsAt}
 use Rattle.tree_runs.proofs.Terms.{IsOnward}
@@ -31,14 +32,14 @@ same_quantum : (least least2 : ℕ) (from from2 to : Option Key) (newer newer2 o
     → IsQuantum least from to newer older n → IsQuantum least2 from2 to newer2 older2 n
 same_quantum least least2 from from2 to newer newer2 older older2 n l f a b is = grind (arith, common_steps, nat_tests)
 
-pub pass_quantum_lands : (seat n : ℕ) (old new : Held) (tree : Tree) (m : Machine) (file after : List ℕ) → IsAt old tree m file → IsSound m → old.gears.sizes ≡ old.runs.sizes → 0 < old.runs.sizes.quantum
+pub pass_quantum_lands : (seat n : ℕ) (old new : Held) (tree : Tree) (m : Machine) (file after : List ℕ) → IsAt old tree m file → IsSound m → IsOne old → 0 < old.runs.sizes.quantum
     → TakesOfPass seat n old new → PassTook old.runs.sizes.quantum old.runs.pass new.runs.pass old.log.a.entries (entries_of tree.c1) n
     → AreOf new.runs tree new.log.a.entries after → IsAt new tree (pass_quantum seat m) after
-pass_quantum_lands seat n old new tree m file after at sound sizes positive moves took are_of =
+pass_quantum_lands seat n old new tree m file after at sound one positive moves took are_of =
     record { are_of = are_of; holds = by m.merges.pass old.runs.pass new.runs.pass refl at.holds.pass moves.takes took }
   where
     least_is : old.runs.sizes.quantum ≡ m.gears.sizes.quantum
-    least_is = sym (ap (λ (s : Sizes). s.quantum) (ap (λ (g : GearState). g.sizes) at.holds.gears ∙ sizes))
+    least_is = sym (ap (λ (s : Sizes). s.quantum) (ap (λ (g : GearState). g.sizes) at.holds.gears ∙ one.gears))
 
     moved : (pass : Merge) (snow next : SnowState) → new.runs.pass ≡ Some next → next.at ≡ cursor_after pass.cursor (quantum_of m.gears.sizes.quantum pass m.lists.a m.lists.c1).groups
         → n ≡ (quantum_of m.gears.sizes.quantum pass m.lists.a m.lists.c1).weight → HoldsMachine new tree (pass_quantum_of (Some pass) seat m)
@@ -57,7 +58,7 @@ pass_quantum_lands seat n old new tree m file after at sound sizes positive move
         let onward : IsOnward pass.cursor next.at = λ (key : Key) past. subst (λ (k : Option Key). is_above k key ≡ true) (sym comes) (takes.takes.onward key past) in
         let agree = quanta_agree m.gears.sizes.quantum pass next.at m.lists.a m.lists.c1 n (subst (λ (k : ℕ). 0 < k) least_is positive) sound.layered.sorted_a sound.layered.sorted_c1 onward
         (same_quantum old.runs.sizes.quantum m.gears.sizes.quantum snow.at pass.cursor next.at old.log.a.entries m.lists.a (entries_of tree.c1) m.lists.c1 n
-        least_is (sym comes) (sym (table_a old tree m file at)) (sym (list_c1 old tree m file at)) took) in
+        least_is (sym comes) (sym (table_a old tree m at.holds one)) (sym (list_c1 old tree m file at)) took) in
         moved pass snow next is agree.1 agree.0
 
 pub deep_quantum_lands : (seat n : ℕ) (old new : Held) (tree : Tree) (m : Machine) (file after : List ℕ) → IsAt old tree m file → IsSound m → old.gears.sizes ≡ old.runs.sizes → 0 < old.runs.sizes.quantum

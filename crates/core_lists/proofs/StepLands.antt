@@ -38,6 +38,7 @@ use Rattle.core_lists.proofs.QuantumLands.{pass_quantum_lands, deep_quantum_land
 use Rattle.core_lists.proofs.WriteLands.{book_lands}
 use Rattle.core_lists.proofs.TestLemmas.{tests_agree_with_lists, forgiving_lands}
 use Rattle.core_lists.proofs.Terms.{IsAt, Agrees, helped, IsSteady, chosen_by}
+use Rattle.core_pace.proofs.OneLemmas.{each_move_keeps_one}
 use Rattle.core_pace.proofs.Terms.{Pays, Works, Helps}
 use Rattle.tree_machine.proofs.Terms.{Carries}
 
@@ -63,10 +64,10 @@ module _ (seat : ℕ) (held : Held) (tree : Tree) (m : Machine) (file : List ℕ
   paid_by n taken after Nothing takes took are_of = absurd takes
   paid_by n taken after Snow takes took are_of =
       (book_lands taken tree (pass_quantum seat (forgive seat m)) after
-      (pass_quantum_lands seat n (with_debts_forgiven seat held) taken tree (forgive seat m) file after forgiven_at (sound_forgiven m seat is.sound) is.one is.positive takes took are_of)).payment seat
+      (pass_quantum_lands seat n (with_debts_forgiven seat held) taken tree (forgive seat m) file after forgiven_at (sound_forgiven m seat is.sound) ((each_move_keeps_one held held is.one).forgiving seat) is.positive takes took are_of)).payment seat
   paid_by n taken after Deep takes took are_of =
       (book_lands taken tree (deep_quantum seat (forgive seat m)) after
-      (deep_quantum_lands seat n (with_debts_forgiven seat held) taken tree (forgive seat m) file after forgiven_at (sound_forgiven m seat is.sound) is.one is.positive takes took are_of)).payment seat
+      (deep_quantum_lands seat n (with_debts_forgiven seat held) taken tree (forgive seat m) file after forgiven_at (sound_forgiven m seat is.sound) is.one.gears is.positive takes took are_of)).payment seat
 
 -- where nothing is owed once what may be forgiven is
 pub settling_lands : (seat : ℕ) (held : Held) (tree : Tree) (m : Machine) (file : List ℕ) → IsSteady held tree m file → plan_in seat held ≡ Nothing → IsAt (with_debts_forgiven seat held) tree (pay m seat Well).state file
@@ -119,7 +120,7 @@ module _ (held : Held) (tree : Tree) (m : Machine) (file : List ℕ) (is : IsSte
       (is_some held.runs.deep && (left_for_deep held.runs.deep == 0)) (is_some held.runs.pass && (left_for_pass held.runs.pass held.log.a.entries == 0))
       (is_some held.runs.deep && (not (is_some held.runs.pass) || deep_is_behind held.gears)) (is_some held.runs.pass) (nat_lt held.runs.sizes.low held.spring) false
       deep_test pass_test takes_deep agrees.pass_runs
-      (ap (λ (s : Sizes). nat_lt s.low m.spring) (ap (λ (g : GearState). g.sizes) is.at.holds.gears ∙ is.one) ∙ ap (λ (n : ℕ). nat_lt held.runs.sizes.low n) is.at.holds.spring) refl
+      (ap (λ (s : Sizes). nat_lt s.low m.spring) (ap (λ (g : GearState). g.sizes) is.at.holds.gears ∙ is.one.gears) ∙ ap (λ (n : ℕ). nat_lt held.runs.sizes.low n) is.at.holds.spring) refl
       ∙ by_tests (is_some held.runs.deep && (left_for_deep held.runs.deep == 0)) (is_some held.runs.pass && (left_for_pass held.runs.pass held.log.a.entries == 0))
       (is_some held.runs.deep && (not (is_some held.runs.pass) || deep_is_behind held.gears)) (is_some held.runs.pass) (nat_lt held.runs.sizes.low held.spring) false
   choices false =
@@ -152,10 +153,10 @@ is_due false m = due_choice (not (memory_weight m.lists == 0)) (not (entries_wei
 turned_by : (mv : Move) (seat n : ℕ) (old moved : Held) (tree next : Tree) (m : Machine) (file after : List ℕ) → IsSteady old tree m file → IsDue (choice_of mv) m → TurnsBy mv seat n old moved
     → TurnsTree mv n old moved tree next → AreOf moved.runs next moved.log.a.entries after → IsAt moved next (chosen (choice_of mv) seat m) after
 turned_by pacing.SwapDeep seat n old moved tree next m file after is due moves trees are_of = deep_swap_lands old moved tree next m file after is.at is.sound due moves trees are_of
-turned_by pacing.SwapPass seat n old moved tree next m file after is due moves trees are_of = pass_swap_lands old moved tree next m file after is.at is.sound due is.one moves trees.0 trees.1 are_of
+turned_by pacing.SwapPass seat n old moved tree next m file after is due moves trees are_of = pass_swap_lands old moved tree next m file after is.at is.one is.sound due moves trees.0 trees.1 are_of
 turned_by pacing.TakeDeep seat n old moved tree next m file after is due moves trees are_of =
     subst (λ (t : Tree). IsAt moved t (deep_quantum seat m) after) (sym trees.0)
-    (deep_quantum_lands seat n old moved tree m file after is.at is.sound is.one is.positive moves trees.1 (subst (λ (t : Tree). AreOf moved.runs t moved.log.a.entries after) trees.0 are_of))
+    (deep_quantum_lands seat n old moved tree m file after is.at is.sound is.one.gears is.positive moves trees.1 (subst (λ (t : Tree). AreOf moved.runs t moved.log.a.entries after) trees.0 are_of))
 turned_by pacing.TakeSnow seat n old moved tree next m file after is due moves trees are_of =
     subst (λ (t : Tree). IsAt moved t (pass_quantum seat m) after) (sym trees.0)
     (pass_quantum_lands seat n old moved tree m file after is.at is.sound is.one is.positive moves trees.1 (subst (λ (t : Tree). AreOf moved.runs t moved.log.a.entries after) trees.0 are_of))

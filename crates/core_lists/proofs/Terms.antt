@@ -19,8 +19,8 @@ use Rattle.tree_machine.specs.Lists.{memory_weight, Lists, value_in}
 use Rattle.tree_machine.specs.Moves.{note, stop}
 use Rattle.tree_machine.specs.Steps.{count_for_write, with_turn, work_noted, work_end, leave, deep_swapped, swapped, ready_for, Choice, choice}
 use Rattle.seat_book.specs.State.{noted_in, stopped_in, paid_in, turned_in, helped_in, ended_in, left_in}
-use Rattle.tree_log.specs.Log.{weight_of_tables, appended}
-use Rattle.core_moves.specs.Held.{IsPassDone, IsDeepDone, charge_in, is_run_full, goes_ahead}
+use Rattle.tree_log.specs.Log.{listed_in_a, weight_of_tables, appended}
+use Rattle.core_moves.specs.Held.{IsOne, IsPassDone, IsDeepDone, charge_in, is_run_full, goes_ahead}
 use Rattle.core_moves.specs.Moves.{with_book, SettlesDeep, SettlesPass, begun_in, TurnsLog}
 use Rattle.blsm_model.specs.Histories.{is_met, written, writes_of}
 use Rattle.blsm_model.specs.Values.{value_at, key_of}
@@ -71,7 +71,7 @@ pub record Agrees (held : Held) (m : Machine) : Type 0 where
   pub pass_is_done : IsPassDone held ↔ (pass_done m ≡ true)
   pub deep_is_done : IsDeepDone held ↔ (deep_done m ≡ true)
   pub memory : memory_weight m.lists ≡ weight_of_tables held.log
-  pub table : entries_weight m.lists.a ≡ entries_weight held.log.a.entries
+  pub table : entries_weight m.lists.a ≡ listed_in_a held.log
   pub c1 : entries_weight m.lists.c1 ≡ held.runs.catalogue.c1.weight
   pub c1x : entries_weight m.lists.c1x ≡ held.runs.catalogue.c1x.weight
   pub c2 : entries_weight m.lists.c2 ≡ held.runs.catalogue.c2.weight
@@ -131,7 +131,7 @@ pub record StandsIn (opening : List (Key × Value)) (held : Held) (m : Machine) 
   pub paced : IsPacedTree opening m
   pub numbers : Pace
   pub has : HasPace held numbers
-  pub one : held.gears.sizes ≡ held.runs.sizes
+  pub one : IsOne held
   pub within : AreFronts (pace_of m) fronts
   pub lanes : HasFronts tree m.lists fronts
 
@@ -142,7 +142,7 @@ pub record SettledIn (opening : List (Key × Value)) (old settled : Held) (m : M
   pub at : IsAt settled middle (deep_swapped m) between
   pub numbers : Pace
   pub has : HasPace settled numbers
-  pub one : settled.gears.sizes ≡ settled.runs.sizes
+  pub one : IsOne settled
 
 -- The machine runs, the seat may write, the write's condition holds, and there is room. When the write is to be appended the core stands
 -- over this tree.
@@ -167,7 +167,7 @@ pub record IsSteady (held : Held) (tree : Tree) (m : Machine) (file : List ℕ) 
   pub sound : IsSound m
   pub numbers : Pace
   pub has : HasPace held numbers
-  pub one : held.gears.sizes ≡ held.runs.sizes
+  pub one : IsOne held
   pub positive : 0 < held.runs.sizes.quantum
   pub runs : m.stopped ≡ None
 

@@ -8,6 +8,7 @@ use Rattle.record_delta.specs.Entries.{entries_weight}
 use Rattle.gear_sched.specs.Gears.{GearState, forgiven}
 use Rattle.pacing.specs.Pace.{Pace}
 use Rattle.tree_machine.specs.Layers.{IsSound}
+use Rattle.tree_machine.specs.Lists.{memory_weight}
 use Rattle.tree_machine.specs.Machine.{Machine, in_pass, in_deep, charge, memory_charge, pass_done, deep_done}
 use Rattle.tree_machine.proofs.NumberLemmas.{pass_taken_when_done, pass_done_when_taken, pass_runs, deep_taken_when_done, deep_done_when_taken, deep_runs}
 use Rattle.paced_tree.proofs.Moves.{input_is}
@@ -17,7 +18,7 @@ use Rattle.tree_runs.specs.Runs.{left_for_pass, left_for_deep}
 use Rattle.core_moves.specs.declared.held.Held.{Held}
 use Rattle.core_moves.specs.Held.{IsPassDone, IsDeepDone, is_pass_over, is_deep_over, charge_in}
 use Rattle.core_pace.specs.Pacing.{HasPace}
-use Rattle.core_lists.proofs.WeighLemmas.{table_a, weight_c1, weight_c1x, weight_c2, weight_tables}
+use Rattle.core_lists.proofs.WeighLemmas.{weight_a, weight_c1, weight_c1x, weight_c2, weight_tables}
 use Rattle.tree_machine.specs.Steps.{forgive}
 use Rattle.core_moves.specs.Moves.{with_debts_forgiven}
 use Rattle.core_lists.proofs.Terms.{IsAt, Agrees}
@@ -41,7 +42,7 @@ module _ (held : Held) (tree : Tree) (m : Machine) (file : List ℕ) (pace : Pac
         ap (λ (g : GearState). g.pass_taken) gears_are,
         has.a,
         has.c1,
-        ap entries_weight (table_a held tree m file at),
+        weight_a held tree m file at,
         weight_c1 held tree m file at,
       )
 
@@ -104,10 +105,13 @@ module _ (held : Held) (tree : Tree) (m : Machine) (file : List ℕ) (pace : Pac
       (λ done. eq-eqb (left_for_deep held.runs.deep) 0 (deep_none_left done))
 
   memory_is : memory_charge m ≡ cond (is_some held.runs.pass) (held.gears.pass_memory + held.gears.pass_admitted) (weight_of_tables held.log)
-  memory_is = grind (arith, common_steps, nat_tests)
+  memory_is =
+      ap (λ (b : Bool). cond b (m.gears.pass_memory + m.gears.pass_admitted) (memory_weight m.lists)) runs_pass
+      ∙ ap (λ (g : GearState). cond (is_some held.runs.pass) (g.pass_memory + g.pass_admitted) (memory_weight m.lists)) at.holds.gears
+      ∙ ap (cond (is_some held.runs.pass) (held.gears.pass_memory + held.gears.pass_admitted)) (weight_tables held tree m file at)
 
   pub same_charge : charge m ≡ charge_in held
-  same_charge = grind (arith, common_steps, nat_tests)
+  same_charge = omega (arith, weight_c1 held tree m file at, weight_c1x held tree m file at, weight_c2 held tree m file at, memory_is)
 
 pub tests_agree_with_lists : (held : Held) (tree : Tree) (m : Machine) (file : List ℕ) (pace : Pace) → IsAt held tree m file → IsSound m → HasPace held pace → Agrees held m
 tests_agree_with_lists held tree m file pace at sound has = record {
@@ -116,7 +120,7 @@ tests_agree_with_lists held tree m file pace at sound has = record {
   pass_is_done = pass_tests held tree m file pace at sound has;
   deep_is_done = deep_tests held tree m file pace at sound has;
   memory = weight_tables held tree m file at;
-  table = ap entries_weight (table_a held tree m file at);
+  table = weight_a held tree m file at;
   c1 = weight_c1 held tree m file at;
   c1x = weight_c1x held tree m file at;
   c2 = weight_c2 held tree m file at;

@@ -1,25 +1,31 @@
 -- What the core has in memory weighs what the machine's lists do.
-use Rattle.std.proofs.Common.{◌≡◌, ◌∙◌, ℕ, List, ap, sym}
-use Rattle.std.proofs.lemmas.Grind.{common_steps}
-use Rattle.std.proofs.lemmas.Bool.Decides.{nat_tests}
+use Rattle.std.proofs.Common.{◌≡◌, ◌∙◌, ◌+◌, ℕ, List, ap, sym}
 use Rattle.std.proofs.Common.{arith}
 use Rattle.catalog_swap.specs.declared.catalog.Catalog.{Catalog}
-use Rattle.record_delta.specs.Entries.{entries_weight}
+use Rattle.record_delta.specs.Entries.{entries_weight, replayed}
 use Rattle.page_file.specs.Component.{entries_of}
 use Rattle.tree_machine.specs.Lists.{Lists, memory_weight}
 use Rattle.tree_machine.specs.Machine.{Machine}
 use Rattle.tree_file.specs.Tree.{Tree, lists_of}
-use Rattle.tree_log.specs.Log.{LogState, IsLogOf, weight_of_tables}
+use Rattle.tree_log.specs.Log.{LogState, IsLogOf, listed_in_a, weight_of_tables}
+use Rattle.tree_log.proofs.RestLemmas.{rest_weighs, whole_list}
 use Rattle.core_moves.specs.declared.held.Held.{Held}
+use Rattle.core_moves.specs.Held.{IsOne}
+use Rattle.core_lists.specs.Standing.{HoldsMachine}
 use Rattle.core_lists.proofs.Terms.{IsAt}
+
+-- what table A has is its list
+pub table_a : (held : Held) (tree : Tree) (m : Machine) → HoldsMachine held tree m → IsOne held → m.lists.a ≡ held.log.a.entries
+table_a held tree m holds one = ap (λ (l : Lists). l.a) holds.lists ∙ sym (whole_list (replayed tree.lane_a) held.log.a one.whole_a holds.of_log.a)
 
 -- the tables of a log weigh what its tree's lists do
 pub tables_weigh : (lists : Lists) (tree : Tree) (log : LogState) → lists ≡ lists_of tree → IsLogOf tree log → memory_weight lists ≡ weight_of_tables log
-tables_weigh lists tree log are is = grind (arith, common_steps, nat_tests)
+tables_weigh lists tree log are is =
+    omega (arith, ap memory_weight are, rest_weighs (replayed tree.lane_a) log.a is.a, ap entries_weight is.b)
 
 module _ (held : Held) (tree : Tree) (m : Machine) (file : List ℕ) (at : IsAt held tree m file) where
-  pub table_a : m.lists.a ≡ held.log.a.entries
-  table_a = ap (λ (l : Lists). l.a) at.holds.lists ∙ sym at.holds.of_log.a
+  pub weight_a : entries_weight m.lists.a ≡ listed_in_a held.log
+  weight_a = ap (λ (l : Lists). entries_weight l.a) at.holds.lists ∙ sym (rest_weighs (replayed tree.lane_a) held.log.a at.holds.of_log.a)
 
   pub table_b : m.lists.b ≡ held.log.b.entries
   table_b = ap (λ (l : Lists). l.b) at.holds.lists ∙ sym at.holds.of_log.b

@@ -1,9 +1,10 @@
 -- A write leaves the merges and the components as they were, and table A has it, or table B.
-use Rattle.std.specs.Prelude.{◌≡◌, ℕ, ◌<◌, Bool, true, false, List, IsTrue}
-use Rattle.std.proofs.Common.{sym, subst}
+use Rattle.std.specs.Prelude.{◌≡◌, ℕ, ◌<◌, Bool, true, false, List, Option, IsTrue}
+use Rattle.std.proofs.Common.{refl, sym, subst}
 use Rattle.blsm_model.specs.Sizes.{Sizes}
 use Rattle.blsm_model.specs.declared.key.Key.{Key}
 use Rattle.record_delta.specs.declared.record.Rec.{Rec}
+use Rattle.record_delta.specs.Entries.{is_above}
 use Rattle.disk_trait.specs.Disk.{DiskState}
 use Rattle.disk_trait.specs.Region.{IsWithin}
 use Rattle.disk_trait.proofs.RegionLemmas.{same_wider}
@@ -11,7 +12,7 @@ use Rattle.disk_trait.specs.Effects.{Affects}
 use Rattle.gated_log.specs.Lane.{lane_region}
 use Rattle.scan_view.specs.Pins.{beside_pins}
 use Rattle.tree_file.specs.Tree.{Tree, HoldsTree}
-use Rattle.tree_log.specs.Log.{appended, lane_for, with_entry}
+use Rattle.tree_log.specs.Log.{IsAboveFloor, appended, lane_for, with_entry}
 use Rattle.tree_runs.specs.Runs.{AreRunning}
 use Rattle.tree_runs.specs.Holding.{AreOf}
 use Rattle.tree_runs.specs.Laws.{IsBesideRuns}
@@ -30,6 +31,11 @@ pub beside : {end most : ℕ} {old new : DiskState} (ahead : Bool) (held : Held)
 beside {end} {most} {old} {new} ahead held one effect honest =
     same_wider (subst (λ (s : Sizes). (i : ℕ) → lane_region s (lane_for ahead held.log) i → Rattle.disk_trait.specs.Region.outside (Rattle.tree_runs.specs.Laws.used_region held.runs.sizes held.runs.space) i) (sym one.lanes)
     (lane_beside held.runs.sizes held.runs.space (lane_for ahead held.log) (lane_below ahead held one))) (effect.bytes honest)
+
+-- nothing was dropped, so each key is above it
+pub above_floor : (ahead : Bool) (key : Key) (held : Held) → IsOne held → IsAboveFloor ahead key held.log
+above_floor true key held one = subst (λ (floor : Option Key). IsTrue (is_above floor key)) (sym one.whole_a.0) refl
+above_floor false key held one = tt
 
 -- and beside those that seats pin
 pub lane_beside_pins : (ahead : Bool) (held : Held) → IsOne held

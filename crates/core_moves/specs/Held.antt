@@ -3,13 +3,15 @@ use Rattle.std.specs.Prelude.{◌≡◌, ℕ, ◌+◌, ◌≤◌, Bool, not, ◌
 use Rattle.blsm_model.specs.Geometry.{high_mark}
 use Rattle.blsm_model.specs.Lanes.{AreRoles}
 use Rattle.blsm_model.specs.declared.key.Key.{Key}
+use Rattle.mem_table.specs.Tables.{IsWhole}
 use Rattle.record_delta.specs.Entries.{AreSorted, is_above}
 use Rattle.tree_log.specs.Log.{weight_of_tables}
 use Rattle.tree_runs.specs.Runs.{made_by_pass, left_for_pass, left_for_deep}
 use Rattle.tree_runs.specs.Holding.{cursor_of_pass, is_full}
 use Rattle.core_moves.specs.declared.held.Held.{Held}
 
--- One geometry; the roles of the lanes are the catalogue's; the tables are sorted and may weigh as much as the high mark.
+-- One geometry; the roles of the lanes are the catalogue's; the tables are sorted and may weigh as much as the high mark, and nothing was
+-- dropped of table A.
 pub record IsOne (held : Held) : Type 0 where
   pub gears : held.gears.sizes ≡ held.runs.sizes
   pub lanes : held.log.lanes.sizes ≡ held.runs.sizes
@@ -19,6 +21,7 @@ pub record IsOne (held : Held) : Type 0 where
   pub reserved_b : high_mark held.runs.sizes ≤ held.log.b.reserved
   pub sorted_a : AreSorted held.log.a.entries
   pub sorted_b : AreSorted held.log.b.entries
+  pub whole_a : IsWhole held.log.a
 
 -- ---- what is read off it
 

@@ -7,9 +7,8 @@ use Rattle.blsm_model.specs.declared.key.Key.{Key}
 use Rattle.disk_trait.specs.Disk.{DiskState}
 use Rattle.record_delta.specs.declared.record.Rec.{Rec}
 use Rattle.record_delta.specs.Records.{weight}
-use Rattle.record_delta.specs.Entries.{entries_weight, with_record}
 use Rattle.gated_log.specs.Lanes.{end_of}
-use Rattle.tree_log.specs.Log.{lane_for, table_for}
+use Rattle.tree_log.specs.Log.{lane_for, listed_for, table_for, with_entry}
 use Rattle.tree_runs.specs.Runs.{AreRunning, Fits}
 use Rattle.core_moves.specs.declared.held.Held.{Held}
 use Rattle.core_moves.specs.Held.{goes_ahead}
@@ -39,7 +38,7 @@ pub record IsReady (held : Held) (d : DiskState) : Type 0 where
 -- A write fits its lane, its table, and the numbers of the gears.
 pub record WriteFits (key : Key) (rec : Rec) (held : Held) : Type 0 where
   pub lane : end_of held.log.lanes (lane_for (goes_ahead key held) held.log) + 1 + weight key rec + 1 ≤ region_length held.log.lanes.sizes
-  pub table : entries_weight (with_record key rec (table_for (goes_ahead key held) held.log).entries) ≤ (table_for (goes_ahead key held) held.log).reserved
+  pub table : listed_for (goes_ahead key held) (with_entry (goes_ahead key held) key rec held.log) ≤ (table_for (goes_ahead key held) held.log).reserved
   pub pass : held.gears.pass_admitted + weight key rec < 2 ^ 64
   pub deep : held.gears.deep_admitted + weight key rec < 2 ^ 64
   pub spring : held.runs.pass ≡ None → held.spring + weight key rec < 2 ^ 64

@@ -5,7 +5,6 @@ use Rattle.std.proofs.lemmas.Bool.Decides.{nat_tests}
 use Rattle.blsm_model.specs.Legal.{is_del}
 use Rattle.disk_trait.specs.Disk.{DiskState}
 use Rattle.record_delta.specs.Records.{weight}
-use Rattle.record_delta.specs.Entries.{entries_weight, with_record}
 use Rattle.gear_sched.specs.Gears.{GearState, first_debt, second_debt, plan_for, Owes}
 use Rattle.gear_sched.specs.declared.Plan.TheVariants.{Nothing}
 use Rattle.pacing.specs.Pace.{Pace, with_forgiven}
@@ -17,7 +16,7 @@ use Rattle.pacing.proofs.Counts.{pay}
 use Rattle.pacing.proofs.Forgiven.{falls_at}
 use Rattle.pacing.proofs.Payments.{snow_owed, deep_owed}
 use Rattle.paced_tree.proofs.Terms.{no_quantum}
-use Rattle.tree_log.specs.Log.{table_for}
+use Rattle.tree_log.specs.Log.{listed_for, with_entry}
 use Rattle.core_moves.specs.declared.held.Held.{Held}
 use Rattle.core_moves.specs.Held.{goes_ahead, IsDeepDone}
 use Rattle.core_moves.specs.Needs.{IsOn, IsReady}
@@ -66,14 +65,14 @@ admission_fits seat op key rec old settled ready pace k may deep pass = record {
     between = (moves_are_told old settled ready pace (weight key rec) k deep pass).1
 
     lands : Lands (ready_for pace (weight key rec)) (weight key rec) (goes_ahead key (begun_in (weight key rec) ready))
-        (entries_weight (with_record key rec (table_for (goes_ahead key (begun_in (weight key rec) ready)) (begun_in (weight key rec) ready).log).entries))
+        (listed_for (goes_ahead key (begun_in (weight key rec) ready)) (with_entry (goes_ahead key (begun_in (weight key rec) ready)) key rec (begun_in (weight key rec) ready).log))
     lands = lands_by key rec (begun_in (weight key rec) ready) (ready_for pace (weight key rec)) between.numbers between.one (goes_ahead key (begun_in (weight key rec) ready)) refl
 
     now : IsPaced (ready_for pace (weight key rec)) × pacing.IsReady (ready_for pace (weight key rec)) seat (weight key rec)
     now = pacing_ready pace seat (weight key rec)
-        (entries_weight (with_record key rec (table_for (goes_ahead key (begun_in (weight key rec) ready)) (begun_in (weight key rec) ready).log).entries)) (is_del op) (goes_ahead key (begun_in (weight key rec) ready))
+        (listed_for (goes_ahead key (begun_in (weight key rec) ready)) (with_entry (goes_ahead key (begun_in (weight key rec) ready)) key rec (begun_in (weight key rec) ready).log)) (is_del op) (goes_ahead key (begun_in (weight key rec) ready))
         k.told.paced (may_admit_of seat (weight key rec) op old pace (goes_ahead key (begun_in (weight key rec) ready))
-        (entries_weight (with_record key rec (table_for (goes_ahead key (begun_in (weight key rec) ready)) (begun_in (weight key rec) ready).log).entries)) k may lands)
+        (listed_for (goes_ahead key (begun_in (weight key rec) ready)) (with_entry (goes_ahead key (begun_in (weight key rec) ready)) key rec (begun_in (weight key rec) ready).log)) k may lands)
 
 -- ---- a payment
 

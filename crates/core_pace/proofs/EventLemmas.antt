@@ -121,7 +121,7 @@ begins w old pace paced s =
     by : (b : Bool) → (not (is_some old.runs.pass) && nat_lt old.runs.sizes.low (old.spring + w)) ≡ b → Stands (cond b (with_pass_begun old) old) (cond b (with_pass pace) pace)
     by true due =
         let rests : pace.gears.pass ≡ false = s.numbers.in_pass ∙ not-true (is_some old.runs.pass) (and_parts (not (is_some old.runs.pass)) (nat_lt old.runs.sizes.low (old.spring + w)) due).0 in
-        record { numbers = begin_has_pace old pace s.numbers; one = (each_move_keeps_one old old s.one).begin; ends = ends_begun pace (end_of_a old.log) (end_of_b old.log) paced.within rests s.ends; version = s.version }
+        record { numbers = begin_has_pace old pace s.numbers s.one.whole_a.1; one = (each_move_keeps_one old old s.one).begin; ends = ends_begun pace (end_of_a old.log) (end_of_b old.log) paced.within rests s.ends; version = s.version }
     by false due = s
 
 stands : (held : Held) (pace : Pace) → IsPacedHeld held pace → Stands held pace

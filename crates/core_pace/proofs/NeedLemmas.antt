@@ -5,7 +5,6 @@ use Rattle.std.proofs.lemmas.Bool.Decides.{nat_tests}
 use Rattle.std.specs.Prelude.{is_some, IsTrue}
 use Rattle.std.proofs.lemmas.Bool.{leb-true}
 use Rattle.record_delta.specs.Records.{weight}
-use Rattle.record_delta.specs.Entries.{entries_weight, with_record}
 use Rattle.gear_sched.specs.Gears.{GearState}
 use Rattle.pacing.specs.Pace.{Pace}
 use Rattle.pacing.specs.Steps.{Lands}
@@ -13,7 +12,7 @@ use Rattle.pacing.proofs.Promises.{all_fits}
 use Rattle.pacing.proofs.Runs.{deep_in_time, bounded}
 use Rattle.snow_merge.specs.Pass.{SnowState}
 use Rattle.deep_merge.specs.Merge.{DeepState}
-use Rattle.tree_log.specs.Log.{table_for, end_of_a, end_of_b}
+use Rattle.tree_log.specs.Log.{listed_for, table_for, with_entry, end_of_a, end_of_b}
 use Rattle.core_moves.specs.declared.held.Held.{Held}
 use Rattle.core_moves.specs.Held.{IsOne, goes_ahead, IsPassDone, IsDeepDone, is_run_full}
 use Rattle.core_pace.specs.Pacing.{HasPace}
@@ -67,7 +66,7 @@ writes_fit key rec held pace p one paced ends room heavy = record {
       omega (arith, low, p.spring);
 }
   where
-    lands : Lands pace (weight key rec) (goes_ahead key held) (entries_weight (with_record key rec (table_for (goes_ahead key held) held.log).entries))
+    lands : Lands pace (weight key rec) (goes_ahead key held) (listed_for (goes_ahead key held) (with_entry (goes_ahead key held) key rec held.log))
     lands = lands_by key rec held pace p one (goes_ahead key held) refl
 
     half : pace.gears.sizes.half ≡ held.log.lanes.sizes.half
@@ -78,6 +77,6 @@ writes_fit key rec held pace p one paced ends room heavy = record {
     by_lane true fits = omega (arith, fits, half)
     by_lane false fits = omega (arith, fits, half)
 
-    by_table : (b : Bool) → Lands pace (weight key rec) b (entries_weight (with_record key rec (table_for b held.log).entries))
-        → entries_weight (with_record key rec (table_for b held.log).entries) ≤ (table_for b held.log).reserved
+    by_table : (b : Bool) → Lands pace (weight key rec) b (listed_for b (with_entry b key rec held.log))
+        → listed_for b (with_entry b key rec held.log) ≤ (table_for b held.log).reserved
     by_table b h1 = grind (arith, common_steps, nat_tests)

@@ -1,5 +1,5 @@
 -- Each move keeps one geometry, and the tables sorted and as large as they may be.
-use Rattle.std.proofs.Common.{◌≡◌, ℕ, ◌≤◌, Bool, List, []}
+use Rattle.std.proofs.Common.{◌≡◌, ℕ, ◌≤◌, Bool, List, [], None}
 use Rattle.std.proofs.lemmas.Grind.{common_steps}
 use Rattle.std.proofs.lemmas.Bool.Decides.{nat_tests}
 use Rattle.std.proofs.Common.{arith}
@@ -27,6 +27,7 @@ record One (s : Sizes) (ls : List ℕ) (l : LogState) (g : GearState) : Type 0 w
   pub reserved_b : high_mark s ≤ l.b.reserved
   pub sorted_a : AreSorted l.a.entries
   pub sorted_b : AreSorted l.b.entries
+  pub whole_a : (l.a.floor ≡ None) × (l.a.dropped ≡ 0)
 
 whole : (held : Held) → One held.runs.sizes held.runs.catalogue.lanes held.log held.gears → IsOne held
 whole held one = assumption

@@ -56,5 +56,5 @@ pass_swap_has_pace old new pace p one m =
 pub rotation_has_pace : (old new : Held) (pace : Pace) → HasPace old pace → old.runs.pass ≡ None → RotatesIn old new → HasPace new (with_rotation pace)
 rotation_has_pace old new pace p rests m = grind (arith, common_steps, nat_tests)
 
-pub begin_has_pace : (old : Held) (pace : Pace) → HasPace old pace → HasPace (with_pass_begun old) (with_pass pace)
-begin_has_pace old pace p = grind (arith, common_steps, nat_tests, all_above, all_left)
+pub begin_has_pace : (old : Held) (pace : Pace) → HasPace old pace → old.log.a.dropped ≡ 0 → HasPace (with_pass_begun old) (with_pass pace)
+begin_has_pace old pace p whole = grind (arith, common_steps, nat_tests, all_above, all_left)

@@ -3,10 +3,9 @@ use Rattle.std.specs.Prelude.{◌≡◌, ◌↔◌, ℕ, ◌-◌, IsTrue, ◌&&�
 use Rattle.blsm_model.specs.declared.key.Key.{Key}
 use Rattle.record_delta.specs.declared.record.Rec.{Rec}
 use Rattle.record_delta.specs.Records.{weight}
-use Rattle.record_delta.specs.Entries.{entries_weight}
 use Rattle.pacing.specs.Ends.{AreEnds}
 use Rattle.pacing.specs.Pace.{Pace, rotations, Quantum, pass_done, deep_done, pass_over, deep_over, with_forgiven}
-use Rattle.tree_log.specs.Log.{table_for, end_of_a, end_of_b}
+use Rattle.tree_log.specs.Log.{listed_for, end_of_a, end_of_b}
 use Rattle.tree_runs.specs.Runs.{made_by_pass, made_by_deep, left_for_pass, left_for_deep, Fits}
 use Rattle.core_moves.specs.declared.held.Held.{Held}
 use Rattle.core_moves.specs.Held.{IsOne, IsPassDone, IsDeepDone, is_pass_over, is_deep_over, goes_ahead}
@@ -44,9 +43,9 @@ snow_quantum n old new = record {
 abbrev pub deep_quantum : ℕ → Held → Quantum
 deep_quantum n new = record { took = n; of_table = 0; made = (made_by_deep new.runs.deep).weight }
 
--- what the table weighs that the write went to
+-- what the list of the table weighs that the write went to
 abbrev pub weighs_after : Key → Held → Held → ℕ
-weighs_after key old new = entries_weight (table_for (goes_ahead key old) new.log).entries
+weighs_after key old new = listed_for (goes_ahead key old) new.log
 
 pub record MovesKeepOne (old new : Held) : Type 0 where
   pub deep_swap : SwapsDeepIn old new → IsOne new

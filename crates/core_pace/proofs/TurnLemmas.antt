@@ -148,7 +148,7 @@ moved_by TakeSnow seat n old moved pace paced s need m =
       },
     )
 moved_by Begin seat n old moved pace paced s need m =
-    (no_quantum, record { fits = tt; stands = moved_on (with_pass_begun old) moved (turned_by Begin pace seat no_quantum) m (record { numbers = begin_has_pace old pace s.numbers; one = (each_move_keeps_one old old s.one).begin; ends = ends_begun pace (end_of_a old.log) (end_of_b old.log) paced.within (s.numbers.in_pass ∙ ap (λ (r : Option SnowState). is_some r) need) s.ends; version = s.version }) })
+    (no_quantum, record { fits = tt; stands = moved_on (with_pass_begun old) moved (turned_by Begin pace seat no_quantum) m (record { numbers = begin_has_pace old pace s.numbers s.one.whole_a.1; one = (each_move_keeps_one old old s.one).begin; ends = ends_begun pace (end_of_a old.log) (end_of_b old.log) paced.within (s.numbers.in_pass ∙ ap (λ (r : Option SnowState). is_some r) need) s.ends; version = s.version }) })
 moved_by Rotate seat n old moved pace paced s need m = (
   no_quantum,
   record {

@@ -12,7 +12,7 @@ use Rattle.gear_sched.specs.Gears.{entered}
 use Rattle.pacing.specs.Pace.{Pace, with_write}
 use Rattle.pacing.specs.Steps.{Lands}
 use Rattle.snow_merge.specs.Pass.{SnowState}
-use Rattle.tree_log.specs.Log.{LogState, Grows, table_for, with_entry, weight_of_tables}
+use Rattle.tree_log.specs.Log.{LogState, Grows, listed_for, listed_in_a, with_entry, weight_of_tables}
 use Rattle.seat_book.specs.State.{BookState}
 use Rattle.merge_step.proofs.MergedLemmas.{ahead as grown_ahead}
 use Rattle.tree_machine.proofs.WeightLemmas.{weight_with}
@@ -45,7 +45,7 @@ behind_some snow taken key h1 h2 = grind (arith, common_steps, nat_tests)
 
 -- where a write would land
 pub lands_by : (key : Key) (rec : Rec) (held : Held) (pace : Pace) → HasPace held pace → IsOne held → (b : Bool) → goes_ahead key held ≡ b
-    → Lands pace (weight key rec) b (entries_weight (with_record key rec (table_for b held.log).entries))
+    → Lands pace (weight key rec) b (listed_for b (with_entry b key rec held.log))
 lands_by key rec held pace p one true ahead =
     let light = weight_with key rec held.log.a.entries one.sorted_a in
     let left = left_grown held.runs.pass held.log.a.entries key rec ahead in
@@ -64,7 +64,7 @@ module _ (seat : ℕ) (key : Key) (rec : Rec) (old new : Held) (pace : Pace) (p 
   spring_is = cc (p.in_pass, p.spring, spring)
 
   ahead_has : is_above (cursor_of_pass old.runs.pass) key ≡ true → new.log ≡ with_entry true key rec old.log → Grows true (weight key rec) old.log new.log
-      → Lands pace (weight key rec) true (entries_weight new.log.a.entries) × HasPace new (with_write pace seat (weight key rec) true (entries_weight new.log.a.entries))
+      → Lands pace (weight key rec) true (listed_in_a new.log) × HasPace new (with_write pace seat (weight key rec) true (listed_in_a new.log))
   ahead_has ahead log grows = (
     (omega (arith, grown, light, p.a), omega (arith, taken)),
     record {
@@ -94,8 +94,8 @@ module _ (seat : ℕ) (key : Key) (rec : Rec) (old new : Held) (pace : Pace) (p 
     },
   )
     where
-      grown : entries_weight new.log.a.entries ≡ entries_weight (with_record key rec old.log.a.entries)
-      grown = ap (λ (l : LogState). entries_weight l.a.entries) log
+      grown : listed_in_a new.log ≡ entries_weight (with_record key rec old.log.a.entries) + old.log.a.dropped
+      grown = ap listed_in_a log
 
       other : entries_weight new.log.b.entries ≡ entries_weight old.log.b.entries
       other = ap (λ (l : LogState). entries_weight l.b.entries) log
@@ -106,7 +106,7 @@ module _ (seat : ℕ) (key : Key) (rec : Rec) (old new : Held) (pace : Pace) (p 
       left : LeftGrown old.runs.pass old.log.a.entries (with_record key rec old.log.a.entries)
       left = left_grown old.runs.pass old.log.a.entries key rec ahead
 
-      taken : pace.taken + table_left old.runs.pass (with_record key rec old.log.a.entries) ≡ entries_weight new.log.a.entries
+      taken : pace.taken + table_left old.runs.pass (with_record key rec old.log.a.entries) ≡ listed_in_a new.log
       taken = omega (arith, left.table, p.taken, p.a, grown)
 
       passed : table_left new.runs.pass new.log.a.entries ≡ table_left old.runs.pass (with_record key rec old.log.a.entries)
@@ -145,8 +145,8 @@ module _ (seat : ℕ) (key : Key) (rec : Rec) (old new : Held) (pace : Pace) (p 
       grown : entries_weight new.log.b.entries ≡ entries_weight (with_record key rec old.log.b.entries)
       grown = ap (λ (l : LogState). entries_weight l.b.entries) log
 
-      other : entries_weight new.log.a.entries ≡ entries_weight old.log.a.entries
-      other = ap (λ (l : LogState). entries_weight l.a.entries) log
+      other : listed_in_a new.log ≡ listed_in_a old.log
+      other = ap listed_in_a log
 
       light : entries_weight (with_record key rec old.log.b.entries) ≤ entries_weight old.log.b.entries + weight key rec
       light = weight_with key rec old.log.b.entries one.sorted_b
@@ -157,7 +157,7 @@ pub write_has_pace : (seat : ℕ) (key : Key) (rec : Rec) (old new : Held) (pace
 write_has_pace seat key rec old new pace p one m = by (goes_ahead key old) refl m.log m.grows
   where
     by : (b : Bool) → goes_ahead key old ≡ b → new.log ≡ with_entry b key rec old.log → Grows b (weight key rec) old.log new.log
-        → Lands pace (weight key rec) b (entries_weight (table_for b new.log).entries) × HasPace new (with_write pace seat (weight key rec) b (entries_weight (table_for b new.log).entries))
+        → Lands pace (weight key rec) b (listed_for b new.log) × HasPace new (with_write pace seat (weight key rec) b (listed_for b new.log))
     by true is log grows =
         ahead_has seat key rec old new pace p one m.runs m.gears m.spring (ap (λ (b : BookState). b.counts.charge) m.book) (ap (λ (b : BookState). b.counts.passes) m.book) (ap (λ (b : BookState). b.counts.deeps) m.book) (ap (λ (b : BookState). b.counts.peak) m.book) is log grows
     by false is log grows =

@@ -6,12 +6,14 @@ use Rattle.seat_book.specs.State.{opened_in}
 use Rattle.tree_log.specs.Log.{end_of_a, end_of_b}
 use Rattle.core_moves.specs.declared.held.Held.{Held}
 
--- No merge runs, C1' and both tables are empty, and nothing was asked: the book has these annals, which are empty.
+-- No merge runs, C1' and both tables are empty, nothing was dropped of table A, and nothing was asked: the book has these annals, which are
+-- empty.
 pub record IsOpened (annals : Book) (faults : ℕ) (held : Held) : Type 0 where
   pub pass : held.runs.pass ≡ None
   pub deep : held.runs.deep ≡ None
   pub c1x : held.runs.catalogue.c1x.weight ≡ 0
   pub a : held.log.a.entries ≡ []
+  pub dropped : held.log.a.dropped ≡ 0
   pub b : held.log.b.entries ≡ []
   pub end_a : end_of_a held.log ≡ 0
   pub end_b : end_of_b held.log ≡ 0

@@ -10,7 +10,7 @@ use Rattle.pacing.specs.Counts.{AreFew, IsCounted}
 use Rattle.pacing.specs.Spent.{IsSpent}
 use Rattle.paced_tree.specs.Booking.{IsBookOf}
 use Rattle.seat_book.specs.State.{BookState}
-use Rattle.tree_log.specs.Log.{end_of_a, end_of_b}
+use Rattle.tree_log.specs.Log.{end_of_a, end_of_b, listed_in_a}
 use Rattle.tree_runs.specs.Runs.{made_by_pass, made_by_deep, left_for_pass, left_for_deep}
 use Rattle.core_moves.specs.declared.held.Held.{Held}
 use Rattle.core_moves.specs.Held.{IsOne}
@@ -28,7 +28,7 @@ HasTaken (Some snow) taken = IsTrue (is_some snow.at) → 0 < taken
 -- The numbers of the tree are those of this pace.
 pub record HasPace (held : Held) (pace : Pace) : Type 0 where
   pub gears : pace.gears ≡ held.gears
-  pub a : pace.a ≡ entries_weight held.log.a.entries
+  pub a : pace.a ≡ listed_in_a held.log
   pub taken : pace.taken + table_left held.runs.pass held.log.a.entries ≡ pace.a
   pub b : pace.b ≡ entries_weight held.log.b.entries
   pub c1 : pace.c1 ≡ held.runs.catalogue.c1.weight

@@ -132,6 +132,7 @@ first_settled sizes guides room d geometry long few running = record {
   lanes = refl;
   lane_roles = refl;
   a = refl;
+  whole_a = (refl, refl);
   b = refl;
   end_a = refl;
   end_b = refl;

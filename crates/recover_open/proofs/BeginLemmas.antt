@@ -1,7 +1,7 @@
 -- What was read of a store may be settled.
 use Rattle.std.proofs.lemmas.Bool.Decides.{nat_tests}
 use Rattle.std.proofs.lemmas.Grind.{common_steps}
-use Rattle.std.specs.Prelude.{◌≡◌, ℕ, ◌≤◌, Bool, List, [], length}
+use Rattle.std.specs.Prelude.{◌≡◌, ℕ, ◌≤◌, Bool, List, [], None, length}
 use Rattle.std.proofs.Common.{◌∙◌, refl, ap, sym, subst, arith}
 use Rattle.std.proofs.Math.Seq.{take-length}
 use Rattle.blsm_model.specs.Sizes.{Sizes}
@@ -12,7 +12,8 @@ use Rattle.gated_log.specs.Lane.{blocks}
 use Rattle.gated_log.specs.Lanes.{end_of}
 use Rattle.record_delta.specs.Entries.{Entries, entries_weight, replayed}
 use Rattle.tree_file.specs.Tree.{Tree, FitsSizes, HoldsTree}
-use Rattle.tree_log.specs.Log.{LogState, IsLogOf}
+use Rattle.tree_log.specs.Log.{LogState, IsLogOf, IsRestOf}
+use Rattle.tree_log.proofs.RestLemmas.{rest_whole}
 use Rattle.tree_reading.specs.declared.found.Found.{Found}
 use Rattle.tree_reading.specs.Damage.{catalogue_weight, room_for_a, room_for_b}
 use Rattle.tree_reading.specs.Reading.{HoldsFound, IsFound}
@@ -33,7 +34,7 @@ abbrev pub BeginsLight : Type 0
 BeginsLight = (sizes : Sizes) (catalogue : Catalog) (space : SpaceState) (guides : List GuideState) → IsDeepLight (opened sizes catalogue space guides)
 
 -- the log of a tree with these lanes
-log_is : (found : Found) (tree : Tree) → tree.catalogue ≡ found.catalogue → found.lanes.roles ≡ found.catalogue.lanes → found.a.entries ≡ replayed tree.lane_a → found.b.entries ≡ replayed tree.lane_b
+log_is : (found : Found) (tree : Tree) → tree.catalogue ≡ found.catalogue → found.lanes.roles ≡ found.catalogue.lanes → IsRestOf (replayed tree.lane_a) found.a → found.b.entries ≡ replayed tree.lane_b
     → end_of found.lanes (a_of found.catalogue.lanes) ≡ length (blocks tree.lane_a) → end_of found.lanes (b_of found.catalogue.lanes) ≡ length (blocks tree.lane_b) → IsLogOf tree (log_in found)
 log_is found tree h1 h2 h3 h4 h5 h6 = grind (arith, common_steps, nat_tests)
 
@@ -55,10 +56,11 @@ begun light found guides honest file is =
       sizes = is.sizes;
       lanes = tree;
       lanes_are = refl;
-      log_of = log_is found tree refl is.roles a.table_is b.table_is a.place_is b.place_is;
+      log_of = log_is found tree refl is.roles (rest_whole (replayed tree.lane_a) found.a is.whole_a a.table_is) b.table_is a.place_is b.place_is;
+      whole_a = is.whole_a;
       mark = is.head.fits.mark;
-      high = omega (arith, held_a, held_b, ap entries_weight a.table_is);
-      full = omega (arith, is.head.fits.full, held_a, held_b, ap entries_weight a.table_is);
+      high = omega (arith, held_a, held_b, ap entries_weight a.table_is, is.whole_a.1);
+      full = omega (arith, is.head.fits.full, held_a, held_b, ap entries_weight a.table_is, is.whole_a.1);
       deep = light found.geometry found.catalogue found.space guides;
       reserved_a = omega (arith, is.reserved_a);
       reserved_b = omega (arith, is.reserved_b);
@@ -67,7 +69,7 @@ begun light found guides honest file is =
 -- all that was found is within the capacity
 pub found_full : BeginsLight → (found : Found) (honest : Bool) (file : List ℕ) → IsFound found honest file → weight_found found ≤ capacity
     found.geometry
-found_full light found honest file is = (begun light found [] honest file is).full
+found_full light found honest file is = omega (arith, (begun light found [] honest file is).full)
 
 pub has_begun : BeginsLight → (found : Found) (guides : List GuideState) (honest : Bool) (file : List ℕ) (runs : RunsState) (log : LogState) → IsFound found honest file → runs ≡ runs_of found guides → log ≡ log_in found → HasBegun runs log
 has_begun light found guides honest file runs log is runs_are log_are =
@@ -79,12 +81,12 @@ OpensOver found guides runs = (tree : Tree) (a : Entries) (file : List ℕ) → 
     → AreTagged found.space first_tags.c1 tree.c1 → AreTagged found.space first_tags.c1x tree.c1x → AreTagged found.space first_tags.c2 tree.c2
     → AreGuided guides first_tags tree → AreOf runs tree a file
 
-pub begins_in : (found : Found) (guides : List GuideState) (file : List ℕ) (runs : RunsState) (log : LogState) → found.lanes.roles ≡ found.catalogue.lanes → (holds : HoldsFound found file) → runs ≡ runs_of found guides → log ≡ log_in found
+pub begins_in : (found : Found) (guides : List GuideState) (file : List ℕ) (runs : RunsState) (log : LogState) → (found.a.floor ≡ None) × (found.a.dropped ≡ 0) → found.lanes.roles ≡ found.catalogue.lanes → (holds : HoldsFound found file) → runs ≡ runs_of found guides → log ≡ log_in found
     → OpensOver found guides runs → AreGuided guides first_tags holds.tree → BeginsIn runs log holds.tree file
-begins_in found guides file runs log roles holds runs_are log_are opens guided =
+begins_in found guides file runs log whole roles holds runs_are log_are opens guided =
     let t = holds.tree in
     record {
       are_of = opens t log.a.entries file holds.holds holds.catalogue (λ n has. (holds.c1_tag n).1 has) (λ n has. (holds.c1x_tag n).1 has) (λ n has. (holds.c2_tag n).1 has) guided;
-      log_of = subst (IsLogOf t) (sym log_are) (log_is found t holds.catalogue roles holds.table_a holds.table_b holds.end_a holds.end_b);
+      log_of = subst (IsLogOf t) (sym log_are) (log_is found t holds.catalogue roles (rest_whole (replayed t.lane_a) found.a whole holds.table_a) holds.table_b holds.end_a holds.end_b);
       fits = subst (λ (s : Sizes). FitsSizes s t) (sym (ap (λ (r : RunsState). r.sizes) runs_are)) holds.fits;
     }

@@ -46,6 +46,7 @@ ready_settled runs log room d sizes version few ready entries =
       lanes = may.begun.sizes;
       lane_roles = may.begun.log_of.roles ∙ ap (λ (c : Catalog). c.lanes) may.begun.lanes_are;
       a = settled.a;
+      whole_a = may.begun.whole_a;
       b = settled.b;
       end_a = settled.end_a;
       end_b = settled.end_b;

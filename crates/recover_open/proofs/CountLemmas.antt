@@ -15,7 +15,7 @@ use Rattle.core_moves.specs.declared.held.Settled.{Settled}
 use Rattle.page_space.specs.Space.{SpaceState}
 use Rattle.record_delta.specs.Entries.{entries_weight}
 use Rattle.tree_file.specs.Tree.{HoldsTree}
-use Rattle.tree_log.specs.Log.{LogState}
+use Rattle.tree_log.specs.Log.{LogState, listed_in_a}
 use Rattle.tree_reading.specs.Reading.{HoldsFound, IsHead}
 use Rattle.tree_reading.specs.declared.found.Found.{Found}
 use Rattle.tree_reading.specs.declared.found.Unreadable.{Unreadable}
@@ -33,19 +33,19 @@ weighs_some : (pages : ℕ) (component : Component) (n : ℕ) → IsComponent pa
 weighs_some pages component n valid = grind (arith, common_steps, nat_tests)
 
 pub least_found : (sizes : Sizes) (catalogue : Catalog) (space : SpaceState) (guides : List GuideState) (log : LogState) → IsHead sizes catalogue
-    → settling_least (opened sizes catalogue space guides) log ≡ opening_least catalogue (entries_weight log.a.entries) (entries_weight log.b.entries)
+    → settling_least (opened sizes catalogue space guides) log ≡ opening_least catalogue (listed_in_a log) (entries_weight log.b.entries)
 least_found sizes catalogue space guides log head =
-    let a = entries_weight log.a.entries in
+    let a = listed_in_a log in
     let b = entries_weight log.b.entries in
     ap (λ (n : ℕ). n + where_some (a + b) (catalogue.c1.weight + a) + b) (left_before_it sizes catalogue space guides
     ∙ weighs_some (page_count sizes) catalogue.c1x (catalogue.c1x.weight + catalogue.c2.weight) head.valid.c1x)
 
 -- what is due of what was found
 pub due_found : (sizes : Sizes) (catalogue : Catalog) (space : SpaceState) (guides : List GuideState) (log : LogState) → IsHead sizes catalogue
-    → settling_due (opened sizes catalogue space guides) log ≡ opening_due sizes catalogue (entries_weight log.a.entries)
+    → settling_due (opened sizes catalogue space guides) log ≡ opening_due sizes catalogue (listed_in_a log)
     (entries_weight log.b.entries)
 due_found sizes catalogue space guides log head =
-    let a = entries_weight log.a.entries in
+    let a = listed_in_a log in
     let b = entries_weight log.b.entries in
     ap (λ (n : ℕ). n + passes_due sizes catalogue.c1.weight a b (components_of catalogue + (a + b)))
     (due_before_it sizes catalogue space guides (catalogue.c1x.weight + catalogue.c2.weight)
@@ -100,30 +100,34 @@ settles_within sizes catalogue a b old new settled least due some same component
 pub counts_from : (result : Result Begun Unreadable) (found : Found) (begun : Begun) → 0 < found.geometry.quantum
     → IsHead found.geometry found.catalogue
     → begun.runs ≡ opened found.geometry found.catalogue found.space found.guides
-    → begun.log ≡ record { a = found.a; b = found.b; lanes = found.lanes }
+    → begun.log ≡ record { a = found.a; b = found.b; lanes = found.lanes } → found.a.dropped ≡ 0
     → begun.settled.bound ≡ quanta_bound begun.runs.sizes (settling_due begun.runs begun.log)
-    → IfOk result (λ ready. CountsQuanta (1 + most_merges (entries_weight begun.log.a.entries) (entries_weight begun.log.b.entries))
+    → IfOk result (λ ready. CountsQuanta (1 + most_merges (listed_in_a begun.log) (entries_weight begun.log.b.entries))
     (settling_least begun.runs begun.log) (settling_due begun.runs begun.log) begun.runs ready.runs ready.settled.quanta
     × (ready.settled.bound ≡ begun.settled.bound) × (ready.settled.version ≡ ready.runs.catalogue.version))
     → IfOk result (λ ready. SettlesWithin found.geometry found.catalogue (entries_weight found.a.entries) (entries_weight found.b.entries)
     ready.runs.catalogue ready.settled)
-counts_from (Ok ready) found begun some head runs_are log_are bound_is counts =
+counts_from (Ok ready) found begun some head runs_are log_are none_dropped bound_is counts =
     let sizes = found.geometry in
     let due = settling_due begun.runs begun.log in
+    let listed : listed_in_a begun.log ≡ entries_weight found.a.entries = omega (arith, ap listed_in_a log_are, none_dropped) in
+    let other : entries_weight begun.log.b.entries ≡ entries_weight found.b.entries = ap (λ (l : LogState). entries_weight l.b.entries) log_are in
     let due_is : due ≡ opening_due sizes found.catalogue (entries_weight found.a.entries) (entries_weight found.b.entries) =
     ap (λ (r : RunsState). settling_due r begun.log) runs_are ∙ due_found sizes found.catalogue found.space found.guides begun.log head
-    ∙ ap (λ (l : LogState). opening_due sizes found.catalogue (entries_weight l.a.entries) (entries_weight l.b.entries)) log_are in
+    ∙ ap (λ (n : ℕ). opening_due sizes found.catalogue n (entries_weight begun.log.b.entries)) listed
+    ∙ ap (opening_due sizes found.catalogue (entries_weight found.a.entries)) other in
     let least_is : settling_least begun.runs begun.log ≡ opening_least found.catalogue (entries_weight found.a.entries)
     (entries_weight found.b.entries) =
     ap (λ (r : RunsState). settling_least r begun.log) runs_are ∙ least_found sizes found.catalogue found.space found.guides begun.log head
-    ∙ ap (λ (l : LogState). opening_least found.catalogue (entries_weight l.a.entries) (entries_weight l.b.entries)) log_are in
+    ∙ ap (λ (n : ℕ). opening_least found.catalogue n (entries_weight begun.log.b.entries)) listed
+    ∙ ap (opening_least found.catalogue (entries_weight found.a.entries)) other in
     settles_within sizes found.catalogue (entries_weight found.a.entries) (entries_weight found.b.entries) begun.runs ready.runs ready.settled
     (settling_least begun.runs begun.log) due some
     (ap (λ (r : RunsState). r.sizes) runs_are) (ap (λ (r : RunsState). r.catalogue) runs_are) least_is due_is
     (counts.1 ∙ bound_is ∙ ap (λ (r : RunsState). quanta_bound r.sizes due) runs_are) counts.2
-    (subst (λ (l : LogState). CountsQuanta (1 + most_merges (entries_weight l.a.entries) (entries_weight l.b.entries))
-    (settling_least begun.runs begun.log) due begun.runs ready.runs ready.settled.quanta) log_are counts.0)
-counts_from (Err why) found begun some head runs_are log_are bound_is counts = tt
+    (subst (λ (n : ℕ). CountsQuanta (1 + n) (settling_least begun.runs begun.log) due begun.runs ready.runs ready.settled.quanta)
+    (ap (λ (n : ℕ). most_merges n (entries_weight begun.log.b.entries)) listed ∙ ap (most_merges (entries_weight found.a.entries)) other) counts.0)
+counts_from (Err why) found begun some head runs_are log_are none_dropped bound_is counts = tt
 
 -- where no deep merge runs C1' is empty
 rests_empty : (runs : RunsState) → runs.deep ≡ None → RestsEmpty runs.deep runs.catalogue.c1x → runs.catalogue.c1x ≡ empty_component

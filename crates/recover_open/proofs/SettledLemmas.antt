@@ -18,6 +18,7 @@ use Rattle.record_delta.specs.Entries.{Entries}
 use Rattle.tree_file.specs.Tree.{Tree, HoldsTree, map_of_tree}
 use Rattle.tree_log.specs.Log.{LogState, weight_of_tables}
 use Rattle.tree_log.proofs.LogLemmas.{lane_ends}
+use Rattle.tree_log.proofs.RestLemmas.{rest_weighs}
 use Rattle.tree_reading.specs.declared.found.Found.{Found}
 use Rattle.tree_reading.specs.declared.found.Unreadable.{Unreadable}
 use Rattle.tree_reading.specs.declared.found.Unreadable.TheVariants.{Fault}
@@ -74,7 +75,7 @@ none_at_start entries none = nil_from_length entries (omega (arith, none, lane_e
 
 -- what was begun with weighs what the tree in the file does
 begun_weighs : (runs : RunsState) (log : LogState) (image : Tree) (file : List ℕ) → BeginsIn runs log image file → components_of runs.catalogue + weight_of_tables log ≡ weight_of_tree image
-begun_weighs runs log image file h1 = grind (arith, common_steps, nat_tests)
+begun_weighs runs log image file h1 = grind (arith, common_steps, nat_tests, rest_weighs)
 
 stands_empty : (runs runs' : RunsState) (log log' : LogState) (image : Tree) (old new : DiskState) → IsTrue old.is_honest → BeginsIn runs log image old.bytes
     → ShowsMap runs log (map_of_tree image) old → SettlesOn runs runs' log log' old new → IsSettled runs' log' → StandsEmpty runs' log' image new

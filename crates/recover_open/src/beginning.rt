@@ -6,6 +6,7 @@ ghost use Rattle.blsm_model.specs.Geometry.{file_length};
 ghost use Rattle.blsm_model.specs.declared.key.Key.{Key};
 ghost use Rattle.blsm_model.specs.declared.row.Value.{Value};
 ghost use Rattle.record_delta.specs.Entries.{entries_weight};
+ghost use Rattle.tree_log.specs.Log.{listed_in_a};
 ghost use Rattle.tree_reading.specs.Reading.{HoldsFound, IsFound};
 ghost use Rattle.tree_runs.specs.Runs.{AreGuides, AreRunning, first_tags, opened};
 ghost use Rattle.tree_settling.specs.Counting.{CountsQuanta, most_merges, quanta_bound, settling_due, settling_least};
@@ -78,7 +79,7 @@ fn settle_begun<D: Disk>(disk: &mut D, begun: Begun) -> Result<Begun, Unreadable
         (D.state disk.new) }
     ensures on { IfOk result (λ ready. SettlesOn begun.runs ready.runs begun.log ready.log (D.state disk.old) (D.state disk.new)) }
     ensures settled { IfOk result (λ ready. IsSettled ready.runs ready.log × (ready.runs.catalogue.version ≤ begun.runs.catalogue.version + 5)) }
-    ensures counts { IfOk result (λ ready. CountsQuanta (1 + most_merges (entries_weight begun.log.a.entries) (entries_weight begun.log.b.entries))
+    ensures counts { IfOk result (λ ready. CountsQuanta (1 + most_merges (listed_in_a begun.log) (entries_weight begun.log.b.entries))
         (settling_least begun.runs begun.log) (settling_due begun.runs begun.log) begun.runs ready.runs ready.settled.quanta
         × (ready.settled.bound ≡ begun.settled.bound) × (ready.settled.version ≡ ready.runs.catalogue.version)) }
     ensures why { (pairs : List (Key × Value)) → IsTrue (D.state disk.old).is_honest → ShowsMap begun.runs begun.log pairs (D.state disk.old)

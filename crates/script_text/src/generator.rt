@@ -1,5 +1,5 @@
 // A script that is made from a seed.
-ghost use Rattle.std.specs.Prelude.{◌≡◌, ℕ, ◌<◌, ◌≤◌, IfOk, List};
+ghost use Rattle.std.specs.Prelude.{◌≡◌, ℕ, ◌<◌, ◌≤◌, ◌++◌, ◌∷◌, [], IfOk, List, length, vec_capacity};
 ghost use Rattle.std.specs.List.{All};
 ghost use Rattle.blsm_model.specs.declared.history.Entry.{Entry};
 ghost use Rattle.blsm_model.specs.declared.history.Line.{Line};
@@ -43,40 +43,55 @@ impl Generator {
         self.state >> HIDDEN_BITS
     }
 
-    // The next command, for which four numbers are drawn, whether it has use for them or not.
-    fn make_line(&mut self) -> Line
-        ensures line { result ≡ record { seat = 0; op = op_from self.old.state } }
+    // Puts the next command's line at the end. Four numbers are drawn for it, whether it has use for them or not.
+    fn push_line(&mut self, lines: &mut Vec<Line>)
+        requires { length lines.old.items < vec_capacity lines.old }
+        ensures lines { lines.new.items ≡ lines.old.items ++ record { seat = 0; op = op_from self.old.state } ∷ [] }
+        ensures capacity { vec_capacity lines.new ≡ vec_capacity lines.old }
         ensures state { self.new.state ≡ after_command self.old.state }
     {
         let kind = self.draw() % 100;
         let place = self.draw() % u64::from(MADE_KEYS);
         let count = self.draw() % 1000;
         let size = 160 + self.draw() % 40;
-        Line {
-            seat: 0,
-            op: make_op(kind, place, count, size as usize),
-        }
+        push_op(lines, kind, place, count, size as usize);
     }
 }
 
+// Puts the line of a command at the end. Each kind puts its own: a command that might be of any kind is moved whole.
 #[tactic(auto, unfolding(crate::specs::Generated::op_of))]
-fn make_op(kind: u64, place: u64, count: u64, size: usize) -> Op
-    requires { size ≤ longest_made }
-    ensures { result ≡ op_of kind place count size }
+fn push_op(lines: &mut Vec<Line>, kind: u64, place: u64, count: u64, size: usize)
+    requires size { size ≤ longest_made }
+    requires room { length lines.old.items < vec_capacity lines.old }
+    ensures lines { lines.new.items ≡ lines.old.items ++ record { seat = 0; op = op_of kind place count size } ∷ [] }
+    ensures capacity { vec_capacity lines.new ≡ vec_capacity lines.old }
 {
     let key = make_key(place);
     match kind {
-        0..=59 => Op::Put(
-            key,
-            Value {
-                count,
-                text: make_text(place, size),
-            },
+        0..=59 => push(
+            lines,
+            Op::Put(
+                key,
+                Value {
+                    count,
+                    text: make_text(place, size),
+                },
+            ),
         ),
-        60..=77 => Op::Add(key, count),
-        78..=79 => Op::Del(key),
-        _ => Op::Get(key),
+        60..=77 => push(lines, Op::Add(key, count)),
+        78..=79 => push(lines, Op::Del(key)),
+        _ => push(lines, Op::Get(key)),
     }
+}
+
+// Puts a line of the first caller at the end.
+#[inline(always)]
+fn push(lines: &mut Vec<Line>, op: Op)
+    requires { length lines.old.items < vec_capacity lines.old }
+    ensures lines { lines.new.items ≡ lines.old.items ++ record { seat = 0; op = op } ∷ [] }
+    ensures capacity { vec_capacity lines.new ≡ vec_capacity lines.old }
+{
+    lines.push_reserved(Line { seat: 0, op });
 }
 
 fn make_digit(place: u64, unit: u64) -> u8
@@ -125,7 +140,7 @@ pub fn generate(alloc: Global, seed: u64, count: u32) -> Result<Script, NoMemory
     let mut generator = Generator { state: seed };
     let mut lines = Vec::with_capacity(alloc, count as usize)?;
     while lines.len() < count as usize {
-        lines.push_reserved(generator.make_line());
+        generator.push_line(&mut lines);
     }
     Ok(Script::from_lines(lines))
 }

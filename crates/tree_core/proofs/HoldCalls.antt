@@ -97,7 +97,7 @@ hold_does {D} {mid} {after} state seat low high answer old b core timed can move
 
     goes : GoesOnAs state seat (kind.Hold low high) (Replied (reply_to_hold answer)) old (after_it old.disk mid after seat (op.Hold low high) (reply_to_hold answer) old.held)
     goes = hold_goes state seat (reply_to_hold answer) old old.disk core timed (hold_kind seat low high) moves reads (moved_on (state old.disk) moves) (hold_room seat low high answer old.held.book can) can
-        (λ opening m honest stands ok. hold_steps state opening seat low high answer old mid after m timed honest (notes_below seat 0 old.held.book can) moves because rows stands ok)
+        (λ opening m honest stands ok. hold_steps state opening seat low high answer old mid after m (λ runs. (core.holds.live runs).paced.one) timed honest (notes_below seat 0 old.held.book can) moves because rows stands ok)
 
 pub next_does : {D : Type 0} {after : List (Option HoldState)} (state : D → DiskState) (seat n : ℕ) (answer : Scanned) (old : CoreState D) (disk : D) (b : BookState) → IsCore old.held (state old.disk) → AreFew old.held.runs.sizes old.holds
     → IsTimed (state disk) → may_note_in seat n old.held.book ≡ true → 0 < n → n ≤ most_rows → ((other : ℕ) → other ≢ seat → hold_of other after ≡ hold_of other old.holds)

@@ -38,6 +38,8 @@ use Rattle.tree_machine.specs.declared.step.Kind.TheVariants as kind
 use Rattle.tree_file.specs.Tree.{Tree}
 use Rattle.tree_runs.specs.Holding.{AreOf}
 use Rattle.core_moves.specs.declared.held.Held.{Held}
+use Rattle.core_moves.specs.Held.{IsOne}
+use Rattle.tree_log.proofs.RestLemmas.{whole_list}
 use Rattle.tree_core.specs.declared.answers.Holding.{Holding}
 use Rattle.tree_core.specs.declared.answers.Holding.TheVariants as holds
 use Rattle.tree_core.specs.Scanned.{Scanned}
@@ -131,13 +133,14 @@ drop_steps state opening seat answer old mid after m timed honest below moves be
 
 -- ---- the hold
 
-pub hold_steps : {D : Type 0} (state : D → DiskState) (opening : List (Key × Value)) (seat : ℕ) (low high : Key) (answer : Holding) (old : CoreState D) (mid : Held) (after : List (Option HoldState)) (m : Machine) → IsTimed (state old.disk)
+pub hold_steps : {D : Type 0} (state : D → DiskState) (opening : List (Key × Value)) (seat : ℕ) (low high : Key) (answer : Holding) (old : CoreState D) (mid : Held) (after : List (Option HoldState)) (m : Machine)
+    → (old.held.book.stopped ≡ None → IsOne old.held) → IsTimed (state old.disk)
     → IsTrue (state old.disk).is_honest → seat < callers → MovesHold seat old.held mid old.holds after → HoldsBecause answer seat low high (undisked old.held old.holds) (undisked mid after)
     → ((tree : Tree) (table : Entries) (file : List ℕ) → answer ≡ holds.Held → AreOf old.held.runs tree table file
     → HasHeld old.held.runs.sizes mid.runs.space.pins seat (hold_of seat after) (Some (rows_in (record { b = old.held.log.b.entries; a = old.held.log.a.entries; c1 = entries_of tree.c1; c1x = entries_of tree.c1x; c2 = entries_of tree.c2 }) low high)) file)
     → StandsWhole state opening old m → may m seat (kind.Hold low high) ≡ true
     → IsWholeStep state opening seat (kind.Hold low high) (Replied (reply_to_hold answer)) old (after_it old.disk mid after seat (op.Hold low high) (reply_to_hold answer) old.held) m
-hold_steps state opening seat low high answer old mid after m timed honest below moves because has stands can = by answer because has
+hold_steps state opening seat low high answer old mid after m one timed honest below moves because has stands can = by answer because has
   where
     reads : OnlyReads 0 0 (state old.disk) (state old.disk)
     reads = only_reads_start (state old.disk) timed
@@ -165,7 +168,8 @@ hold_steps state opening seat low high answer old mid after m timed honest below
             let tree = over.tree in
             let lists : m.lists ≡ record { b = old.held.log.b.entries; a = old.held.log.a.entries; c1 = entries_of tree.c1; c1x = entries_of tree.c1x; c2 = entries_of tree.c2 } = over.holds.lists
             ∙ ap (λ (b : Entries). record { b = b; a = replayed tree.lane_a; c1 = entries_of tree.c1; c1x = entries_of tree.c1x; c2 = entries_of tree.c2 }) (sym log.b)
-            ∙ ap (λ (a : Entries). record { b = old.held.log.b.entries; a = a; c1 = entries_of tree.c1; c1x = entries_of tree.c1x; c2 = entries_of tree.c2 }) (sym log.a) in
+            ∙ ap (λ (a : Entries). record { b = old.held.log.b.entries; a = a; c1 = entries_of tree.c1; c1x = entries_of tree.c1x; c2 = entries_of tree.c2 })
+            (sym (whole_list (replayed tree.lane_a) old.held.log.a (one runs).whole_a log.a)) in
             subst (λ (l : Lists). HasHeld old.held.runs.sizes mid.runs.space.pins seat (hold_of seat after) (Some (rows_in l low high)) (state old.disk).bytes) (sym lists)
             (has tree old.held.log.a.entries (state old.disk).bytes refl over.over.are_of)
     by holds.NoMemory because has =

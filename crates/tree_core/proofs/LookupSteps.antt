@@ -34,6 +34,7 @@ use Rattle.tree_runs.specs.Holding.{AreGuided}
 use Rattle.tree_runs.specs.Lookups.{CountsYes, HidesOlder}
 use Rattle.tree_runs.specs.Runs.{filter_of}
 use Rattle.core_moves.specs.declared.held.Held.{Held}
+use Rattle.core_moves.specs.Held.{IsOne}
 use Rattle.core_moves.specs.Moves.{with_book}
 use Rattle.core_pace.proofs.EventLemmas.{entry_is_told}
 use Rattle.core_lists.proofs.LookupLemmas.{lookup_is_the_machines}
@@ -82,12 +83,12 @@ get_step opening seat key r outcome held m reads honest s can is possible whole 
     quiet_step opening seat (kind.Look (Get key)) outcome (Replied r) held held.runs.space (noted_in seat (Get key) r held.book) m (note seat (Get key) r m) reads honest s can tt possible whole is
     (record { same = record { lists = refl; merges = refl; gears = refl; spring = refl; catalogue = refl }; counts = record { charge = refl; peak = refl; quanta = refl }; book = (moves_book m).note seat (Get key) r ∙ ap (noted_in seat (Get key) r) s.book; stopped = refl; noted = inr (entry, refl, quiet_entry_counts_none entry (inl refl)) }) (λ tree table file of. of) (λ none. tt)
 
-get_steps : {end most : ℕ} {d d2 : DiskState} (opening : List (Key × Value)) (seat : ℕ) (key : Key) (found : Lookup) (held : Held) (m : Machine) → OnlyReads end most d d2 → IsTrue d.is_honest
+get_steps : {end most : ℕ} {d d2 : DiskState} (opening : List (Key × Value)) (seat : ℕ) (key : Key) (found : Lookup) (held : Held) (m : Machine) → (held.book.stopped ≡ None → IsOne held) → OnlyReads end most d d2 → IsTrue d.is_honest
     → FindsBecause found key held d d2 → (found ≡ lookup.Fault → d2.faults < 2 ^ 64)
     → ((tree : Tree) → HoldsTree held.runs.sizes tree d.bytes → tree.catalogue ≡ held.runs.catalogue → AreGuided held.runs.guides held.runs.tags tree → held.book.stopped ≡ None → found ≢ lookup.Fault → reply_to_get found ≡ answer_to_get (found_in key held tree))
     → StandsFor AnyRows opening held m d → may m seat (kind.Look (Get key)) ≡ true
     → IsStep AnyRows opening seat (kind.Look (Get key)) (Replied (reply_to_get found)) (with_book (noted_in seat (Get key) (reply_to_get found) held.book) held) d d2 m
-get_steps {end} {most} {d} {d2} opening seat key found held m reads honest because counted value s can = by found because counted value
+get_steps {end} {most} {d} {d2} opening seat key found held m one reads honest because counted value s can = by found because counted value
   where
     stopped_is : m.stopped ≡ held.book.stopped
     stopped_is = ap (λ (b : BookState). b.stopped) s.book
@@ -101,7 +102,7 @@ get_steps {end} {most} {d} {d2} opening seat key found held m reads honest becau
     there r none is =
         let over = s.runs none in
         is over.tree over.over.stands.reads over.over.are_of.catalogue over.over.are_of.guided
-        ∙ ap answer_to_get (lookup_is_the_machines held over.tree m d.bytes key (record { are_of = over.over.are_of; holds = over.holds }))
+        ∙ ap answer_to_get (lookup_is_the_machines held over.tree m d.bytes key (one none) (record { are_of = over.over.are_of; holds = over.holds }))
 
     well : (r : Reply) → held.book.stopped ≡ None → r ≡ answer_to_get (value_in m.lists key)
         → IsStep AnyRows opening seat (kind.Look (Get key)) (Replied r) (with_book (noted_in seat (Get key) r held.book) held) d d2 m
@@ -136,7 +137,7 @@ get_does {D} state seat key found old disk b core timed can because counted valu
     goes = book_goes state seat (kind.Look (Get key)) (Replied (reply_to_get found)) old disk (noted_in seat (Get key) (reply_to_get found) old.held.book) 1 core timed (reads 3 (three_count key old.held)) (reads_on old.held (reads 3 (three_count key old.held))) refl refl can (omega arith)
         (note_keeps seat (Get key) (reply_to_get found) old.held.book) refl refl
         (λ pace told. entry_is_told old.held.book pace seat (Get key) (reply_to_get found) (λ done. refl) (get_has_room seat key found old.held.book can) told) (λ pace. refl)
-        (λ opening m honest s ok. get_steps opening seat key found old.held m (reads 3 (three_count key old.held)) honest because counted (λ tree holds catalogue guided. value tree honest holds catalogue guided) s ok)
+        (λ opening m honest s ok. get_steps opening seat key found old.held m (λ runs. (core.holds.live runs).paced.one) (reads 3 (three_count key old.held)) honest because counted (λ tree holds catalogue guided. value tree honest holds catalogue guided) s ok)
 
 -- ---- as a command that only looks
 

@@ -74,7 +74,7 @@ module _ {D : Type 0} (state : D → DiskState) (disk : D) (runs : RunsState) (l
       → StandsWhole state (map_of_tree tree) core (opened runs.sizes (entries_of tree.c1) (entries_of tree.c2) (catalogue_of runs.catalogue) d.faults annals.room)
   opened_stands tree over a b =
       let m = opened runs.sizes (entries_of tree.c1) (entries_of tree.c2) (catalogue_of runs.catalogue) d.faults annals.room in
-      let stands = opening_stands annals d.faults held pace tree d.bytes is_opened settled.lane_roles paced.numbers over.are_of a b settled.components in
+      let stands = opening_stands annals d.faults held pace tree d.bytes is_opened one paced.numbers over.are_of a b settled.components in
       let agrees = Rattle.core_lists.proofs.TestLemmas.tests_agree_with_lists held tree m d.bytes pace stands.at
       stands.paced.stands.sound paced.numbers in
       record {

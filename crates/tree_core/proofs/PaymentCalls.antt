@@ -124,7 +124,7 @@ module _ {D : Type 0} (state : D → DiskState) (seat : ℕ) (plan : Plan) (resu
       let ran = t.plans.ran in
       let k = (t.core.holds.live ran).paced in
       let tree = (s.runs ran).tree in
-      let r = running_at opening old.held m (state old.disk) t.core.pace s ran k.numbers k.one.gears in
+      let r = running_at opening old.held m (state old.disk) t.core.pace s ran k.numbers k.one in
       steps opening m tree r ok (t.lists tree honest (stands_forgiven seat old.held forgiven tree (state old.disk) t.plans.is r.over)))
 
 pub pay_taken : {D : Type 0} (state : D → DiskState) (seat n : ℕ) (plan : Plan) (old : CoreState D) (forgiven taken : Held) (disk : D) (b : BookState) → Paying state seat plan (Ok n) old forgiven taken disk → IsOn taken (state disk)

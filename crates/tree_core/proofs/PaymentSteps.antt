@@ -33,6 +33,7 @@ use Rattle.core_moves.specs.declared.held.Held.{Held}
 use Rattle.core_moves.specs.Moves.{with_book, with_debts_forgiven}
 use Rattle.core_pace.specs.Pacing.{IsPacedHeld}
 use Rattle.core_pace.specs.Events.{plan_in}
+use Rattle.core_pace.proofs.OneLemmas.{each_move_keeps_one}
 use Rattle.core_pace.proofs.TestLemmas.{forgiving_has_pace}
 use Rattle.core_lists.specs.Shown.{ShowsWhole}
 use Rattle.core_lists.specs.Steps.{TookByPlan}
@@ -88,7 +89,7 @@ settled_at opening seat old m d tree timed r ok each nothing =
     let answers = ap (λ (s : Stepped). s.answer) (pay_as m seat Well Nothing (machine_runs opening old m d tree r) (same_plan opening seat old m d tree r ∙ nothing)) in
     step_by opening seat kind.Pay Settled (with_debts_forgiven seat old) d d m Well (pay m seat Well) refl tt refl
     (stands_running opening (with_debts_forgiven seat old) (pay m seat Well).state d tree
-    (record { fronts = r.fronts; over = r.over; holds = at.holds; goes = goes; numbers = with_forgiven r.numbers seat; has = forgiving_has_pace seat old r.numbers r.has; one = r.one; ran = r.ran }))
+    (record { fronts = r.fronts; over = r.over; holds = at.holds; goes = goes; numbers = with_forgiven r.numbers seat; has = forgiving_has_pace seat old r.numbers r.has; one = (each_move_keeps_one old old r.one).forgiving seat; ran = r.ran }))
     (sym answers)
     (leaves_same opening m d d (pay m seat Well).state.book.entries d.images (ap (λ (b : BookState). b.book.entries) (at.holds.book ∙ sym r.holds.book))
     (λ c here. shows_at opening old m d tree c r (each c here)) (leaves_only_start d d.images timed (λ c here. here)))
@@ -97,7 +98,7 @@ pub settled_payment : (opening : List (Key × Value)) (seat : ℕ) (old forgiven
     → IsTrue (may m seat kind.Pay) → forgiven ≡ with_debts_forgiven seat old → plan_in seat old ≡ Nothing → IsStep AnyRows opening seat kind.Pay Settled forgiven d d m
 settled_payment opening seat old forgiven m numbers d timed ran holds stands ok is nothing =
     let k = (holds.live ran).paced in
-    let r = running_at opening old m d numbers stands ran k.numbers k.one.gears in
+    let r = running_at opening old m d numbers stands ran k.numbers k.one in
     subst (λ (h : Held). IsStep AnyRows opening seat kind.Pay Settled h d d m) (sym is)
     (settled_at opening seat old m d (stands.runs ran).tree timed r ok (stands.runs ran).over.stands.each nothing)
 
@@ -121,7 +122,7 @@ pub paid_step : (opening : List (Key × Value)) (seat n : ℕ) (plan : Plan) (ol
 paid_step opening seat n plan old forgiven taken b m next before after tree result took counted r k ok is leaves =
     step_by opening seat kind.Pay Paid (with_book b taken) before after m Well (pay m seat Well) refl tt refl
     (stands_running opening (with_book b taken) (pay m seat Well).state after tree
-    (record { fronts = r.fronts; over = left.2; holds = at.holds; goes = payment_goes_on opening m r.fronts tree seat Well ok r.goes; numbers = next; has = k.numbers; one = k.one.gears; ran = payment_runs seat n plan old forgiven taken b took counted }))
+    (record { fronts = r.fronts; over = left.2; holds = at.holds; goes = payment_goes_on opening m r.fronts tree seat Well ok r.goes; numbers = next; has = k.numbers; one = k.one; ran = payment_runs seat n plan old forgiven taken b took counted }))
     (sym (ap (λ (s : Stepped). s.answer) (pay_as m seat Well plan (machine_runs opening old m before tree r) (same_plan opening seat old m before tree r ∙ sym took.plans.plan_is)) ∙ paid_answer plan (forgive seat m) seat took.plans.owes))
     (leaves_same opening m before after (pay m seat Well).state.book.entries (HoldsTree forgiven.runs.sizes tree)
     (ap (λ (x : BookState). x.book.entries) at.holds.book ∙ paid_entries seat n plan old forgiven taken b took counted ∙ sym (ap (λ (x : BookState). x.book.entries) r.holds.book))
@@ -195,7 +196,7 @@ failed_payment_step opening seat f plan old forgiven failed b m before after tre
         let kept = kept_of seat plan (Faulted f) old forgiven failed b fails in
         record {
           paced = subst (λ (s : Stepped). IsPacedTree opening s.state) same (payment_goes_on opening m r.fronts tree seat (FailedAfter 0 f) ok r.goes).paced;
-          sizes = ap (λ (g : GearState). g.sizes) r.holds.gears ∙ r.one ∙ sym (kept.sizes tt);
+          sizes = ap (λ (g : GearState). g.sizes) r.holds.gears ∙ r.one.gears ∙ sym (kept.sizes tt);
           gears = at.holds.gears ∙ sym (kept.gears tt);
           book = ap (λ (x : BookState). stopped_in (Faulted f) x) at.holds.book ∙ sym stops;
           charge_is = (tests_agree_with_lists (with_debts_forgiven seat old) tree (forgive seat m) before.bytes (with_forgiven r.numbers seat) at (sound_forgiven m seat r.goes.paced.stands.sound) (forgiving_has_pace seat old r.numbers r.has)).charge_is
@@ -205,7 +206,7 @@ failed_payment_step opening seat f plan old forgiven failed b m before after tre
           stopped = λ some. record {
             reads = shows after.bytes leaves.stands.reads;
             each = λ c here. shows c (leaves.stands.each c here);
-            commits = one_commits m.gears.sizes forgiven.runs.sizes m.catalogue.version tree after (ap (λ (g : GearState). g.sizes) r.holds.gears ∙ r.one ∙ sym (ap (λ (h : Held). h.runs.sizes) fails.plans.is))
+            commits = one_commits m.gears.sizes forgiven.runs.sizes m.catalogue.version tree after (ap (λ (g : GearState). g.sizes) r.holds.gears ∙ r.one.gears ∙ sym (ap (λ (h : Held). h.runs.sizes) fails.plans.is))
                 (version_of old tree m old.log.a.entries before.bytes r.over.are_of r.holds) leaves.stands;
           };
         }

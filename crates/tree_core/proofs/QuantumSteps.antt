@@ -21,6 +21,7 @@ use Rattle.seat_book.specs.State.{BookState}
 use Rattle.tree_file.specs.Tree.{Tree, HoldsTree}
 use Rattle.tree_runs.specs.Holding.{StandOver}
 use Rattle.core_moves.specs.declared.held.Held.{Held}
+use Rattle.core_moves.specs.Held.{IsOne}
 use Rattle.core_pace.specs.Pacing.{HasPace}
 use Rattle.core_lists.specs.Standing.{HoldsMachine}
 use Rattle.core_lists.specs.Shown.{ShowsHistory, ShowsWhole}
@@ -44,13 +45,13 @@ pub record RunsAt (opening : List (Key × Value)) (held : Held) (m : Machine) (d
   pub goes : GoesOn opening m fronts tree
   pub numbers : Pace
   pub has : HasPace held numbers
-  pub one : held.gears.sizes ≡ held.runs.sizes
+  pub one : IsOne held
   pub ran : held.book.stopped ≡ None
 
 pub stands_running : (opening : List (Key × Value)) (held : Held) (m : Machine) (d : DiskState) (tree : Tree) → RunsAt opening held m d tree → StandsFor AnyRows opening held m d
 stands_running opening held m d tree r = record {
   paced = r.goes.paced;
-  sizes = ap (λ (g : GearState). g.sizes) r.holds.gears ∙ r.one;
+  sizes = ap (λ (g : GearState). g.sizes) r.holds.gears ∙ r.one.gears;
   gears = r.holds.gears;
   book = r.holds.book;
   charge_is = (tests_agree_with_lists held tree m d.bytes r.numbers (record { are_of = r.over.are_of; holds = r.holds }) r.goes.paced.stands.sound r.has).charge_is;
@@ -61,7 +62,7 @@ stands_running opening held m d tree r = record {
 
 -- and back
 pub running_at : (opening : List (Key × Value)) (held : Held) (m : Machine) (d : DiskState) (numbers : Pace) (stands : StandsFor AnyRows opening held m d) (ran : held.book.stopped ≡ None) → HasPace held numbers
-    → held.gears.sizes ≡ held.runs.sizes → RunsAt opening held m d (stands.runs ran).tree
+    → IsOne held → RunsAt opening held m d (stands.runs ran).tree
 running_at opening held m d numbers stands ran has one =
     let r = stands.runs ran in
     record {
@@ -86,7 +87,7 @@ steady_at opening held m d tree r =
 -- a file that holds its tree shows the whole history
 pub shows_at : (opening : List (Key × Value)) (held : Held) (m : Machine) (d : DiskState) (tree : Tree) (file : List ℕ) → RunsAt opening held m d tree → HoldsTree held.runs.sizes tree file → ShowsWhole opening m file
 shows_at opening held m d tree file r holds =
-    standing_shows opening m r.fronts tree file r.goes.paced r.goes.within r.holds.lists r.goes.lanes (subst (λ (s : Sizes). HoldsTree s tree file) (sym (ap (λ (g : GearState). g.sizes) r.holds.gears ∙ r.one)) holds)
+    standing_shows opening m r.fronts tree file r.goes.paced r.goes.within r.holds.lists r.goes.lanes (subst (λ (s : Sizes). HoldsTree s tree file) (sym (ap (λ (g : GearState). g.sizes) r.holds.gears ∙ r.one.gears)) holds)
 
 -- What each image shows of a history, it shows of the same one.
 pub leaves_same : (opening : List (Key × Value)) (m : Machine) (before after : DiskState) (entries : List Entry) (P : List ℕ → Type 0) → entries ≡ m.book.entries → ((c : List ℕ) → P c → ShowsWhole opening m c) → LeavesOnly before after P

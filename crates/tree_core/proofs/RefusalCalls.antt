@@ -117,14 +117,14 @@ module _ {D : Type 0} (state : D → DiskState) (seat : ℕ) (op : Op) (old : Co
     refused_kept found b tries finds is = subst (λ (x : BookState). Admits state seat op (ruling.Kept found) old (with_noted x)) (sym is)
         (refuses (ruling.Kept found) (λ pace. refl) refl (note_has_room old.held.book seat 0 op (Kept found) room (omega arith))
         (ran, tries.0, tries.1, tries.2, refl) tt asks tt (λ none. absurd none)
-        (λ opening m honest s ok. kept_steps opening seat op old.held m reads honest s ok fits ran found finds))
+        (λ opening m honest s ok. kept_steps opening seat op old.held m reads honest s ok fits ran (core.holds.live ran).paced.one found finds))
 
     pub refused_fault : (b : BookState) → Tries tried.Fault op old.held (state old.disk) (state disk) → b ≡ noted_in seat op Fault old.held.book →
         Admits state seat op ruling.ReadFault old (with_noted b)
     refused_fault b tries is = subst (λ (x : BookState). Admits state seat op ruling.ReadFault old (with_noted x)) (sym is)
         (refuses ruling.ReadFault (λ pace. refl) refl (note_has_room old.held.book seat 0 op Fault room (omega arith)) (ran, first, tries.0, refl) tt
         asks tt (λ none. absurd none)
-        (λ opening m honest s ok. fault_steps opening seat op old.held m reads honest s ok fits ran first tries.0 tries.1))
+        (λ opening m honest s ok. fault_steps opening seat op old.held m reads honest s ok fits ran (core.holds.live ran).paced.one first tries.0 tries.1))
 
     pub refused_damaged : (page : ℕ) (b : BookState) → Tries (tried.Damaged page) op old.held (state old.disk) (state disk) → FindsOver
         (tried.Damaged page) op old.held (state old.disk) → b ≡ noted_in seat op (Damaged page) old.held.book
@@ -132,9 +132,9 @@ module _ {D : Type 0} (state : D → DiskState) (seat : ℕ) (op : Op) (old : Co
     refused_damaged page b tries finds is = subst (λ (x : BookState). Admits state seat op (ruling.Damaged page) old (with_noted x)) (sym is)
         (refuses (ruling.Damaged page) (λ pace. refl) refl (note_has_room old.held.book seat 0 op (Damaged page) room (omega arith))
         (ran, tries.0, tries.1, first, refl) tt asks tt (λ none. absurd none)
-        (λ opening m honest s ok. absurd (none_damaged opening seat op old.held m reads honest s ok fits ran page finds)))
+        (λ opening m honest s ok. absurd (none_damaged opening seat op old.held m reads honest s ok fits ran (core.holds.live ran).paced.one page finds)))
 
   -- or its condition holds
   pub passes : old.held.book.stopped ≡ None → Tries tried.Met op old.held (state old.disk) (state disk) → FindsOver tried.Met op old.held
       (state old.disk) → LooksFirst state seat op None old (record { disk = disk; held = old.held; holds = old.holds })
-  passes ran tries finds = (refl, tries.0, tries.1, asks, λ opening m honest s. met_behind opening op old.held m reads honest s ran finds)
+  passes ran tries finds = (refl, tries.0, tries.1, asks, λ opening m honest s. met_behind opening op old.held m reads honest s ran (core.holds.live ran).paced.one finds)

@@ -26,6 +26,7 @@ use Rattle.tree_machine.specs.declared.step.Kind.TheVariants as kind
 use Rattle.tree_machine.proofs.LookLemmas.{look_failed, looked_admits, unmet_kept}
 use Rattle.tree_file.specs.Tree.{Tree, HoldsTree}
 use Rattle.core_moves.specs.declared.held.Held.{Held}
+use Rattle.core_moves.specs.Held.{IsOne}
 use Rattle.core_moves.specs.Moves.{with_book}
 use Rattle.core_lists.proofs.LookupLemmas.{lookup_is_the_machines}
 use Rattle.core_lists.proofs.ShowingLemmas.{quiet_entry_counts_none}
@@ -83,7 +84,7 @@ module _ {end most : ℕ} {d d2 : DiskState} (opening : List (Key × Value)) (se
       (ap (λ (o : Option Why). unless_stopped o seat op m (unless_refused (refused_first m op Well) seat op m (admit_met m seat op Well)))
       (stop_is ∙ stop)) tt refl refl refl
 
-  module _ (ran : held.book.stopped ≡ None) where
+  module _ (ran : held.book.stopped ≡ None) (one : IsOne held) where
     runs : m.stopped ≡ None
     runs = stop_is ∙ ran
 
@@ -91,7 +92,7 @@ module _ {end most : ℕ} {d d2 : DiskState} (opening : List (Key × Value)) (se
     over = s.runs ran
 
     same : (key : Key) → found_in key held over.tree ≡ value_in m.lists key
-    same key = lookup_is_the_machines held over.tree m d.bytes key (record { are_of = over.over.are_of; holds = over.holds })
+    same key = lookup_is_the_machines held over.tree m d.bytes key one (record { are_of = over.over.are_of; holds = over.holds })
 
     found : (result : Tried) → FindsOver result op held d → Finds result op (λ key. found_in key held over.tree)
     found result finds = finds over.tree honest over.over.stands.reads over.over.are_of.catalogue over.over.are_of.guided
@@ -123,11 +124,11 @@ module _ {end most : ℕ} {d d2 : DiskState} (opening : List (Key × Value)) (se
 -- Or its condition holds, as it stands behind the reads.
 pub met_behind : {end most : ℕ} {d d2 : DiskState} (opening : List (Key × Value)) (op : Op) (held : Held) (m : Machine) → OnlyReads end most d d2 →
     IsTrue d2.is_honest → StandsFor AnyRows opening held m d2
-    → held.book.stopped ≡ None → FindsOver tried.Met op held d → is_met op (value_in m.lists) ≡ true
-met_behind {end} {most} {d} {d2} opening op held m reads honest s ran finds =
+    → held.book.stopped ≡ None → IsOne held → FindsOver tried.Met op held d → is_met op (value_in m.lists) ≡ true
+met_behind {end} {most} {d} {d2} opening op held m reads honest s ran one finds =
     let before : IsTrue d.is_honest = subst IsTrue reads.effect.goes_on.is_honest honest in
     let over : RunsOver held m d2 = s.runs ran in
     sym (met_same op (λ key. found_in key held over.tree) (value_in m.lists)
-    (λ key. lookup_is_the_machines held over.tree m d2.bytes key (record { are_of = over.over.are_of; holds = over.holds })))
+    (λ key. lookup_is_the_machines held over.tree m d2.bytes key one (record { are_of = over.over.are_of; holds = over.holds })))
     ∙ finds over.tree before (subst (λ (file : List ℕ). HoldsTree held.runs.sizes over.tree file) (reads.same.same.bytes before)
     over.over.stands.reads) over.over.are_of.catalogue over.over.are_of.guided

@@ -1,7 +1,5 @@
 -- What the images show of a write that is taken, on an honest disk.
 use Rattle.std.specs.Prelude.{false, is_ok, is_err, OnOk, Result}
-use Rattle.std.proofs.lemmas.Grind.{common_steps}
-use Rattle.std.proofs.lemmas.Bool.Decides.{nat_tests}
 use Rattle.std.proofs.Common.{◌≡◌, ◌∙◌, ◌⊎◌, inl, inr, ⊎_elim, ℕ, ◌+◌, ◌≤◌, Bool, true, None, IsTrue, List, [], ◌∷◌, length, refl, ap, sym, subst, arith}
 use Rattle.blsm_model.specs.Sizes.{Sizes}
 use Rattle.blsm_model.specs.declared.key.Key.{Key}
@@ -22,6 +20,7 @@ use Rattle.disk_trait.proofs.MomentLemmas.{leaves_only_run, leaves_only_weaken}
 use Rattle.record_delta.specs.declared.record.Rec.{Rec}
 use Rattle.record_delta.specs.Records.{record_of}
 use Rattle.record_delta.specs.Entries.{Entries}
+use Rattle.gear_sched.specs.Gears.{GearState}
 use Rattle.pacing.specs.Pace.{Pace}
 use Rattle.pacing.specs.Fronts.{Fronts}
 use Rattle.pacing.specs.Steps.{deep_settled, ready_for as pace_ready_for}
@@ -102,7 +101,12 @@ one_tree sizes tree next image same either = ⊎_elim (λ holds. holds) (λ hold
 
 -- the core stands at this state of the machine
 pub tells_of : (held : Held) (tree : Tree) (m : Machine) (file : List ℕ) (numbers : Pace) → IsAt held tree m file → IsSound m → HasPace held numbers → held.gears.sizes ≡ held.runs.sizes → TellsOf held m
-tells_of held tree m file numbers at sound has one = grind (arith, common_steps, nat_tests)
+tells_of held tree m file numbers at sound has one = record {
+  sizes = ap (λ (g : GearState). g.sizes) at.holds.gears ∙ one;
+  gears = at.holds.gears;
+  book = at.holds.book;
+  charge_is = (tests_agree_with_lists held tree m file numbers at sound has).charge_is;
+}
 
 module _ (opening : List (Key × Value)) (old : Held) (m : Machine) (d : DiskState) (is : Begins opening old m d) where
   abbrev tree : Tree
@@ -120,7 +124,7 @@ module _ (opening : List (Key × Value)) (old : Held) (m : Machine) (d : DiskSta
     paced = is.stands.paced;
     numbers = is.numbers;
     has = is.paced.numbers;
-    one = is.paced.one.gears;
+    one = is.paced.one;
     within = (is.stands.runs is.runs).within;
     lanes = (is.stands.runs is.runs).lanes;
   }
@@ -196,7 +200,7 @@ module _ (opening : List (Key × Value)) (old : Held) (m : Machine) (d : DiskSta
         at = deep_settling_lands old settled first middle m is.numbers d.bytes mid.bytes start.at is.stands.paced.stands.sound is.paced.numbers has.deep moves over_middle.are_of;
         numbers = deep_settled is.numbers;
         has = between.numbers;
-        one = between.one.gears;
+        one = between.one;
       }
 
   sizes_here : m.gears.sizes ≡ settled.runs.sizes
@@ -296,7 +300,7 @@ module _ (opening : List (Key × Value)) (old : Held) (m : Machine) (d : DiskSta
       (subst (λ (h : Held). AreOf h.runs next ready.log.a.entries last.bytes) then.is_begun (then.lists next ready.log.a.entries last.bytes over_next.are_of))
 
   readied : IsReadied w settled ready two next m mid.bytes last.bytes
-  readied = readying_lands w old settled ready one two next m is.numbers (deep_settled is.numbers) d.bytes mid.bytes last.bytes start.at is.stands.paced.stands.sound (has_way opening m is.stands.paced) is.paced.one.gears is.paced.numbers
+  readied = readying_lands w old settled ready one two next m is.numbers (deep_settled is.numbers) d.bytes mid.bytes last.bytes start.at is.stands.paced.stands.sound (has_way opening m is.stands.paced) is.paced.one is.paced.numbers
       (between opening old m d is settled mid has).numbers
       (record {
         deep = has.deep;

@@ -131,7 +131,7 @@ turning_goes state w seat mv made faults old disk moved ended b none can t =
     (λ opening m honest s ok.
     let ran = t.ends.turns.ran in
     let k = (t.core.holds.live ran).paced in
-    let r = running_at opening old.held m before t.core.pace s ran k.numbers k.one.gears in
+    let r = running_at opening old.held m before t.core.pace s ran k.numbers k.one in
     let tree = (s.runs ran).tree in
     let left = t.lists tree honest r.over in
     turn_step w opening seat mv made faults old.held moved ended b m t.core.pace tree before after t.ends t.core.holds t.counted

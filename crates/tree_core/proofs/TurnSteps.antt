@@ -183,7 +183,7 @@ machine_runs : (opening : List (Key × Value)) (old : Held) (m : Machine) (d : D
 machine_runs opening old m d tree r = ap (λ (b : BookState). b.stopped) r.holds.book ∙ r.ran
 
 same_sizes : (opening : List (Key × Value)) (old : Held) (m : Machine) (d : DiskState) (tree : Tree) → RunsAt opening old m d tree → m.gears.sizes ≡ old.runs.sizes
-same_sizes opening old m d tree r = ap (λ (g : GearState). g.sizes) r.holds.gears ∙ r.one
+same_sizes opening old m d tree r = ap (λ (g : GearState). g.sizes) r.holds.gears ∙ r.one.gears
 
 well_turn : (w : Bool) (opening : List (Key × Value)) (seat n : ℕ) (old moved : Held) (m : Machine) (numbers : Pace) (tree : Tree) (before after : DiskState) (made : Result ℕ Broken) → made ≡ Ok n → Turns w seat (move_in w old) old
     → TurnsBy (move_in w old) seat n old moved → IsPacedHeld (with_book (counted_by w seat (end_of_move (move_in w old)) (quanta_of_move (move_in w old)) moved.book) moved) numbers
@@ -193,7 +193,7 @@ well_turn w opening seat n old moved m numbers tree before after made made_is t 
     step_by opening seat (kind_of_turn w) (Turn (end_of_move mv)) new before after m Well (stepped_as m seat (kind_of_turn w) Well) refl
     (possible_well w m seat before.faults after.faults) refl
     (stands_running opening new (stepped_as m seat (kind_of_turn w) Well).state after o.next
-    (record { fronts = goes.0; over = left.2; holds = at.holds; goes = goes.1; numbers = numbers; has = k.numbers; one = k.one.gears; ran = counted_stops w seat (end_of_move mv) (quanta_of_move mv) moved.book ∙ kept.stopped ∙ t.ran }))
+    (record { fronts = goes.0; over = left.2; holds = at.holds; goes = goes.1; numbers = numbers; has = k.numbers; one = k.one; ran = counted_stops w seat (end_of_move mv) (quanta_of_move mv) moved.book ∙ kept.stopped ∙ t.ran }))
     (sym (well_answer w m seat (machine_runs opening old m before tree o.runs) o.opened ∙ ap (λ c. Turn (ended_as c)) (choices_agree w old tree m before.bytes steady) ∙ ap (λ e. Turn e) (sym (same_end mv))))
     (leaves_same opening m before after (stepped_as m seat (kind_of_turn w) Well).state.book.entries (HoldsEither old.runs.sizes tree o.next)
     (ap (λ (x : BookState). x.book.entries) at.holds.book ∙ ap (λ (x : Book). x.entries) (counted_book w seat (end_of_move mv) (quanta_of_move mv) moved.book ∙ kept.entries) ∙ sym (ap (λ (x : BookState). x.book.entries) o.runs.holds.book))

@@ -11,7 +11,7 @@ use Rattle.blsm_model.specs.Lanes.{a_of, b_of, AreRoles}
 use Rattle.blsm_model.specs.declared.key.Key.{Key}
 use Rattle.record_delta.specs.declared.record.Rec.{Rec}
 use Rattle.record_delta.specs.Records.{weight}
-use Rattle.record_delta.specs.Entries.{Entries, entries_weight, with_record}
+use Rattle.record_delta.specs.Entries.{Entries, entries_weight, is_above, replayed, with_record}
 use Rattle.entry_codec.specs.Spelling.{spelling}
 use Rattle.entry_codec.proofs.SpellingLemmas.{length-spelling}
 use Rattle.mem_table.specs.Tables.{Contents}
@@ -23,7 +23,8 @@ use Rattle.tree_file.specs.Places.{StandsOn, Becomes}
 use Rattle.tree_file.proofs.ListLemmas.{lists_appended_a, lists_appended_b}
 use Rattle.tree_file.proofs.StandLemmas.{stands_appended_a, stands_appended_b}
 use Rattle.tree_machine.specs.Lists.{Lists}
-use Rattle.tree_log.specs.Log.{LogState, IsLogOf, appended, end_of_a, end_of_b, folded_into}
+use Rattle.tree_log.specs.Log.{LogState, IsLogOf, IsRestOf, appended, end_of_a, end_of_b, folded_into}
+use Rattle.tree_log.proofs.RestLemmas.{rest_grown}
 
 -- a lane is as long as its entries weigh, with a gate for each
 pub lane_ends : (entries : Entries) → length (blocks entries) ≡ entries_weight entries + length entries
@@ -61,9 +62,9 @@ becomes_b {done} {old} {new} log tree lane e here appends run honest timed is st
 
 pub is_of_a : {T E : Type 0} (result : Result T E) (key : Key) (rec : Rec) (old : LogState) (lane : ℕ) (table : Contents) (lanes : LanesState) → AreRoles old.lanes.roles → lane ≡ a_of old.lanes.roles
     → lanes ≡ (if is_ok result then moved old.lanes lane (weight key rec + 1) else old.lanes) → OnOk result (end_of lanes lane ≡ end_of old.lanes lane + (weight key rec + 1))
-    → table ≡ (if is_ok result then folded_into key rec old.a else old.a)
+    → is_above old.a.floor key ≡ true → table ≡ (if is_ok result then folded_into key rec old.a else old.a)
     → OnOk result ((tree : Tree) → IsLogOf tree old → IsLogOf (appended true (key, rec) tree) (record { a = table; b = old.b; lanes = lanes }))
-is_of_a (Ok value) key rec old lane table lanes roles here lanes_are ended table_is = λ tree is.
+is_of_a (Ok value) key rec old lane table lanes roles here lanes_are ended high table_is = λ tree is.
     let same : lanes.roles ≡ old.lanes.roles = ap (λ (l : LanesState). l.roles) lanes_are in
     let own : end_of lanes (a_of old.lanes.roles) ≡ end_of_a old + (weight key rec + 1) =
     subst (λ (n : ℕ). end_of lanes n ≡ end_of old.lanes n + (weight key rec + 1)) here ended in
@@ -74,10 +75,12 @@ is_of_a (Ok value) key rec old lane table lanes roles here lanes_are ended table
       roles = same ∙ is.roles;
       end_a = ap (λ (l : List ℕ). end_of lanes (a_of l)) same ∙ omega (arith, own, is.end_a, length-blocks-push tree.lane_a (key, rec));
       end_b = ap (λ (l : List ℕ). end_of lanes (b_of l)) same ∙ other ∙ is.end_b;
-      a = ap (λ (t : Contents). t.entries) table_is ∙ ap (λ (es : Entries). with_record key rec es) is.a ∙ sym (ap (λ (l : Lists). l.a) (lists_appended_a (key, rec) tree));
+      a = subst (λ (t : Contents). IsRestOf (replayed (appended true (key, rec) tree).lane_a) t) (sym table_is)
+          (subst (λ (es : Entries). IsRestOf es (folded_into key rec old.a)) (sym (ap (λ (l : Lists). l.a) (lists_appended_a (key, rec) tree)))
+          (rest_grown (replayed tree.lane_a) old.a key rec is.a high));
       b = is.b;
     }
-is_of_a (Err error) key rec old lane table lanes roles here lanes_are ended table_is = tt
+is_of_a (Err error) key rec old lane table lanes roles here lanes_are ended high table_is = tt
 
 pub is_of_b : {T E : Type 0} (result : Result T E) (key : Key) (rec : Rec) (old : LogState) (lane : ℕ) (table : Contents) (lanes : LanesState) → AreRoles old.lanes.roles → lane ≡ b_of old.lanes.roles
     → lanes ≡ (if is_ok result then moved old.lanes lane (weight key rec + 1) else old.lanes) → OnOk result (end_of lanes lane ≡ end_of old.lanes lane + (weight key rec + 1))

@@ -1,11 +1,11 @@
 -- The memory table of a tree, as contracts see it, and of which tree it is. Weights are in bytes.
-use Rattle.std.specs.Prelude.{◌≡◌, ℕ, ◌+◌, ◌<◌, ◌^◌, Bool, true, false, [], length, if◌then◌else◌}
+use Rattle.std.specs.Prelude.{◌≡◌, ⊤, ℕ, ◌+◌, ◌<◌, ◌^◌, Bool, true, false, IsTrue, [], None, length, if◌then◌else◌}
 use Rattle.blsm_model.specs.Lanes.{a_of, b_of, AreRoles}
 use Rattle.blsm_model.specs.declared.key.Key.{Key}
 use Rattle.record_delta.specs.declared.record.Rec.{Rec}
 use Rattle.record_delta.specs.Records.{weight}
-use Rattle.record_delta.specs.Entries.{entries_weight, replayed, with_record}
-use Rattle.mem_table.specs.Tables.{Contents, IsWhole, arrived_with, empty_table}
+use Rattle.record_delta.specs.Entries.{Entries, entries_weight, replayed, with_record, is_above, above, up_to}
+use Rattle.mem_table.specs.Tables.{Contents, IsWhole, arrived_with, empty_table, dropped_to}
 use Rattle.gated_log.specs.Lane.{blocks}
 use Rattle.gated_log.specs.Lanes.{LanesState, end_of, moved, turned}
 use Rattle.tree_machine.specs.Lists.{Lists}
@@ -19,11 +19,10 @@ pub record LogState : Type 0 where
   pub lanes : LanesState
 
 -- what holds of it always: three lanes have the three roles, the weight of both tables is a number of the program, and nothing was dropped
--- of them
+-- of table B
 pub record IsLog (log : LogState) : Type 0 where
   pub roles : AreRoles log.lanes.roles
   pub small : log.a.reserved + log.b.reserved < 2 ^ 64
-  pub whole_a : IsWhole log.a
   pub whole_b : IsWhole log.b
 
 -- ---- what is read off it
@@ -36,9 +35,17 @@ end_of_a log = end_of log.lanes (a_of log.lanes.roles)
 abbrev pub end_of_b : LogState → ℕ
 end_of_b log = end_of log.lanes (b_of log.lanes.roles)
 
--- the weight of the memory table
+-- the weight of table A's list: of what the table has, and of what was dropped
+abbrev pub listed_in_a : LogState → ℕ
+listed_in_a log = entries_weight log.a.entries + log.a.dropped
+
+-- the weight of the memory table, as its lists are
 abbrev pub weight_of_tables : LogState → ℕ
-weight_of_tables log = entries_weight log.a.entries + entries_weight log.b.entries
+weight_of_tables log = listed_in_a log + entries_weight log.b.entries
+
+-- how much of it is held in memory
+abbrev pub resident_in : LogState → ℕ
+resident_in log = entries_weight log.a.entries + entries_weight log.b.entries
 
 -- A write ahead of the pass goes to table A and its lane, one behind it to table B and its own.
 abbrev pub lane_for : Bool → LogState → ℕ
@@ -48,6 +55,16 @@ lane_for false log = b_of log.lanes.roles
 abbrev pub table_for : Bool → LogState → Contents
 table_for true log = log.a
 table_for false log = log.b
+
+-- what that table's list weighs
+abbrev pub listed_for : Bool → LogState → ℕ
+listed_for true log = listed_in_a log
+listed_for false log = entries_weight log.b.entries
+
+-- A key that goes to table A is above what was dropped of it. Of table B nothing was.
+abbrev pub IsAboveFloor : Bool → Key → LogState → Type 0
+IsAboveFloor true key log = IsTrue (is_above log.a.floor key)
+IsAboveFloor false key log = ⊤
 
 -- ---- what is made of it
 
@@ -60,9 +77,17 @@ abbrev pub with_entry : Bool → Key → Rec → LogState → LogState
 with_entry true key rec log = record log { a = folded_into key rec log.a; lanes = moved log.lanes (lane_for true log) (weight key rec + 1) }
 with_entry false key rec log = record log { b = folded_into key rec log.b; lanes = moved log.lanes (lane_for false log) (weight key rec + 1) }
 
--- table A is dropped, B is A, and B is empty; the lanes turn
+-- table A is dropped up to a key
+abbrev pub dropped_log : Key → LogState → LogState
+dropped_log key log = record log { a = dropped_to key log.a }
+
+-- as it is, with nothing dropped of it
+abbrev pub whole : Contents → Contents
+whole table = record table { floor = None; dropped = 0 }
+
+-- table A is cleared, B is A, of which nothing was dropped, and B is empty; the lanes turn
 abbrev pub turned_log : LogState → LogState
-turned_log log = record { a = log.b; b = empty_table log.a.reserved; lanes = turned log.lanes }
+turned_log log = record { a = whole log.b; b = empty_table log.a.reserved; lanes = turned log.lanes }
 
 -- An entry of this weight was appended: its lane is longer by it and its gate, and the other lane ends where it did.
 pub record Grows (ahead : Bool) (w : ℕ) (old new : LogState) : Type 0 where
@@ -76,12 +101,18 @@ pub record Turns (old new : LogState) : Type 0 where
 
 -- ---- whose it is
 
--- The log of this tree: the lanes have its roles, each ends behind its entries, and each table is what its lane replays to.
+-- The table has what is above its floor of a list, and counts the weight of the rest as dropped.
+pub record IsRestOf (list : Entries) (table : Contents) : Type 0 where
+  pub entries : table.entries ≡ above table.floor list
+  pub dropped : table.dropped ≡ entries_weight (up_to table.floor list)
+
+-- The log of this tree: the lanes have its roles, each ends behind its entries, table A is the rest of what its lane replays to, and table B
+-- all of it.
 pub record IsLogOf (tree : Tree) (log : LogState) : Type 0 where
   pub roles : log.lanes.roles ≡ tree.catalogue.lanes
   pub end_a : end_of_a log ≡ length (blocks tree.lane_a)
   pub end_b : end_of_b log ≡ length (blocks tree.lane_b)
-  pub a : log.a.entries ≡ replayed tree.lane_a
+  pub a : IsRestOf (replayed tree.lane_a) log.a
   pub b : log.b.entries ≡ replayed tree.lane_b
 
 -- the tree with one entry more in the one lane or the other
@@ -89,7 +120,7 @@ abbrev pub appended : Bool → Key × Rec → Tree → Tree
 appended true entry tree = appended_a entry tree
 appended false entry tree = appended_b entry tree
 
--- The machine's tables are these.
+-- The machine's tables are these: table A is the rest of its list.
 pub record AreTables (lists : Lists) (log : LogState) : Type 0 where
-  pub a : lists.a ≡ log.a.entries
+  pub a : IsRestOf lists.a log.a
   pub b : lists.b ≡ log.b.entries

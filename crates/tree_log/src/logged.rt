@@ -5,14 +5,15 @@ ghost use Rattle.disk_trait.specs.Effects.{Affects};
 ghost use Rattle.blsm_model.specs.Geometry.{file_length};
 ghost use Rattle.blsm_model.specs.Lanes.{region_length};
 ghost use Rattle.record_delta.specs.Records.{weight};
-ghost use Rattle.record_delta.specs.Entries.{entries_weight, over_any, record_of_key, with_record};
+ghost use Rattle.record_delta.specs.Entries.{entries_weight, is_above, over_any, record_of_key, with_record};
 ghost use Rattle.mem_table.specs.Tables.{IsWhole};
 ghost use Rattle.gated_write.specs.Ends.{EndsSynced};
 ghost use Rattle.gated_log.specs.Lane.{lane_region, Appends};
 ghost use Rattle.gated_log.specs.Lanes.{end_of, moved};
 ghost use Rattle.tree_file.specs.Tree.{Tree};
 ghost use Rattle.tree_file.specs.Places.{StandsOn, Becomes, TurnsRoles};
-ghost use Rattle.tree_log.specs.Log.{IsLogOf, Grows, Turns, appended, folded_into, lane_for, table_for, turned_log, weight_of_tables, with_entry};
+ghost use Rattle.tree_log.specs.Log.{IsAboveFloor, IsLogOf, Grows, Turns, appended, folded_into, lane_for, listed_for, listed_in_a};
+ghost use Rattle.tree_log.specs.Log.{dropped_log, resident_in, table_for, turned_log, weight_of_tables, with_entry};
 
 use blsm_model::Key;
 use disk_trait::Disk;
@@ -51,8 +52,8 @@ fn append_to<D: Disk>(
 ) -> Result<(), Failed>
     requires lane { lane < 3 }
     requires fits { end_of lanes.old lane + 1 + weight key.now rec.now + 1 ≤ region_length lanes.old.sizes }
-    requires whole { IsWhole table.old }
-    requires room { entries_weight (with_record key.now rec.now table.old.entries) ≤ table.old.reserved }
+    requires above { IsTrue (is_above table.old.floor key.now) }
+    requires room { entries_weight (with_record key.now rec.now table.old.entries) + table.old.dropped ≤ table.old.reserved }
     requires length { IsTrue (D.state disk.old).tells_bytes → length (D.state disk.old).bytes ≡ file_length lanes.old.sizes }
     ensures lanes { lanes.new ≡ (if is_ok result then moved lanes.old lane (weight key.now rec.now + 1) else lanes.old) }
     ensures ended { OnOk result (end_of lanes.new lane ≡ end_of lanes.old lane + (weight key.now rec.now + 1)) }
@@ -68,11 +69,11 @@ fn append_to<D: Disk>(
 }
 
 impl LoggedTables {
-    /// The memory table of two tables that were replayed from these lanes, A and B, of which nothing was dropped. What both may weigh together
+    /// The memory table of two tables that were replayed from these lanes, A and B; of B nothing was dropped. What both may weigh together
     /// is a 64-bit number.
     pub fn open(a: Table, b: Table, lanes: Lanes) -> LoggedTables
         requires small { a.reserved + b.reserved < 2 ^ 64 }
-        requires whole { IsWhole a × IsWhole b }
+        requires whole { IsWhole b }
         ensures { result ≡ record { a = a; b = b; lanes = lanes } }
     {
         // The lanes have their roles.
@@ -101,30 +102,37 @@ impl LoggedTables {
         &self.lanes
     }
 
-    /// The weight of both tables, in bytes.
+    /// The weight of both tables, in bytes, with what was dropped of A.
     pub fn weight(&self) -> u64
         ensures weight { result ≡ weight_of_tables self.now }
         ensures fits { result ≤ self.now.a.reserved + self.now.b.reserved }
     {
+        self.weight_of_a() + self.b.weight()
+    }
+
+    /// The weight of table A, in bytes, with what was dropped of it.
+    pub fn weight_of_a(&self) -> u64
+        ensures weight { result ≡ listed_in_a self.now }
+        ensures fits { result ≤ self.now.a.reserved }
+    {
+        self.a.weight() + self.a.dropped()
+    }
+
+    /// How much of both tables is held in memory, in bytes of weight.
+    pub fn resident(&self) -> u64
+        ensures { result ≡ resident_in self.now }
+    {
         self.a.weight() + self.b.weight()
     }
 
-    /// The weight of table A, in bytes.
-    pub fn weight_of_a(&self) -> u64
-        ensures weight { result ≡ entries_weight self.now.a.entries }
-        ensures fits { result ≤ self.now.a.reserved }
-    {
-        self.a.weight()
-    }
-
-    /// Whether neither table has an entry.
+    /// Whether neither table has an entry, and nothing was dropped of A.
     pub fn is_empty(&self) -> bool
         ensures { IsTrue result ↔ (weight_of_tables self.now ≡ 0) }
     {
         self.weight() == 0
     }
 
-    /// The record of a key, if it has one: table B's over table A's.
+    /// The record of a key, if it has one: table B's over table A's. What was dropped of A isn't looked at.
     pub fn get(&self, key: &Key) -> Option<Rec>
         ensures { result ≡ over_any (record_of_key key.now self.now.b.entries) (record_of_key key.now self.now.a.entries) }
     {
@@ -138,7 +146,8 @@ impl LoggedTables {
         }
     }
 
-    /// Takes a write: ahead of the pass to lane A and then to table A, else to lane B and then to table B.
+    /// Takes a write: ahead of the pass to lane A and then to table A, else to lane B and then to table B. What goes to table A is above what
+    /// was dropped of it.
     ///
     /// After an `Err`, whose cause is a fault of the disk, the tables are as they were, and nobody knows whether the lane has the entry: the
     /// disk is to be opened again.
@@ -151,7 +160,8 @@ impl LoggedTables {
         rec: &Rec,
     ) -> Result<(), Failed>
         requires fits { end_of self.old.lanes (lane_for ahead self.old) + 1 + weight key.now rec.now + 1 ≤ region_length self.old.lanes.sizes }
-        requires room { entries_weight (with_record key.now rec.now (table_for ahead self.old).entries) ≤ (table_for ahead self.old).reserved }
+        requires above { IsAboveFloor ahead key.now self.old }
+        requires room { listed_for ahead (with_entry ahead key.now rec.now self.old) ≤ (table_for ahead self.old).reserved }
         requires length { IsTrue (D.state disk.old).tells_bytes → length (D.state disk.old).bytes ≡ file_length self.old.lanes.sizes }
 
         ensures log { self.new ≡ (if is_ok result then with_entry ahead key.now rec.now self.old else self.old) }
@@ -177,7 +187,15 @@ impl LoggedTables {
         }
     }
 
-    /// The pass was swapped in: table A is dropped, B becomes A, and B is empty. The lanes (A, B, spare) turn into (B, spare, A); the spare
+    /// Drops table A up to a key, which is on a finished page of the pass's run. The lane keeps all. It calls no device and takes no memory.
+    pub fn drop_to(&mut self, key: &Key)
+        ensures log { self.new ≡ dropped_log key.now self.old }
+        ensures is_of { (tree : Tree) → IsLogOf tree self.old → IsLogOf tree self.new }
+    {
+        self.a.drop_to(key);
+    }
+
+    /// The pass was swapped in: table A is cleared, B becomes A, and B is empty. The lanes (A, B, spare) turn into (B, spare, A); the spare
     /// region's first gate must be closed on the disk. It calls no device and takes no memory.
     pub fn turn(&mut self)
         ensures log { self.new ≡ turned_log self.old }

@@ -35,8 +35,9 @@ use Rattle.blsm_model.specs.Geometry.{c1_mark, capacity}
 use Rattle.deep_merge.specs.Merge.{DeepState}
 use Rattle.tree_runs.specs.Runs.{RunsState, left_for_deep}
 use Rattle.tree_settling.specs.Settling.{components_of}
+use Rattle.mem_table.specs.Tables.{IsWhole}
 use Rattle.record_delta.specs.Entries.{entries_weight}
-use Rattle.tree_log.specs.Log.{LogState, weight_of_tables}
+use Rattle.tree_log.specs.Log.{LogState, listed_in_a, weight_of_tables}
 use Rattle.tree_settling.specs.Counting.{
   CountsPass,
   CountsQuanta,
@@ -205,7 +206,7 @@ pass_counted old new log counts =
     omega (
       arith,
       counted_within counts,
-      pass_small old.sizes (weight_of_tables log) (old.catalogue.c1.weight + entries_weight log.a.entries)
+      pass_small old.sizes (weight_of_tables log) (old.catalogue.c1.weight + listed_in_a log)
           (components_of old.catalogue + weight_of_tables log),
     )
 
@@ -223,29 +224,29 @@ capacity_small sizes fits =
 pub settling_counts : {q q' q'' : ℕ} (old one two new : RunsState) (log next : LogState) → one.sizes ≡ old.sizes → two.sizes ≡ one.sizes
     → components_of one.catalogue + weight_of_tables log ≤ components_of old.catalogue + weight_of_tables log
     → components_of two.catalogue + weight_of_tables next ≤ components_of one.catalogue + weight_of_tables log
-    → one.catalogue.c1.weight ≡ old.catalogue.c1.weight → two.catalogue.c1.weight ≤ one.catalogue.c1.weight + entries_weight log.a.entries
-    → next.a.entries ≡ log.b.entries → next.b.entries ≡ []
+    → one.catalogue.c1.weight ≡ old.catalogue.c1.weight → two.catalogue.c1.weight ≤ one.catalogue.c1.weight + listed_in_a log
+    → IsWhole next.a → next.a.entries ≡ log.b.entries → next.b.entries ≡ []
     → CountsQuanta 1 (left_for_deep old.deep) (where_so (is_some old.deep) (old.catalogue.c1x.weight + old.catalogue.c2.weight)) old one q
     → CountsPass one log two q' → CountsPass two next new q''
-    → CountsQuanta (1 + most_merges (entries_weight log.a.entries) (entries_weight log.b.entries)) (settling_least old log) (settling_due old log)
+    → CountsQuanta (1 + most_merges (listed_in_a log) (entries_weight log.b.entries)) (settling_least old log) (settling_due old log)
     old new (q + (q' + q''))
-settling_counts old one two new log next same same' light light' c1 c1' a b deep first second =
-    let wa : entries_weight next.a.entries ≡ entries_weight log.b.entries = ap entries_weight a in
+settling_counts old one two new log next same same' light light' c1 c1' whole a b deep first second =
+    let wa : listed_in_a next ≡ entries_weight log.b.entries = omega (arith, ap entries_weight a, whole.1) in
     let wb : entries_weight next.b.entries ≡ 0 = ap entries_weight b in
     let tables : weight_of_tables next ≤ entries_weight log.b.entries = omega (arith, wa, wb) in
     let all = components_of old.catalogue + weight_of_tables log in
     let due_first = where_more (weight_of_tables log) (weight_of_tables log) _ _ (omega arith)
-    (pass_as_more one.sizes old.sizes (one.catalogue.c1.weight + entries_weight log.a.entries)
-    (old.catalogue.c1.weight + entries_weight log.a.entries) (components_of one.catalogue + weight_of_tables log) all same (omega (arith, c1))
+    (pass_as_more one.sizes old.sizes (one.catalogue.c1.weight + listed_in_a log)
+    (old.catalogue.c1.weight + listed_in_a log) (components_of one.catalogue + weight_of_tables log) all same (omega (arith, c1))
     light) in
     let due_second = where_more (weight_of_tables next) (entries_weight log.b.entries) _ _ tables
-    (pass_as_more two.sizes old.sizes (two.catalogue.c1.weight + entries_weight next.a.entries)
-    (old.catalogue.c1.weight + entries_weight log.a.entries + entries_weight log.b.entries) (components_of two.catalogue + weight_of_tables next)
+    (pass_as_more two.sizes old.sizes (two.catalogue.c1.weight + listed_in_a next)
+    (old.catalogue.c1.weight + listed_in_a log + entries_weight log.b.entries) (components_of two.catalogue + weight_of_tables next)
     all (same' ∙ same) (omega (arith, c1, c1', wa)) (omega (arith, light, light'))) in
     let merges = where_more (weight_of_tables next) (entries_weight log.b.entries) 2 2 tables (omega arith) in
-    let least_first = where_more (weight_of_tables log) (weight_of_tables log) (old.catalogue.c1.weight + entries_weight log.a.entries)
-    (one.catalogue.c1.weight + entries_weight log.a.entries) (omega arith) (omega (arith, c1)) in
-    let least_second = where_all (weight_of_tables next) (two.catalogue.c1.weight + entries_weight next.a.entries) (entries_weight log.b.entries)
+    let least_first = where_more (weight_of_tables log) (weight_of_tables log) (old.catalogue.c1.weight + listed_in_a log)
+    (one.catalogue.c1.weight + listed_in_a log) (omega arith) (omega (arith, c1)) in
+    let least_second = where_all (weight_of_tables next) (two.catalogue.c1.weight + listed_in_a next) (entries_weight log.b.entries)
     (omega (arith, wa)) (omega (arith, wa)) in
     counts_wider (omega (arith, merges)) (omega (arith, least_first, least_second)) (omega (arith, due_first, due_second))
     (counts_then same deep (counts_then same' first second))

@@ -115,6 +115,7 @@ module _ {done : Bool} {a : Contents} {runs mid new : RunsState} {log : LogState
           lanes = record may.begun.lanes { catalogue = new.catalogue };
           lanes_are = refl;
           log_of = log_keeps may.begun.lanes (record may.begun.lanes { catalogue = new.catalogue }) log (ap (λ (c : Catalog). c.lanes) catalogue ∙ ap (λ (c : Catalog). c.lanes) (sym may.begun.lanes_are)) refl refl may.begun.log_of;
+          whole_a = may.begun.whole_a;
           mark = omega (arith, ap (λ (c : Catalog). c.c1.weight) catalogue, ap c1_mark sizes, may.begun.mark);
           high = omega (arith, ap high_mark sizes, may.begun.high);
           full = omega (arith, deep_light may.begun.deep none swaps, ap capacity sizes, may.begun.full);

@@ -16,7 +16,8 @@ use Rattle.record_delta.specs.Folding.{over}
 use Rattle.disk_trait.specs.Disk.{DiskState}
 use Rattle.tree_runs.specs.Runs.{RunsState}
 use Rattle.tree_settling.specs.Settling.{IsSettled, SettlesOn}
-use Rattle.tree_log.specs.Log.{LogState, end_of_a, end_of_b, weight_of_tables}
+use Rattle.tree_log.specs.Log.{LogState, IsRestOf, end_of_a, end_of_b, weight_of_tables}
+use Rattle.tree_log.proofs.RestLemmas.{whole_list}
 
 pub empty_a : (log : LogState) → weight_of_tables log ≡ 0 → log.a.entries ≡ []
 empty_a log none = weightless log.a.entries (omega (arith, none))
@@ -51,12 +52,14 @@ is_settled old new log log' d e none on rests a b =
     let lanes = on.may.begun.lanes in
     let is_of = on.may.begun.log_of in
     let empty = a ∙ none in
+    let none_a : (lane : Entries) → IsRestOf (replayed lane) log'.a → lane ≡ [] =
+    λ lane rest. empty_lane log'.a.entries lane (whole_list (replayed lane) log'.a on.may.begun.whole_a rest) empty in
     record {
       pass = on.may.begun.pass;
       deep = rests;
       a = empty;
       b = b;
-      end_a = ends_at_none (end_of_a log') lanes.lane_a is_of.end_a (empty_lane log'.a.entries lanes.lane_a is_of.a empty);
+      end_a = ends_at_none (end_of_a log') lanes.lane_a is_of.end_a (none_a lanes.lane_a is_of.a);
       end_b = ends_at_none (end_of_b log') lanes.lane_b is_of.end_b (empty_lane log'.b.entries lanes.lane_b is_of.b b);
-      lanes = λ tree is. (empty_lane log'.a.entries tree.lane_a is.a empty, empty_lane log'.b.entries tree.lane_b is.b b);
+      lanes = λ tree is. (none_a tree.lane_a is.a, empty_lane log'.b.entries tree.lane_b is.b b);
     }

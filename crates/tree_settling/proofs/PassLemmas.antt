@@ -16,7 +16,7 @@ use Rattle.blsm_model.specs.declared.key.Key.{Key}
 use Rattle.blsm_model.specs.declared.row.Value.{Value}
 use Rattle.catalog_swap.specs.declared.catalog.Catalog.{Catalog}
 use Rattle.deep_merge.specs.Merge.{DeepState, started as deep_started}
-use Rattle.mem_table.specs.Tables.{Contents}
+use Rattle.mem_table.specs.Tables.{Contents, IsWhole}
 use Rattle.page_file.specs.Component.{RunPage, entries_of}
 use Rattle.record_delta.specs.Entries.{Entries, entries_weight, folded_over, replayed}
 use Rattle.merge_ends.proofs.GroupLemmas.{above_none}
@@ -24,7 +24,8 @@ use Rattle.snow_merge.specs.Pass.{SnowState}
 use Rattle.snow_merge.proofs.PassLemmas.{above_light, pushed_all}
 use Rattle.tree_file.specs.Tree.{Tree, HoldsTree, FitsSizes}
 use Rattle.tree_file.specs.Places.{HoldsEither, StandsOn, TurnsRoles}
-use Rattle.tree_log.specs.Log.{LogState, IsLogOf, turned_log, weight_of_tables}
+use Rattle.tree_log.specs.Log.{LogState, IsLogOf, listed_in_a, turned_log, weight_of_tables}
+use Rattle.tree_log.proofs.RestLemmas.{whole_list}
 use Rattle.tree_runs.specs.Runs.{GuideState, RunsState, AreRunning, Fits, guide_at, left_for_deep, left_for_pass, made_by_deep, made_by_pass, pass_begun}
 use Rattle.tree_runs.specs.Holding.{AreOf, IsDeepOver, IsPassOver, IsPassSwapped, LeavesSwapped, StandOver, SwapsPass, is_full, with_pass_run}
 use Rattle.tree_settling.specs.Counting.{CountsQuanta, HasPassed, TakeQuanta}
@@ -125,6 +126,7 @@ next_marks sizes tag made now deep rests runs = grind (arith, common_steps, nat_
 pub record IsPassSwap (done : Bool) (memory : ℕ) (a : Contents) (runs begun mid new : RunsState) (log : LogState) (before d after : DiskState) : Type 0 where
   pub timed : IsTimed d
   pub table : a ≡ log.a
+  pub whole : IsWhole log.a
   pub rests : runs.deep ≡ None
   pub begins : begun ≡ pass_begun memory runs
   pub begun_lists : (tree : Tree) (a : Entries) (file : List ℕ) → AreOf runs tree a file → AreOf begun tree a file
@@ -161,7 +163,8 @@ module _ {done : Bool} {memory : ℕ} {a : Contents} {runs begun mid new : RunsS
   next_of pairs honest shows =
       let over = over_mid pairs honest shows in
       let x = swap.lists shows.tree (honest_still swap.goes.effect honest) over in
-      let table : a.entries ≡ replayed shows.tree.lane_a = ap (λ (t : Contents). t.entries) swap.table ∙ shows.log_of.a in
+      let table : a.entries ≡ replayed shows.tree.lane_a = ap (λ (t : Contents). t.entries) swap.table
+      ∙ whole_list (replayed shows.tree.lane_a) log.a swap.whole shows.log_of.a in
       let swapped = subst (λ (es : Entries). IsPassSwapped (is_full mid.sizes (made_by_pass mid.pass)) es shows.tree x.0) table x.1 in
       let weighs : entries_weight (folded_over (replayed shows.tree.lane_a) (entries_of shows.tree.c1)) ≡ (made_by_pass mid.pass).weight =
       ap (λ (es : Entries). entries_weight (folded_over es (entries_of shows.tree.c1))) (sym table) ∙ pass_weighs mid.sizes mid (guide_at mid.guides mid.tags.pass) mid.pass a.entries shows.tree.c1 d.bytes swap.some swap.none over.are_of.pass in
@@ -222,7 +225,7 @@ module _ {done : Bool} {memory : ℕ} {a : Contents} {runs begun mid new : RunsS
   made_light : (made_by_pass mid.pass).weight ≤ left_for_pass begun.pass a.entries
   made_light = omega (arith, swap.goes.pass, swap.none, begun_empty memory runs begun swap.begins)
 
-  left_within : left_for_pass begun.pass a.entries ≤ runs.catalogue.c1.weight + entries_weight log.a.entries
+  left_within : left_for_pass begun.pass a.entries ≤ runs.catalogue.c1.weight + listed_in_a log
   left_within = omega (arith, begun_light memory runs begun a.entries swap.begins, ap (λ (t : Contents). entries_weight t.entries) swap.table)
 
   -- its run weighs no more than table A and C1, which give place to it
@@ -257,6 +260,7 @@ module _ {done : Bool} {memory : ℕ} {a : Contents} {runs begun mid new : RunsS
               turns may.begun.lanes next
               (ap (λ (k : Catalog). k.lanes) catalogue ∙ ap (λ (k : Catalog). b_of k.lanes ∷ spare_of k.lanes ∷ a_of k.lanes ∷ []) (sym may.begun.lanes_are))
               refl refl may.begun.log_of;
+          whole_a = subst (λ (l : LogState). IsWhole l.a) (sym turned) (refl, refl);
           mark =
               omega (
                 arith,
@@ -279,11 +283,11 @@ module _ {done : Bool} {memory : ℕ} {a : Contents} {runs begun mid new : RunsS
         };
       }
 
-  left_all : runs.catalogue.c1.weight + entries_weight log.a.entries ≤ left_for_pass begun.pass a.entries
-  left_all = omega (arith, begun_all memory runs begun a.entries swap.begins, ap (λ (t : Contents). entries_weight t.entries) swap.table)
+  left_all : runs.catalogue.c1.weight + listed_in_a log ≤ left_for_pass begun.pass a.entries
+  left_all = omega (arith, begun_all memory runs begun a.entries swap.begins, ap (λ (t : Contents). entries_weight t.entries) swap.table, swap.whole.1)
 
   pub pass_counts : SwapsPass mid new → (quanta : ℕ) → TakeQuanta begun.sizes 1 quanta (left_for_pass begun.pass a.entries)
-      → CountsQuanta 1 (runs.catalogue.c1.weight + entries_weight log.a.entries) (runs.catalogue.c1.weight + entries_weight log.a.entries) runs new
+      → CountsQuanta 1 (runs.catalogue.c1.weight + listed_in_a log) (runs.catalogue.c1.weight + listed_in_a log) runs new
       quanta
   pass_counts swaps quanta takes = record {
     taken = left_for_pass begun.pass a.entries;
@@ -299,7 +303,7 @@ module _ {done : Bool} {memory : ℕ} {a : Contents} {runs begun mid new : RunsS
         );
   }
 
-  pub pass_passed : SwapsPass mid new → HasPassed (runs.catalogue.c1.weight + entries_weight log.a.entries) runs.sizes new
+  pub pass_passed : SwapsPass mid new → HasPassed (runs.catalogue.c1.weight + listed_in_a log) runs.sizes new
   pass_passed swaps = record {
     c1 =
         omega (

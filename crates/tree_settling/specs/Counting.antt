@@ -4,7 +4,7 @@ use Rattle.blsm_model.specs.Format.{most_weight}
 use Rattle.blsm_model.specs.Geometry.{c1_mark}
 use Rattle.blsm_model.specs.Sizes.{Sizes}
 use Rattle.record_delta.specs.Entries.{entries_weight}
-use Rattle.tree_log.specs.Log.{LogState, weight_of_tables}
+use Rattle.tree_log.specs.Log.{LogState, listed_in_a, weight_of_tables}
 use Rattle.tree_runs.specs.Runs.{RunsState, left_for_deep}
 use Rattle.tree_settling.specs.Settling.{components_of}
 
@@ -53,13 +53,13 @@ most_merges a b = where_some (a + b) 2 + where_some b 2
 abbrev pub settling_due : RunsState → LogState → ℕ
 settling_due runs log =
     where_so (is_some runs.deep) (runs.catalogue.c1x.weight + runs.catalogue.c2.weight)
-    + passes_due runs.sizes runs.catalogue.c1.weight (entries_weight log.a.entries) (entries_weight log.b.entries)
+    + passes_due runs.sizes runs.catalogue.c1.weight (listed_in_a log) (entries_weight log.b.entries)
     (components_of runs.catalogue + weight_of_tables log)
 
 -- And at least: all that is left for the deep merge, C1 and table A where either table has an entry, and table B.
 abbrev pub settling_least : RunsState → LogState → ℕ
 settling_least runs log =
-    left_for_deep runs.deep + where_some (weight_of_tables log) (runs.catalogue.c1.weight + entries_weight log.a.entries) + entries_weight
+    left_for_deep runs.deep + where_some (weight_of_tables log) (runs.catalogue.c1.weight + listed_in_a log) + entries_weight
     log.b.entries
 
 -- The most quanta that take so much in five merges.
@@ -69,8 +69,8 @@ quanta_bound sizes due = due / sizes.quantum + 5
 -- What a pass counts, where either table has an entry, and the deep merge that follows.
 abbrev pub CountsPass : RunsState → LogState → RunsState → ℕ → Type 0
 CountsPass old log new = CountsQuanta (where_some (weight_of_tables log) 2)
-    (where_some (weight_of_tables log) (old.catalogue.c1.weight + entries_weight log.a.entries))
-    (where_some (weight_of_tables log) (pass_due old.sizes (old.catalogue.c1.weight + entries_weight log.a.entries)
+    (where_some (weight_of_tables log) (old.catalogue.c1.weight + listed_in_a log))
+    (where_some (weight_of_tables log) (pass_due old.sizes (old.catalogue.c1.weight + listed_in_a log)
     (components_of old.catalogue + weight_of_tables log)))
     old new
 

@@ -12,6 +12,7 @@ use Rattle.blsm_model.specs.declared.row.Value.{Value}
 use Rattle.catalog_swap.specs.declared.catalog.Catalog.{Catalog}
 use Rattle.page_file.specs.declared.file.Broken.{Broken}
 use Rattle.page_file.specs.declared.file.Broken.TheVariants.{Fault}
+use Rattle.mem_table.specs.Tables.{IsWhole}
 use Rattle.record_delta.specs.Entries.{Entries}
 use Rattle.tree_file.specs.Tree.{Tree, HoldsTree, FitsSizes, ReadsAsMap, map_of_tree}
 use Rattle.tree_file.specs.Places.{StandsOn}
@@ -91,7 +92,7 @@ abbrev pub IsDeepLight : RunsState → Type 0
 IsDeepLight runs = due_to_deep runs ≤ runs.catalogue.c1x.weight + runs.catalogue.c2.weight
 
 -- On any disk: components and a log that were read, or are being settled; no pass runs. C1 is below its mark, the tables are within the high mark
--- and all is within the capacity. The tables are what some lanes replay to, behind which they end.
+-- and all is within the capacity. The tables are what some lanes replay to, behind which they end; nothing was dropped of them.
 pub record HasBegun (runs : RunsState) (log : LogState) : Type 0 where
   pub pass : runs.pass ≡ None
   pub roles : AreRoles runs.catalogue.lanes
@@ -99,6 +100,7 @@ pub record HasBegun (runs : RunsState) (log : LogState) : Type 0 where
   pub lanes : Tree
   pub lanes_are : lanes.catalogue ≡ runs.catalogue
   pub log_of : IsLogOf lanes log
+  pub whole_a : IsWhole log.a
   pub mark : runs.catalogue.c1.weight < c1_mark runs.sizes
   pub high : weight_of_tables log ≤ high_mark runs.sizes
   pub full : components_of runs.catalogue + weight_of_tables log ≤ capacity runs.sizes

@@ -2,6 +2,7 @@
 ghost use Rattle.std.specs.Prelude.{◌≡◌, ◌+◌, ◌<◌, ◌≤◌, ◌^◌, [], None, is_some, IsSome, IfOk, OnOk};
 ghost use Rattle.blsm_model.specs.Sizes.{IsGeometry};
 ghost use Rattle.record_delta.specs.Entries.{entries_weight};
+ghost use Rattle.tree_log.specs.Log.{listed_in_a};
 ghost use Rattle.tree_runs.specs.Runs.{left_for_deep};
 ghost use Rattle.tree_settling.specs.Counting.{
   CountsPass,
@@ -68,9 +69,9 @@ fn finish_pass<D: Disk>(
     requires may { MaySettle runs.old log.old (D.state disk.old) }
     requires version { runs.old.catalogue.version + 1 < 2 ^ 64 }
     ensures step { Settles 1 runs.old runs.new log.old log.new result (D.state disk.old) (D.state disk.new) }
-    ensures counts { IfOk result (CountsQuanta 1 (runs.old.catalogue.c1.weight + entries_weight log.old.a.entries)
-        (runs.old.catalogue.c1.weight + entries_weight log.old.a.entries) runs.old runs.new) }
-    ensures passed { OnOk result (HasPassed (runs.old.catalogue.c1.weight + entries_weight log.old.a.entries) runs.old.sizes runs.new) }
+    ensures counts { IfOk result (CountsQuanta 1 (runs.old.catalogue.c1.weight + listed_in_a log.old)
+        (runs.old.catalogue.c1.weight + listed_in_a log.old) runs.old runs.new) }
+    ensures passed { OnOk result (HasPassed (runs.old.catalogue.c1.weight + listed_in_a log.old) runs.old.sizes runs.new) }
     ensures a { OnOk result (log.new.a.entries ≡ log.old.b.entries) }
     ensures b { OnOk result (log.new.b.entries ≡ []) }
 {
@@ -89,7 +90,7 @@ fn due_pass<D: Disk>(disk: &mut D, runs: &mut Runs, log: &mut LoggedTables) -> R
     requires version { runs.old.catalogue.version + 2 < 2 ^ 64 }
     ensures step { Settles 2 runs.old runs.new log.old log.new result (D.state disk.old) (D.state disk.new) }
     ensures counts { IfOk result (CountsPass runs.old log.old runs.new) }
-    ensures c1 { OnOk result (runs.new.catalogue.c1.weight ≤ runs.old.catalogue.c1.weight + entries_weight log.old.a.entries) }
+    ensures c1 { OnOk result (runs.new.catalogue.c1.weight ≤ runs.old.catalogue.c1.weight + listed_in_a log.old) }
     ensures done { OnOk result (runs.new.deep ≡ None) }
     ensures a { OnOk result (log.new.a.entries ≡ log.old.b.entries) }
     ensures b { OnOk result (log.new.b.entries ≡ []) }
@@ -116,7 +117,7 @@ pub fn settle<D: Disk>(disk: &mut D, runs: &mut Runs, log: &mut LoggedTables) ->
     ensures step { Settles 5 runs.old runs.new log.old log.new result (D.state disk.old) (D.state disk.new) }
 
     // On any disk:
-    ensures counts { IfOk result (CountsQuanta (1 + most_merges (entries_weight log.old.a.entries) (entries_weight log.old.b.entries))
+    ensures counts { IfOk result (CountsQuanta (1 + most_merges (listed_in_a log.old) (entries_weight log.old.b.entries))
         (settling_least runs.old log.old) (settling_due runs.old log.old) runs.old runs.new) }
     ensures settled { OnOk result (IsSettled runs.new log.new) }
 {

@@ -4,7 +4,7 @@ use Rattle.recover_open.proofs.BeginLemmas.{has_begun, begins_in}
 use Rattle.recover_open.proofs.beginning.begin.Goals as goal
 
 pub open-log-requires-clause-whole : goal.open-log-requires-clause-whole
-open-log-requires-clause-whole c = (c.requires.found.2.whole_a, c.requires.found.2.whole_b)
+open-log-requires-clause-whole c = c.requires.found.2.whole_b
 
 pub returns-clause-numbers : goal.returns-clause-numbers
 returns-clause-numbers c =
@@ -14,7 +14,7 @@ returns-clause-numbers c =
 
 pub returns-clause-lists : goal.returns-clause-lists
 returns-clause-lists c = λ file holds.
-    begins_in c.args.found c.args.found.guides file c.open-runs.result c.open-log.result c.requires.found.2.roles holds c.open-runs.ensures.opened
+    begins_in c.args.found c.args.found.guides file c.open-runs.result c.open-log.result c.requires.found.2.whole_a c.requires.found.2.roles holds c.open-runs.ensures.opened
     c.open-log.ensures c.open-runs.ensures.lists (holds.guided c.requires.guides)
 
 pub most_quanta-requires-clause-begun : goal.most_quanta-requires-clause-begun

@@ -18,7 +18,7 @@ settles : (g : _) (c : goal.After-settle_begun g)
 settles g c = record {
   sizes = ap (λ (r : RunsState). r.sizes) c.begin.ensures.runs;
   catalogue = ap (λ (r : RunsState). r.catalogue) c.begin.ensures.runs;
-  tables = ap weight_of_tables c.begin.ensures.log;
+  tables = omega (arith, ap weight_of_tables c.begin.ensures.log, c.requires.found.2.whole_a.1);
   begins = λ honest holds. c.begin.ensures.lists (g.D.Disk.state c.args.disk.now).bytes holds;
   leaves = c.settle_begun.ensures.leaves;
   on = c.settle_begun.ensures.on;
@@ -39,4 +39,4 @@ pub returns-clause-counts : goal.returns-clause-counts
 returns-clause-counts g c =
     let head = c.requires.found.2.head in
     counts_from c.settle_begun.result c.args.found c.begin.result (omega (arith, head.geometry.quantum)) head c.begin.ensures.runs
-    c.begin.ensures.log c.begin.ensures.bound c.settle_begun.ensures.counts
+    c.begin.ensures.log c.requires.found.2.whole_a.1 c.begin.ensures.bound c.settle_begun.ensures.counts

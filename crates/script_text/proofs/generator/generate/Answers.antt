@@ -1,4 +1,4 @@
-use Rattle.std.proofs.Common.{◌-◌, List, length, sym, subst, arith, length-append}
+use Rattle.std.proofs.Common.{◌-◌, List, length, refl, sym, subst, arith, length-append}
 use Rattle.blsm_model.specs.declared.history.Line.{Line}
 use Rattle.script_text.specs.Grammar.{AreLines}
 use Rattle.script_text.specs.Generated.{generated}
@@ -8,11 +8,11 @@ use Rattle.script_text.proofs.generator.generate.Goals as goal
 pub loop-generator-preserved : goal.loop-generator-preserved
 loop-generator-preserved c =
     let lines = c.loop-generator.lines.items in
-    let pushed = c.push_reserved.ensures.items in
+    let pushed = c.push_line.ensures.lines in
     record {
-      few = omega arith;
-      room = omega (arith, c.push_reserved.ensures.capacity, c.loop-generator.invariant.room);
-      whole = rw (pushed, c.make_line.ensures.state) (made_more lines (generated c.args.seed c.args.count) c.make_line.result c.loop-generator.generator.state _ (c.args.count - length lines) (omega (arith, length-append {A = Line})) c.make_line.ensures.line c.loop-generator.invariant.whole);
+      few = rw pushed (omega (arith, length-append {A = Line}));
+      room = omega (arith, c.push_line.ensures.capacity, c.loop-generator.invariant.room);
+      whole = rw (pushed, c.push_line.ensures.state) (made_more lines (generated c.args.seed c.args.count) _ c.loop-generator.generator.state _ (c.args.count - length lines) (omega (arith, length-append {A = Line})) refl c.loop-generator.invariant.whole);
     }
 
 pub from_lines-requires : goal.from_lines-requires

@@ -1,8 +1,7 @@
 use Rattle.std.proofs.Common.{◌≢◌, ◌∙◌, ◌+◌, ap, sym, arith}
 use Rattle.std.specs.Prelude.{is_some}
 use Rattle.blsm_model.specs.declared.component.Component.{Component}
-use Rattle.record_delta.specs.Entries.{entries_weight}
-use Rattle.tree_log.specs.Log.{weight_of_tables}
+use Rattle.tree_log.specs.Log.{listed_in_a, weight_of_tables}
 use Rattle.tree_settling.specs.Counting.{pass_due}
 use Rattle.tree_settling.specs.Settling.{components_of}
 use Rattle.tree_settling.proofs.CountLemmas.{
@@ -29,7 +28,7 @@ pub returns-then-is_empty-clause-counts : goal.returns-then-is_empty-clause-coun
 returns-then-is_empty-clause-counts g c =
     let now = c.args.runs.now in
     let none = c.is_empty.ensures.0 c.if-is_empty.true in
-    counts_none _ _ _ now (where_none (weight_of_tables c.args.log.now) (now.catalogue.c1.weight + entries_weight c.args.log.now.a.entries) none)
+    counts_none _ _ _ now (where_none (weight_of_tables c.args.log.now) (now.catalogue.c1.weight + listed_in_a c.args.log.now) none)
 
 pub returns-then-is_empty-clause-a : goal.returns-then-is_empty-clause-a
 returns-then-is_empty-clause-a g c =
@@ -71,7 +70,7 @@ returns-clause-counts g c =
     let mid = c.finish_pass.new.runs in
     let tables = weight_of_tables c.args.log.now in
     let all = components_of runs.catalogue + tables in
-    let before = runs.catalogue.c1.weight + entries_weight c.args.log.now.a.entries in
+    let before = runs.catalogue.c1.weight + listed_in_a c.args.log.now in
     let there : tables ≢ 0 = not_so c.is_empty.result c.if-is_empty.false c.is_empty.ensures in
     let due = deep_behind runs.sizes (is_some mid.deep) before (mid.catalogue.c1x.weight + mid.catalogue.c2.weight) all done.passed.deep
     (omega (arith, done.step.on.light)) in

@@ -61,6 +61,7 @@ swap : (g : _) (c : After-swap_pass g) → IsPassSwap (is_ok c.swap_pass.result)
 swap g c = record {
   timed = g.met.D.Disk.timed c.take_pass.new.disk;
   table = c.a-a.ensures;
+  whole = c.requires.may.begun.whole_a;
   rests = c.requires.rests;
   begins = c.begin_pass.ensures.begun;
   begun_lists = c.begin_pass.ensures.lists;

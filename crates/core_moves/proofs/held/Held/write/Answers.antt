@@ -1,5 +1,5 @@
 use Rattle.std.specs.Prelude.{◌≡◌, Bool, true, false, Option, Some, None, OnOk, is_ok, is_some}
-use Rattle.std.proofs.Common.{◌∙◌, refl, sym, subst, arith}
+use Rattle.std.proofs.Common.{◌∙◌, ap, refl, sym, subst, arith}
 use Rattle.std.proofs.lemmas.Bool.{false≢true}
 use Rattle.std.proofs.lemmas.Result.{err_from_is_err_and}
 use Rattle.std.specs.declared.result.Result.{Result}
@@ -17,12 +17,18 @@ use Rattle.tree_log.specs.Log.{LogState, IsLogOf, appended, lane_for}
 use Rattle.tree_runs.specs.Holding.{AreOf, StandOver}
 use Rattle.core_moves.specs.Held.{goes_ahead}
 use Rattle.core_moves.proofs.AffectLemmas.{stays_long}
-use Rattle.core_moves.proofs.WriteLemmas.{lane_beside_pins, runs_on, joined}
+use Rattle.core_moves.proofs.WriteLemmas.{above_floor, lane_beside_pins, runs_on, joined}
 use Rattle.core_moves.proofs.held.Held.write.Goals as goal
 
 none_runs : (pass : Option SnowState) → is_some pass ≡ false → pass ≡ None
 none_runs None none = refl
 none_runs (Some snow) some = absurd (false≢true (sym some))
+
+pub append-requires-clause-above : goal.append-requires-clause-above
+append-requires-clause-above g c = above_floor c.goes_ahead-ahead.result c.args.key.now c.args.self.now c.requires.one
+
+pub append-requires-clause-length : goal.append-requires-clause-length
+append-requires-clause-length g c = λ tells. c.requires.on.long tells ∙ ap file_length (sym c.requires.one.lanes)
 
 pub returns-in_err-append-clause-becomes : goal.returns-in_err-append-clause-becomes
 returns-in_err-append-clause-becomes g c = λ tree honest is_of over.

@@ -1,21 +1,25 @@
-use Rattle.std.specs.Prelude.{Bool, OnOk, is_ok}
+use Rattle.std.specs.Prelude.{◌≡◌, Bool, true, OnOk, is_ok}
 use Rattle.std.proofs.Common.{sym, subst}
 use Rattle.blsm_model.specs.declared.key.Key.{Key}
 use Rattle.record_delta.specs.declared.record.Rec.{Rec}
 use Rattle.tree_file.specs.Tree.{Tree}
 use Rattle.tree_file.specs.Places.{StandsOn, Becomes}
-use Rattle.tree_log.specs.Log.{LogState, IsLogOf, appended}
+use Rattle.record_delta.specs.Entries.{is_above}
+use Rattle.tree_log.specs.Log.{LogState, IsAboveFloor, IsLogOf, appended}
 use Rattle.tree_log.proofs.LogLemmas.{becomes_a, becomes_b, is_of_a, is_of_b}
 use Rattle.tree_log.proofs.logged.LoggedTables.append.Goals as goal
 
 pub returns-then-ahead-clause-is_of : goal.returns-then-ahead-clause-is_of
 returns-then-ahead-clause-is_of g c =
     let inside : LogState = record { a = c.self.inside.a; b = c.self.inside.b; lanes = c.self.inside.lanes } in
+    let high : is_above c.self.inside.a.floor c.args.key.now ≡ true =
+    subst (λ (s : LogState). IsAboveFloor true c.args.key.now s) (sym c.self.view_is)
+    (subst (λ (ahead : Bool). IsAboveFloor ahead c.args.key.now c.args.self.now) c.if-ahead.true c.requires.above) in
     let after : LogState = record { a = c.append_to.new.table; b = c.self.inside.b; lanes = c.append_to.new.lanes } in
     subst (λ (s : LogState). OnOk c.append_to.result ((tree : Tree) → IsLogOf tree s → IsLogOf (appended c.args.ahead (c.args.key.now, c.args.rec.now) tree) after)) c.self.view_is
     (subst (λ (ahead : Bool). OnOk c.append_to.result ((tree : Tree) → IsLogOf tree inside → IsLogOf (appended ahead (c.args.key.now, c.args.rec.now) tree) after)) (sym c.if-ahead.true)
     (is_of_a c.append_to.result c.args.key.now c.args.rec.now inside c.a-lane.result c.append_to.new.table c.append_to.new.lanes c.a-lane.ensures.roles c.a-lane.ensures.number
-    c.append_to.ensures.lanes c.append_to.ensures.ended c.append_to.ensures.table))
+    c.append_to.ensures.lanes c.append_to.ensures.ended high c.append_to.ensures.table))
 
 pub returns-then-ahead-clause-becomes : goal.returns-then-ahead-clause-becomes
 returns-then-ahead-clause-becomes g c = λ tree honest.
