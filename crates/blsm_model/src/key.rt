@@ -96,6 +96,10 @@ impl Key {
         self.bytes.truncate(bytes.len());
         let (over, behind) = bytes.split_at(self.bytes.len());
         self.bytes.as_mut_slice().copy_from_slice(over);
+        // A copy of no bytes is a call too, and most keys are as long as the one before.
+        if behind.is_empty() {
+            return;
+        }
         match self.bytes.try_extend_from_slice(behind) {
             Ok(()) => {}
             Err(_) => unreachable!(),

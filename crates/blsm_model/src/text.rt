@@ -87,8 +87,13 @@ impl Text {
         // What is written over need not be blanked before.
         self.bytes.truncate(bytes.len());
         let (over, behind) = bytes.split_at(self.bytes.len());
-        self.bytes.as_mut_slice().copy_from_slice(over);
-        push_all(&mut self.bytes, behind);
+        // A copy of no bytes is a call too.
+        if !over.is_empty() {
+            self.bytes.as_mut_slice().copy_from_slice(over);
+        }
+        if !behind.is_empty() {
+            push_all(&mut self.bytes, behind);
+        }
     }
 
     /// This text with a tail behind it: the last 64 bytes of both, and where the tail is empty the text as it is. It takes no memory.

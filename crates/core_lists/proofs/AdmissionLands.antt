@@ -94,10 +94,12 @@ beginning_lands w held tree m file at sound sizes are_of =
 
 -- the swaps leave one geometry
 one_after_deep : (old new : Held) → SettlesDeep old new → IsOne old → IsOne new
-one_after_deep old new settles one = ⊎_elim (λ done. (each_move_keeps_one old new one).deep_swap done.1) (λ rests. subst IsOne (sym rests.1) one) settles
+one_after_deep old new settles one =
+    ⊎_elim (λ done. (each_move_keeps_one old new one).deep_swap done.1) (λ rests. subst IsOne (sym rests.1) one) settles
 
 one_after_pass : (old new : Held) → SettlesPass old new → IsOne old → IsOne new
-one_after_pass old new settles one = ⊎_elim (λ done. (each_move_keeps_one old new one).pass_swap done.1) (λ rests. subst IsOne (sym rests.1) one) settles
+one_after_pass old new settles one =
+    ⊎_elim (λ done. (each_move_keeps_one old new one).pass_swap done.1) (λ rests. subst IsOne (sym rests.1) one) settles
 
 -- The numbers before each swap are some pace's.
 pub readying_lands : (w : ℕ) (old settled ready : Held) (tree middle next : Tree) (m : Machine) (before after : Pace) (file between last : List ℕ) → IsAt old tree m file → IsSound m → HasWay m

@@ -30,4 +30,5 @@ pub lookup_is_the_machines : (held : Held) (tree : Tree) (m : Machine) (file : L
     ≡ value_in m.lists key
 lookup_is_the_machines held tree m file key one at =
     looked m.lists held.log.b.entries held.log.a.entries (entries_of tree.c1) (entries_of tree.c1x) (entries_of tree.c2) key
-    (table_b held tree m file at) (table_a held tree m at.holds one) (list_c1 held tree m file at) (list_c1x held tree m file at) (list_c2 held tree m file at)
+    (table_b held tree m file at) (table_a held tree m at.holds one) (list_c1 held tree m file at)
+    (list_c1x held tree m file at) (list_c2 held tree m file at)

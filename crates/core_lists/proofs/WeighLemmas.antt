@@ -1,5 +1,5 @@
 -- What the core has in memory weighs what the machine's lists do.
-use Rattle.std.proofs.Common.{◌≡◌, ◌∙◌, ◌+◌, ℕ, List, ap, sym}
+use Rattle.std.proofs.Common.{◌≡◌, ◌∙◌, ℕ, List, ap, sym}
 use Rattle.std.proofs.Common.{arith}
 use Rattle.catalog_swap.specs.declared.catalog.Catalog.{Catalog}
 use Rattle.record_delta.specs.Entries.{entries_weight, replayed}

@@ -9,4 +9,3 @@ pub mod NewerLemmas
 pub mod MergeLemmas
 pub mod LeftLemmas
 pub mod ClosedLemmas
-mod SkipLemmas

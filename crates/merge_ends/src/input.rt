@@ -70,31 +70,3 @@ pub fn go_above<D: Disk>(
     }
     cursor.advance(disk, geo)
 }
-
-/// Goes on past all that isn't above a key, to the first entry that is, or to the end. It makes one call of the disk at most for each page that it
-/// comes to, which reads. What is left above the key stays. After an `Err` the cursor is behind the last entry that it came to; a page that is
-/// `Damaged` comes next there, and its bytes show it.
-pub fn go_up_to<D: Disk>(
-    cursor: &mut Cursor,
-    disk: &mut D,
-    geo: &Geometry,
-    at: &Option<Key>,
-) -> Result<(), Broken>
-    requires length { IsTrue (D.state disk.old).tells_bytes → length (D.state disk.old).bytes ≡ file_length geo.now }
-    ensures input { (space : SpaceState) (role : ℕ) (pages : List ℕ) (entries : Entries) → IsTrue (D.state disk.old).is_honest
-        → IsInput geo.now (D.state disk.old).bytes space role at.now cursor.old pages entries → result ≢ Err Broken.Fault
-        → (result ≡ Ok tt) × IsInput geo.now (D.state disk.new).bytes space role at.now cursor.new pages entries }
-    ensures ready { OnOk result (IsReady at.now cursor.new) }
-    ensures light { OnOk result (left_in at.now cursor.new ≤ left_in at.now cursor.old) }
-    ensures damaged { (n : ℕ) → result ≡ Err (Broken.Damaged n) → IsTrue (D.state disk.old).tells_bytes
-        → IsDamageAt geo.now cursor.new n (D.state disk.new).bytes }
-    ensures reads { Reads (file_length geo.now) cursor.old.pages result (D.state disk.old) (D.state disk.new) }
-{
-    while !is_above(cursor, at) {
-        cursor.advance(disk, geo)?;
-        if cursor.peek().is_none() {
-            return Ok(());
-        }
-    }
-    Ok(())
-}

@@ -10,7 +10,7 @@ mod newer;
 mod output;
 
 pub use finished::Finished;
-pub use input::{go_above, go_up_to, is_through, left_above};
+pub use input::{go_above, is_through, left_above};
 pub use laws::what_is_finished;
 pub use merge::Merge;
 pub use newer::Newer;

@@ -87,6 +87,7 @@ begins_in found guides file runs log whole roles holds runs_are log_are opens gu
     let t = holds.tree in
     record {
       are_of = opens t log.a.entries file holds.holds holds.catalogue (λ n has. (holds.c1_tag n).1 has) (λ n has. (holds.c1x_tag n).1 has) (λ n has. (holds.c2_tag n).1 has) guided;
-      log_of = subst (IsLogOf t) (sym log_are) (log_is found t holds.catalogue roles (rest_whole (replayed t.lane_a) found.a whole holds.table_a) holds.table_b holds.end_a holds.end_b);
+      log_of = subst (IsLogOf t) (sym log_are)
+          (log_is found t holds.catalogue roles (rest_whole (replayed t.lane_a) found.a whole holds.table_a) holds.table_b holds.end_a holds.end_b);
       fits = subst (λ (s : Sizes). FitsSizes s t) (sym (ap (λ (r : RunsState). r.sizes) runs_are)) holds.fits;
     }

@@ -124,7 +124,8 @@ module _ {D : Type 0} (state : D → DiskState) (seat : ℕ) (op : Op) (old : Co
     refused_fault b tries is = subst (λ (x : BookState). Admits state seat op ruling.ReadFault old (with_noted x)) (sym is)
         (refuses ruling.ReadFault (λ pace. refl) refl (note_has_room old.held.book seat 0 op Fault room (omega arith)) (ran, first, tries.0, refl) tt
         asks tt (λ none. absurd none)
-        (λ opening m honest s ok. fault_steps opening seat op old.held m reads honest s ok fits ran (core.holds.live ran).paced.one first tries.0 tries.1))
+        (λ opening m honest s ok. fault_steps opening seat op old.held m reads honest s ok fits ran
+        (core.holds.live ran).paced.one first tries.0 tries.1))
 
     pub refused_damaged : (page : ℕ) (b : BookState) → Tries (tried.Damaged page) op old.held (state old.disk) (state disk) → FindsOver
         (tried.Damaged page) op old.held (state old.disk) → b ≡ noted_in seat op (Damaged page) old.held.book
@@ -132,9 +133,16 @@ module _ {D : Type 0} (state : D → DiskState) (seat : ℕ) (op : Op) (old : Co
     refused_damaged page b tries finds is = subst (λ (x : BookState). Admits state seat op (ruling.Damaged page) old (with_noted x)) (sym is)
         (refuses (ruling.Damaged page) (λ pace. refl) refl (note_has_room old.held.book seat 0 op (Damaged page) room (omega arith))
         (ran, tries.0, tries.1, first, refl) tt asks tt (λ none. absurd none)
-        (λ opening m honest s ok. absurd (none_damaged opening seat op old.held m reads honest s ok fits ran (core.holds.live ran).paced.one page finds)))
+        (λ opening m honest s ok. absurd (none_damaged opening seat op old.held m reads honest s ok fits ran
+        (core.holds.live ran).paced.one page finds)))
 
   -- or its condition holds
   pub passes : old.held.book.stopped ≡ None → Tries tried.Met op old.held (state old.disk) (state disk) → FindsOver tried.Met op old.held
       (state old.disk) → LooksFirst state seat op None old (record { disk = disk; held = old.held; holds = old.holds })
-  passes ran tries finds = (refl, tries.0, tries.1, asks, λ opening m honest s. met_behind opening op old.held m reads honest s ran (core.holds.live ran).paced.one finds)
+  passes ran tries finds = (
+    refl,
+    tries.0,
+    tries.1,
+    asks,
+    λ opening m honest s. met_behind opening op old.held m reads honest s ran (core.holds.live ran).paced.one finds,
+  )

@@ -1,5 +1,5 @@
 -- The memory table of a tree, as contracts see it, and of which tree it is. Weights are in bytes.
-use Rattle.std.specs.Prelude.{◌≡◌, ⊤, ℕ, ◌+◌, ◌<◌, ◌^◌, Bool, true, false, IsTrue, [], None, length, if◌then◌else◌}
+use Rattle.std.specs.Prelude.{◌≡◌, ⊤, ℕ, ◌+◌, ◌<◌, ◌^◌, Bool, true, false, IsTrue, None, length, if◌then◌else◌}
 use Rattle.blsm_model.specs.Lanes.{a_of, b_of, AreRoles}
 use Rattle.blsm_model.specs.declared.key.Key.{Key}
 use Rattle.record_delta.specs.declared.record.Rec.{Rec}

@@ -284,7 +284,8 @@ module _ {done : Bool} {memory : ℕ} {a : Contents} {runs begun mid new : RunsS
       }
 
   left_all : runs.catalogue.c1.weight + listed_in_a log ≤ left_for_pass begun.pass a.entries
-  left_all = omega (arith, begun_all memory runs begun a.entries swap.begins, ap (λ (t : Contents). entries_weight t.entries) swap.table, swap.whole.1)
+  left_all =
+      omega (arith, begun_all memory runs begun a.entries swap.begins, ap (λ (t : Contents). entries_weight t.entries) swap.table, swap.whole.1)
 
   pub pass_counts : SwapsPass mid new → (quanta : ℕ) → TakeQuanta begun.sizes 1 quanta (left_for_pass begun.pass a.entries)
       → CountsQuanta 1 (runs.catalogue.c1.weight + listed_in_a log) (runs.catalogue.c1.weight + listed_in_a log) runs new

@@ -14,8 +14,8 @@ returns-clause-numbers c =
 
 pub returns-clause-lists : goal.returns-clause-lists
 returns-clause-lists c = λ file holds.
-    begins_in c.args.found c.args.found.guides file c.open-runs.result c.open-log.result c.requires.found.2.whole_a c.requires.found.2.roles holds c.open-runs.ensures.opened
-    c.open-log.ensures c.open-runs.ensures.lists (holds.guided c.requires.guides)
+    begins_in c.args.found c.args.found.guides file c.open-runs.result c.open-log.result c.requires.found.2.whole_a c.requires.found.2.roles
+    holds c.open-runs.ensures.opened c.open-log.ensures c.open-runs.ensures.lists (holds.guided c.requires.guides)
 
 pub most_quanta-requires-clause-begun : goal.most_quanta-requires-clause-begun
 most_quanta-requires-clause-begun c =

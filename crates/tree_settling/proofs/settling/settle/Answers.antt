@@ -65,7 +65,8 @@ returns-clause-counts g c =
     let two = c.in_ok-first.ensures in
     settling_counts c.args.runs.now c.due_deep.new.runs c.due_pass.new.runs c.due_pass-2.new.runs c.args.log.now c.due_pass.new.log one.step.on.sizes
     two.step.on.sizes one.step.on.light two.step.on.light
-    (omega (arith, ap (λ (c : Component). c.weight) one.c1)) two.c1 two.step.on.may.begun.whole_a two.a two.b one.counts two.counts c.in_ok-second.ensures.counts
+    (omega (arith, ap (λ (c : Component). c.weight) one.c1)) two.c1 two.step.on.may.begun.whole_a two.a two.b
+    one.counts two.counts c.in_ok-second.ensures.counts
 
 pub returns-clause-settled : goal.returns-clause-settled
 returns-clause-settled g c =

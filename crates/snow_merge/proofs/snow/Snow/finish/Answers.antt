@@ -1,4 +1,4 @@
-use Rattle.std.proofs.Common.{◌≡◌, ◌∷◌, ℕ, [], false, None, sym, subst}
+use Rattle.std.proofs.Common.{◌≡◌, ℕ, [], false, None, sym, subst}
 use Rattle.std.specs.Prelude.{IfOk}
 use Rattle.std.specs.List.{Contains}
 use Rattle.blsm_model.specs.Geometry.{file_length}

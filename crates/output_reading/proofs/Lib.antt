@@ -1,0 +1,12 @@
+pub mod FoldLemmas
+pub mod PagesLemmas
+pub mod MetLemmas
+pub mod EndLemmas
+pub mod NumberLemmas
+pub mod CallsLemmas
+pub mod InputsLemmas
+pub mod FollowLemmas
+pub mod GuidesLemmas
+pub mod NotedLemmas
+pub mod ResumeLemmas
+pub mod RightLemmas

@@ -1,0 +1,90 @@
+-- What the finished pages of a deep merge hold, and which of them departs from that first. Weights are in bytes.
+use Rattle.std.specs.Prelude.{◌≡◌, ◌⊎◌, ◌+◌, ◌*◌, ◌<◌, ◌≤◌, ℕ, List, [], ◌∷◌, ◌++◌, length, nat_eq, Option, Some}
+use Rattle.std.specs.List.{Contains, IsDistinct}
+use Rattle.blsm_model.specs.declared.component.Component.{Component}
+use Rattle.blsm_model.specs.declared.key.Key.{Key}
+use Rattle.blsm_model.specs.Format.{least_full}
+use Rattle.blsm_model.specs.Sizes.{Sizes}
+use Rattle.blsm_model.specs.Geometry.{page_count}
+use Rattle.record_delta.specs.Entries.{Entries, entries_weight, folded_over, settled_entries, up_to}
+use Rattle.page_file.specs.Page.{most_used, page_number, IsPageOf}
+use Rattle.page_file.specs.File.{page_at}
+use Rattle.page_file.specs.Component.{RunPage, AreChained, ReadsOn, entries_of, first_number, numbers_of}
+use Rattle.output_reading.specs.declared.progress.Progress.{Progress}
+
+-- both lists folded key by key, and settled
+abbrev pub settled_fold : Entries → Entries → Entries
+settled_fold newer older = settled_entries (folded_over newer older)
+
+-- the same of what both have up to a key
+abbrev pub settled_up_to : Option Key → Entries → Entries → Entries
+settled_up_to at newer older = settled_fold (up_to at newer) (up_to at older)
+
+-- how much both weigh up to a key, also of what settles to nothing
+abbrev pub weight_up_to : Option Key → Entries → Entries → ℕ
+weight_up_to at newer older = entries_weight (up_to at newer) + entries_weight (up_to at older)
+
+-- the one list begins the other
+abbrev pub IsFront : Entries → Entries → Type 0
+IsFront front entries = (rest : Entries) × (entries ≡ front ++ rest)
+
+-- In this file the finished pages are these: the last one names the next page of the run. They have what both lists have up to the key, folded
+-- and settled; and that isn't all of both, so an entry comes on the next page.
+pub record IsOutputOf (sizes : Sizes) (progress : Progress) (newer older : Entries) (pages : List RunPage) (file : List ℕ) : Type 0 where
+  pub reads : ReadsOn sizes progress.output pages (Some progress.next) file
+  pub entries_are : entries_of pages ≡ settled_up_to (Some progress.key) newer older
+  pub z_is : progress.z ≡ weight_up_to (Some progress.key) newer older
+  pub more : entries_of pages ≡ settled_fold newer older → ⊥
+
+-- On any disk: each finished page weighs nearly as much as it may, and none of them more; and they have no more than was taken of both components,
+-- which weigh so much.
+pub record IsLight (progress : Progress) (both : ℕ) : Type 0 where
+  pub full : least_full * progress.output.pages ≤ progress.output.weight
+  pub fits : progress.output.weight ≤ most_used * progress.output.pages
+  pub few : progress.output.entries ≤ progress.output.weight
+  pub settled : progress.output.weight ≤ progress.z
+  pub taken : progress.z ≤ both
+
+-- ---- the first page that departs
+
+-- In this file the run begins with these pages, behind which the page of this number comes: each is valid and names the next one, they have the
+-- first of these entries, and none of them is met twice, also not among earlier ones.
+pub record BeginsAs (sizes : Sizes) (run : Component) (entries : Entries) (earlier : List ℕ) (pages : List RunPage) (next : ℕ) (file : List ℕ) : Type
+    0 where
+  pub first_is : page_number (first_number pages (Some next)) ≡ run.first
+  pub chained : AreChained sizes pages (Some next) file
+  pub apart : IsDistinct nat_eq (earlier ++ numbers_of pages)
+  pub front : IsFront (entries_of pages) entries
+  pub pages_few : length pages ≤ run.pages
+
+-- In this file the page of this number is a valid one that names this next one, and has the next of the entries behind these pages.
+pub record GoesOnAs (sizes : Sizes) (entries : Entries) (pages : List RunPage) (n next : ℕ) (here : Entries) (file : List ℕ) : Type 0 where
+  pub inside : n < page_count sizes
+  pub valid : IsPageOf (page_count sizes) (Some next) here (page_at sizes n file)
+  pub front : IsFront (entries_of pages ++ here) entries
+
+-- Behind pages that are right this one is met again, or doesn't go on.
+pub record IsDepartedPage (sizes : Sizes) (run : Component) (entries : Entries) (earlier : List ℕ) (n : ℕ) (file : List ℕ) : Type 0 where
+  pub pages : List RunPage
+  pub begins : BeginsAs sizes run entries earlier pages n file
+  pub more : length pages < run.pages
+  pub departs : Contains (earlier ++ numbers_of pages) n ⊎ ((next : ℕ) (here : Entries) → GoesOnAs sizes entries pages n next here file → ⊥)
+
+-- All pages of the run are right, this one is the last of them, and it names that next page.
+pub record IsLastPage (sizes : Sizes) (run : Component) (entries : Entries) (earlier : List ℕ) (n : ℕ) (file : List ℕ) : Type 0 where
+  pub before : List RunPage
+  pub last : RunPage
+  pub next : ℕ
+  pub begins : BeginsAs sizes run entries earlier (before ++ last ∷ []) next file
+  pub all : length (before ++ last ∷ []) ≡ run.pages
+  pub number_is : last.number ≡ n
+
+-- Of the finished pages this is the first that departs from what both lists have up to the key: it isn't right; or all are, and this is the last
+-- one, and yet they aren't the output, or the next page isn't a new one.
+pub data IsDeparted (sizes : Sizes) (progress : Progress) (newer older : Entries) (earlier : List ℕ) (n : ℕ) (file : List ℕ) : Type 0 where
+  page : IsDepartedPage sizes progress.output (settled_up_to (Some progress.key) newer older) earlier n file
+      → IsDeparted sizes progress newer older earlier n file
+  whole : (end : IsLastPage sizes progress.output (settled_up_to (Some progress.key) newer older) earlier n file)
+      → (IsOutputOf sizes progress newer older (end.before ++ end.last ∷ []) file
+      → Contains (earlier ++ numbers_of (end.before ++ end.last ∷ [])) progress.next)
+      → IsDeparted sizes progress newer older earlier n file
