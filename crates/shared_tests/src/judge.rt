@@ -29,9 +29,10 @@ pub struct Judge {
     charge: u64,
     // How many lookups and nexts failed, and lookups of a new or a swap.
     faults: u64,
-    // Why the store stopped, and whether a reply told of it.
+    // Why the store stopped, whether a reply told of it, and whether one was that of the command whose call failed then.
     stopped: Option<Why>,
     is_told: bool,
+    is_met: bool,
 }
 
 // Puts a row in its place by its key, where no row has the key.
@@ -116,6 +117,7 @@ impl Judge {
             faults: 0,
             stopped,
             is_told: false,
+            is_met: false,
         }
     }
 
@@ -213,6 +215,13 @@ impl Judge {
     // The first reply that tells of the stop.
     fn stop(&mut self, rt: &impl Abort) {
         assert_that(rt, !self.is_told);
+        self.meet_stop(rt);
+    }
+
+    // A command's call failed, and the store stopped. A work's entry comes when its caller has the lock again, and others may be told before.
+    fn meet_stop(&mut self, rt: &impl Abort) {
+        assert_that(rt, !self.is_met);
+        self.is_met = true;
         self.is_told = true;
     }
 
@@ -227,7 +236,7 @@ impl Judge {
                 assert_that(rt, !self.is_told);
                 self.faults = self.faults.saturating_add(1);
             }
-            (Op::Work(_), Reply::Fault) => self.stop(rt),
+            (Op::Work(_), Reply::Fault) => self.meet_stop(rt),
             (_, Reply::FaultLost) if op.is_write() => self.lose_write(rt, op),
             (_, Reply::FaultUnsure) if op.is_write() => self.try_write(rt, op),
             _ => return false,

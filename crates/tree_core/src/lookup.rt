@@ -4,7 +4,7 @@ ghost use Rattle.blsm_model.specs.Geometry.{file_length};
 ghost use Rattle.blsm_model.specs.Histories.{answer_to_get};
 ghost use Rattle.blsm_model.specs.Stored.{as_reply};
 ghost use Rattle.disk_trait.specs.Reads.{OnlyReads};
-ghost use Rattle.record_delta.specs.Records.{settled};
+ghost use Rattle.record_delta.specs.Records.{settle as settle_of, settled};
 ghost use Rattle.seat_book.specs.State.{may_note_in};
 ghost use Rattle.tree_file.specs.Tree.{Tree, HoldsTree};
 ghost use Rattle.tree_runs.specs.Holding.{AreGuided};
@@ -22,17 +22,26 @@ use disk_trait::Disk;
 use page_file::Broken;
 use record_delta::{Rec, settle};
 
-// What a record answers, which was found or not.
+// What a record answers. It stays a call, as a function zeroes all its locals at entry, and most records are bases.
+#[inline(never)]
+fn settled(rec: Rec) -> Lookup
+    ensures is_found { IsFound result }
+    ensures reply { reply_to_get result ≡ answer_to_get (settle_of rec) }
+{
+    match settle(rec) {
+        Some(value) => Lookup::Is(value),
+        None => Lookup::Absent,
+    }
+}
+
+// What a record answers, which was found or not. A base's value is moved once.
 fn answer(rec: Option<Rec>) -> Lookup
     ensures is_found { IsFound result }
     ensures reply { reply_to_get result ≡ answer_to_get (settled rec) }
 {
-    let value = match rec {
-        Some(rec) => settle(rec),
-        None => None,
-    };
-    match value {
-        Some(value) => Lookup::Is(value),
+    match rec {
+        Some(Rec::Base(value)) => Lookup::Is(value),
+        Some(rec) => settled(rec),
         None => Lookup::Absent,
     }
 }
@@ -65,9 +74,9 @@ pub(crate) fn look_up<D: Disk>(held: &Held, disk: &mut D, key: &Key) -> Lookup
     if let Some(why) = held.book.stopped() {
         return Lookup::Stopped(why);
     }
-    let newer = held.log.get(key);
-    match held.runs.find(disk, key, newer) {
-        Ok(rec) => answer(rec),
+    let mut found = held.log.get(key);
+    match held.runs.find(disk, key, &mut found) {
+        Ok(()) => answer(found),
         Err(Broken::Fault) => {
             // The disk's count is a number of 64 bits.
             let _faults = disk.faults();

@@ -68,6 +68,18 @@ fn append_to<D: Disk>(
     Ok(())
 }
 
+// A record over an older one, if there are both. It stays a call, as a function zeroes all its locals at entry, and table B seldom has the key.
+#[inline(never)]
+fn over(newer: Option<Rec>, older: Option<Rec>) -> Option<Rec>
+    ensures { result ≡ over_any newer older }
+{
+    match (newer, older) {
+        (Some(newer), Some(older)) => Some(fold(newer, older)),
+        (newer, None) => newer,
+        (None, older) => older,
+    }
+}
+
 impl LoggedTables {
     /// The memory table of two tables that were replayed from these lanes, A and B; of B nothing was dropped. What both may weigh together
     /// is a 64-bit number.
@@ -136,14 +148,11 @@ impl LoggedTables {
     pub fn get(&self, key: &Key) -> Option<Rec>
         ensures { result ≡ over_any (record_of_key key.now self.now.b.entries) (record_of_key key.now self.now.a.entries) }
     {
-        let older = self.a.get(key);
-        match self.b.get(key) {
-            Some(newer) => Some(match older {
-                Some(older) => fold(newer, older),
-                None => newer,
-            }),
-            None => older,
+        let newer = self.b.get(key);
+        if newer.is_none() {
+            return self.a.get(key);
         }
+        over(newer, self.a.get(key))
     }
 
     /// Takes a write: ahead of the pass to lane A and then to table A, else to lane B and then to table B. What goes to table A is above what

@@ -1,5 +1,5 @@
 -- Lookups in one component after the other.
-use Rattle.std.specs.Prelude.{◌≡◌, ◌≢◌, ◌⊎◌, ℕ, ◌+◌, ◌≤◌, IsTrue, List, length, Option, Result, Ok, Err}
+use Rattle.std.specs.Prelude.{◌≡◌, ◌≢◌, ◌⊎◌, ℕ, ◌+◌, ◌≤◌, IsTrue, List, length, Option, Result, Ok, Err, IfOk}
 use Rattle.std.proofs.lemmas.Grind.{common_steps}
 use Rattle.std.proofs.lemmas.Bool.Decides.{nat_tests}
 use Rattle.std.proofs.Common.{◌∙◌, inl, inr, ap, sym, subst, refl, arith}
@@ -14,7 +14,7 @@ use Rattle.blsm_model.specs.Geometry.{file_length}
 use Rattle.record_delta.specs.declared.record.Rec.{Rec}
 use Rattle.record_delta.specs.Entries.{over_any, record_of_key}
 use Rattle.page_file.specs.declared.file.Broken.{Broken}
-use Rattle.page_file.specs.declared.file.Broken.TheVariants.{Fault}
+use Rattle.page_file.specs.declared.file.Broken.TheVariants.{Damaged, Fault}
 use Rattle.page_file.specs.File.{Reads}
 use Rattle.page_file.specs.Component.{RunPage, ReadsAs, entries_of}
 use Rattle.bloom_bits.specs.BitSet.{BitState}
@@ -22,7 +22,8 @@ use Rattle.bloom_bits.specs.Filter.{MayHave}
 use Rattle.catalog_swap.specs.declared.catalog.Catalog.{Catalog}
 use Rattle.tree_machine.proofs.FoldLemmas.{over_any_assoc}
 use Rattle.tree_file.specs.Tree.{Tree, HoldsTree}
-use Rattle.tree_runs.specs.Lookups.{AreAsked, CountsAsked, CountsYes, HidesOlder, from_newest}
+use Rattle.run_cursor.specs.Lookup.{IsDamaged}
+use Rattle.tree_runs.specs.Lookups.{AreAsked, CountsAsked, CountsYes, HidesOlder, IsDamageBelow, IsToldBy, found_by, from_newest}
 use Rattle.tree_runs.specs.Runs.{GuideState, RunsState, filter_of, guide_at}
 use Rattle.tree_runs.specs.Holding.{AreGuided, IsGuidedBy}
 use Rattle.tree_runs.proofs.ToldLemmas.{Tells, TellsOne, tells_behind, tells_failed, tells_last}
@@ -217,10 +218,6 @@ module _ {runs : RunsState} {key : Key} {newer : Option Rec} {result : Result (O
 
 -- ---- what was found, and what was not
 
--- a record that hides all older ones is what the lookup goes on with
-pub hides_still : {newer found : Option Rec} → ◌≡◌ {A = Result (Option Rec) Broken} (Ok found) (Ok newer) → HidesOlder newer → HidesOlder found
-hides_still {newer} {found} is hides = subst HidesOlder (sym (same_found found newer is)) hides
-
 pub not_failed : {A : Type 0} {newer : A} {broken : Broken} → ◌≡◌ {A = Result A Broken} (Err broken) (Ok newer) → ⊥
 not_failed is = cc
 
@@ -250,3 +247,56 @@ reads_long reads long tells = grind (arith, common_steps, nat_tests)
 
 pub no_unit_fault : (value : Unit {0}) → ◌≡◌ {A = Result (Unit {0}) Broken} (Ok value) (Err Fault) → ⊥
 no_unit_fault value wrong = cc
+
+-- ---- what is left in a place, told as an answer
+
+pub reads_by : {end n : ℕ} {old new : DiskState} (result : Result (Unit {0}) Broken) (found : Option Rec) → Reads end n result old new → Reads end n (found_by result found) old new
+reads_by (Ok value) found reads = reads_found found refl reads
+reads_by (Err broken) found reads = reads_failed (Err broken) refl refl reads
+
+reads_of : {end n : ℕ} {old new : DiskState} (result : Result (Unit {0}) Broken) (found : Option Rec) → Reads end n (found_by result found) old new → Reads end n result old new
+reads_of (Ok value) found reads = reads_found value refl reads
+reads_of (Err broken) found reads = reads_failed (Err broken) refl refl reads
+
+same_broken : (one other : Broken) → ◌≡◌ {A = Result (Option Rec) Broken} (Err one) (Err other) → one ≡ other
+same_broken one other is = cc
+
+broken_by : (result : Result (Unit {0}) Broken) (found : Option Rec) (broken : Broken) → found_by result found ≡ Err broken → result ≡ Err broken
+broken_by (Ok value) found broken is = absurd (not_failed (sym is))
+broken_by (Err other) found broken is = ap Err (same_broken other broken is)
+
+-- what the lookup in one component ensures
+pub below_by : {runs : RunsState} {component : Component} {tag : ℕ} {key : Key} {newer : Option Rec} {old new : DiskState} (result : Result (Unit {0}) Broken) (found : Option Rec)
+    → ((pages : List RunPage) → IsTrue old.is_honest → ReadsAs runs.sizes component pages old.bytes → IsGuidedBy (guide_at runs.guides tag) pages → result ≢ Err Fault
+    → found_by result found ≡ Ok (over_any newer (record_of_key key (entries_of pages))))
+    → IfOk (found_by result found) (λ rec. IsTrue old.is_honest → IsToldBy runs.sizes key old.bytes (component, guide_at runs.guides tag) newer rec)
+    → ((n : ℕ) → result ≡ Err (Damaged n) → IsTrue old.is_honest
+    → (HidesOlder newer → ⊥) × IsDamaged runs.sizes component (guide_at runs.guides tag).filter (guide_at runs.guides tag).fences key n old.bytes)
+    → ((n : ℕ) → CountsYes (filter_of runs tag) key n → Reads (file_length runs.sizes) n result old new) → (HidesOlder newer → new ≡ old)
+    → FindsBelow runs component tag key newer (found_by result found) old new
+below_by result found list told damaged reads none = record {
+  list = λ pages honest held guided other. list pages honest held guided (λ is. other (ap (λ (r : Result (Unit {0}) Broken). found_by r found) is));
+  told = record { told = told; damaged = λ n is honest. damaged n (broken_by result found (Damaged n) is) honest };
+  reads = λ n counts. reads_by result found (reads n counts);
+  none = none;
+}
+
+-- and what all three give
+module _ {runs : RunsState} {key : Key} {newer : Option Rec} {old new : DiskState} (result : Result (Unit {0}) Broken) (found : Option Rec) (all : FindsAll runs key newer (found_by result found) old new) where
+  pub lists_by : (tree : Tree) → IsTrue old.is_honest → HoldsTree runs.sizes tree old.bytes → tree.catalogue ≡ runs.catalogue → AreGuided runs.guides runs.tags tree → result ≢ Err Fault
+      → found_by result found ≡ Ok (over_any newer (over_any (record_of_key key (entries_of tree.c1)) (over_any (record_of_key key (entries_of tree.c1x)) (record_of_key key (entries_of tree.c2)))))
+  lists_by tree honest holds is guided other = looked_up all tree honest holds is guided (λ wrong. other (broken_by result found Fault wrong))
+
+  pub damaged_by : (n : ℕ) → result ≡ Err (Damaged n) → IsTrue old.is_honest → IsDamageBelow runs.sizes key old.bytes (from_newest runs.catalogue runs.guides runs.tags) newer n
+  damaged_by n is honest = all.tells.damaged n (ap (λ (r : Result (Unit {0}) Broken). found_by r found) is) honest
+
+  pub asks_by : (c1 c1x c2 : ℕ) → CountsYes (filter_of runs runs.tags.c1) key c1 → CountsYes (filter_of runs runs.tags.c1x) key c1x → CountsYes (filter_of runs runs.tags.c2) key c2
+      → Reads (file_length runs.sizes) (c1 + c1x + c2) result old new
+  asks_by c1 c1x c2 one two three = reads_of result found (all.looks c1 c1x c2 one two three).reads
+
+  pub ends_by : (tree : Tree) (c1 c1x c2 : ℕ) → IsTrue old.is_honest → HoldsTree runs.sizes tree old.bytes → tree.catalogue ≡ runs.catalogue → AreGuided runs.guides runs.tags tree → AreAsked newer key runs tree c1 c1x c2
+      → Reads (file_length runs.sizes) (c1 + c1x + c2) result old new
+  ends_by tree c1 c1x c2 honest holds now guided asked = reads_of result found (all.ends tree c1 c1x c2 honest holds now guided asked)
+
+  pub thrice_by : Reads (file_length runs.sizes) 3 result old new
+  thrice_by = reads_of result found (once_each all).reads

@@ -23,11 +23,6 @@ pub record TellsOne (sizes : Sizes) (key : Key) (c : Component × GuideState) (n
   pub told : IfOk result (λ found. IsTrue old.is_honest → IsToldBy sizes key old.bytes c newer found)
   pub damaged : (n : ℕ) → result ≡ Err (Damaged n) → IsTrue old.is_honest → (HidesOlder newer → ⊥) × IsDamaged sizes c.0 c.1.filter c.1.fences key n old.bytes
 
--- nothing is newer
-pub told_alone : (H : Type 0) (sizes : Sizes) (key : Key) (file : List ℕ) (c : Component × GuideState) (calls : ℕ) (result : Result (Option Rec) Broken)
-    → IfOk result (λ found. H → IsFoundBy sizes c.0 c.1.filter c.1.fences key found calls file) → IfOk result (λ found. H → IsToldBy sizes key file c None found)
-told_alone H sizes key file c calls result h1 = grind (arith, common_steps, nat_tests)
-
 -- ---- one after the other
 
 pub record Tells (sizes : Sizes) (key : Key) (cs : List (Component × GuideState)) (newer : Option Rec) (result : Result (Option Rec) Broken) (old : DiskState) : Type 0 where

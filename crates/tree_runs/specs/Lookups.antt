@@ -1,5 +1,5 @@
 -- How often a lookup reads, and what it tells.
-use Rattle.std.specs.Prelude.{◌≡◌, ◌⊎◌, ⊤, ℕ, ◌≤◌, List, [], ◌∷◌, Option, Some, None}
+use Rattle.std.specs.Prelude.{◌≡◌, ◌⊎◌, ⊤, ℕ, ◌≤◌, List, [], ◌∷◌, Option, Some, None, Result, Ok, Err}
 use Rattle.blsm_model.specs.declared.component.Component.{Component}
 use Rattle.blsm_model.specs.declared.key.Key.{Key}
 use Rattle.blsm_model.specs.Sizes.{Sizes}
@@ -10,9 +10,15 @@ use Rattle.record_delta.specs.declared.record.Rec.{Rec}
 use Rattle.record_delta.specs.declared.record.Rec.TheVariants.{Base, Delta, Tomb}
 use Rattle.record_delta.specs.Entries.{over_any, record_of_key}
 use Rattle.page_file.specs.Component.{entries_of}
+use Rattle.page_file.specs.declared.file.Broken.{Broken}
 use Rattle.run_cursor.specs.Lookup.{IsDamaged, IsFoundBy}
 use Rattle.tree_file.specs.Tree.{Tree}
 use Rattle.tree_runs.specs.Runs.{GuideState, RunsState, Tags, filter_of, guide_at}
+
+-- what a lookup answers that leaves what it found in a place: that, where it went well
+abbrev pub found_by : Result (Unit {0}) Broken → Option Rec → Result (Option Rec) Broken
+found_by (Ok _) found = Ok found
+found_by (Err broken) found = Err broken
 
 -- The filter's answer for the key, as a count: 1 at least, but 0 is enough where the filter says no.
 abbrev pub CountsYes : BitState → Key → ℕ → Type 0

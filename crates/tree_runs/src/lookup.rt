@@ -1,5 +1,5 @@
 //! Lookups in the components.
-ghost use Rattle.std.specs.Prelude.{◌≡◌, ◌≢◌, ◌+◌, ℕ, List, Ok, Err, length, IsTrue, IfOk};
+ghost use Rattle.std.specs.Prelude.{◌≡◌, ◌≢◌, ◌+◌, ◌↔◌, ℕ, List, Some, Ok, Err, length, IsTrue, IfOk};
 ghost use Rattle.blsm_model.specs.Geometry.{file_length};
 ghost use Rattle.record_delta.specs.Entries.{over_any, record_of_key};
 ghost use Rattle.record_delta.specs.Folding.{over};
@@ -10,7 +10,7 @@ ghost use Rattle.run_cursor.specs.Lookup.{IsDamaged};
 ghost use Rattle.tree_file.specs.Tree.{Tree, HoldsTree};
 ghost use Rattle.tree_runs.specs.Runs.{AreRuns, fences_of_tag, filter_of, guide_at};
 ghost use Rattle.tree_runs.specs.Holding.{AreGuided, IsGuidedBy};
-ghost use Rattle.tree_runs.specs.Lookups.{AreAsked, AreToldBy, CountsYes, HidesOlder, IsDamageBelow, IsToldBy, from_newest};
+ghost use Rattle.tree_runs.specs.Lookups.{AreAsked, AreToldBy, CountsYes, HidesOlder, IsDamageBelow, IsToldBy, found_by, from_newest};
 
 use crate::runs::Runs;
 use blsm_model::{Component, Key};
@@ -20,21 +20,36 @@ use page_space::Role;
 use record_delta::{Rec, fold};
 use run_cursor::find;
 
-// A record over an older one, if there is one. It stays a call, as a function zeroes all its locals at entry, and most lookups have nothing to fold.
+// A record over an older one. It stays a call, as a function zeroes all its locals at entry, and most lookups have nothing to fold.
 #[inline(never)]
-fn fold_under(newer: Rec, older: Option<Rec>) -> Rec
-    ensures { result ≡ over newer older }
+fn fold_over(newer: &mut Rec, older: Rec)
+    ensures { newer.new ≡ over newer.old (Some older) }
 {
-    match older {
-        Some(older) => fold(newer, older),
-        None => newer,
+    *newer = fold(newer.copy(), older);
+}
+
+// What was found so far over an older record.
+#[inline(never)]
+fn put_under(found: &mut Option<Rec>, older: Rec)
+    ensures { found.new ≡ over_any found.old (Some older) }
+{
+    match found {
+        Some(newer) => fold_over(newer, older),
+        None => *found = Some(older),
     }
 }
 
+// Whether it is a base or a tombstone, over which all that is older is hidden.
+fn hides_older(found: &Option<Rec>) -> bool
+    ensures { IsTrue result ↔ HidesOlder found.now }
+{
+    matches!(found, Some(Rec::Base(_) | Rec::Tomb))
+}
+
 impl Runs {
-    /// The record of a key over what the components have of it: `newer`, which stands above them all, folded over the records of C1, C1' and
-    /// C2. Of each component it reads one page at most, and none where the component's filter says no; it ends at the first base or
-    /// tombstone. It moves no cursor.
+    /// Puts the record of a key over what the components have of it: what was found so far, which stands above them all, is folded over the
+    /// records of C1, C1' and C2. Of each component it reads one page at most, and none where the component's filter says no; it ends at the
+    /// first base or tombstone. It moves no cursor.
     ///
     /// `Damaged` names the page that was asked and isn't valid; it never comes where the file holds a tree that filters and fences are of.
     /// `Fault` comes just where the disk's count of faults rose.
@@ -43,34 +58,34 @@ impl Runs {
         &self,
         disk: &mut D,
         key: &Key,
-        newer: Option<Rec>,
-    ) -> Result<Option<Rec>, Broken>
+        found: &mut Option<Rec>,
+    ) -> Result<(), Broken>
         requires runs { AreRuns self.now }
         requires length { IsTrue (D.state disk.old).tells_bytes → length (D.state disk.old).bytes ≡ file_length self.now.sizes }
         ensures lists { (tree : Tree) → IsTrue (D.state disk.old).is_honest → HoldsTree self.now.sizes tree (D.state disk.old).bytes
             → tree.catalogue ≡ self.now.catalogue → AreGuided self.now.guides self.now.tags tree → result ≢ Err Broken.Fault
-            → result ≡ Ok (over_any newer (over_any (record_of_key key.now (entries_of tree.c1))
+            → found_by result found.new ≡ Ok (over_any found.old (over_any (record_of_key key.now (entries_of tree.c1))
             (over_any (record_of_key key.now (entries_of tree.c1x)) (record_of_key key.now (entries_of tree.c2))))) }
 
         // Whatever the components read as, the answer is what the pages that are asked say of the key, and the first of them that is damaged is
         // named.
-        ensures told { IfOk result (λ found. IsTrue (D.state disk.old).is_honest
-            → AreToldBy self.now.sizes key.now (D.state disk.old).bytes (from_newest self.now.catalogue self.now.guides self.now.tags) newer found) }
+        ensures told { IfOk (found_by result found.new) (λ rec. IsTrue (D.state disk.old).is_honest
+            → AreToldBy self.now.sizes key.now (D.state disk.old).bytes (from_newest self.now.catalogue self.now.guides self.now.tags) found.old rec) }
         ensures damaged { (n : ℕ) → result ≡ Err (Broken.Damaged n) → IsTrue (D.state disk.old).is_honest
-            → IsDamageBelow self.now.sizes key.now (D.state disk.old).bytes (from_newest self.now.catalogue self.now.guides self.now.tags) newer n }
+            → IsDamageBelow self.now.sizes key.now (D.state disk.old).bytes (from_newest self.now.catalogue self.now.guides self.now.tags) found.old n }
 
         // It makes as many calls at most as filters say yes, and none below a base or a tombstone.
         ensures asks { (c1 c1x c2 : ℕ) → CountsYes (filter_of self.now self.now.tags.c1) key.now c1 → CountsYes (filter_of self.now self.now.tags.c1x) key.now c1x
             → CountsYes (filter_of self.now self.now.tags.c2) key.now c2 → Reads (file_length self.now.sizes) (c1 + c1x + c2) result (D.state disk.old) (D.state disk.new) }
         // Where it reads the tree, it asks no component below the first base or tombstone.
         ensures ends { (tree : Tree) (c1 c1x c2 : ℕ) → IsTrue (D.state disk.old).is_honest → HoldsTree self.now.sizes tree (D.state disk.old).bytes
-            → tree.catalogue ≡ self.now.catalogue → AreGuided self.now.guides self.now.tags tree → AreAsked newer key.now self.now tree c1 c1x c2
+            → tree.catalogue ≡ self.now.catalogue → AreGuided self.now.guides self.now.tags tree → AreAsked found.old key.now self.now tree c1 c1x c2
             → Reads (file_length self.now.sizes) (c1 + c1x + c2) result (D.state disk.old) (D.state disk.new) }
         ensures reads { Reads (file_length self.now.sizes) 3 result (D.state disk.old) (D.state disk.new) }
-        ensures none { HidesOlder newer → disk.new ≡ disk.old }
+        ensures none { HidesOlder found.old → disk.new ≡ disk.old }
     {
-        let found = self.find_below(disk, &self.catalogue.c1, self.c1, key, newer)?;
-        let found = self.find_below(disk, &self.catalogue.c1x, self.c1x, key, found)?;
+        self.find_below(disk, &self.catalogue.c1, self.c1, key, found)?;
+        self.find_below(disk, &self.catalogue.c1x, self.c1x, key, found)?;
         self.find_below(disk, &self.catalogue.c2, self.c2, key, found)
     }
 
@@ -82,29 +97,32 @@ impl Runs {
         run: &Component,
         role: Role,
         key: &Key,
-        newer: Option<Rec>,
-    ) -> Result<Option<Rec>, Broken>
+        found: &mut Option<Rec>,
+    ) -> Result<(), Broken>
         requires five { length self.now.guides ≡ role_count }
         requires length { IsTrue (D.state disk.old).tells_bytes → length (D.state disk.old).bytes ≡ file_length self.now.sizes }
         ensures list { (pages : List RunPage) → IsTrue (D.state disk.old).is_honest → ReadsAs self.now.sizes run.now pages (D.state disk.old).bytes
-            → IsGuidedBy (guide_at self.now.guides role) pages → result ≢ Err Broken.Fault → result ≡ Ok (over_any newer (record_of_key key.now (entries_of pages))) }
-        ensures told { IfOk result (λ found. IsTrue (D.state disk.old).is_honest
-            → IsToldBy self.now.sizes key.now (D.state disk.old).bytes (run.now, guide_at self.now.guides role) newer found) }
+            → IsGuidedBy (guide_at self.now.guides role) pages → result ≢ Err Broken.Fault
+            → found_by result found.new ≡ Ok (over_any found.old (record_of_key key.now (entries_of pages))) }
+        ensures told { IfOk (found_by result found.new) (λ rec. IsTrue (D.state disk.old).is_honest
+            → IsToldBy self.now.sizes key.now (D.state disk.old).bytes (run.now, guide_at self.now.guides role) found.old rec) }
         ensures damaged { (n : ℕ) → result ≡ Err (Broken.Damaged n) → IsTrue (D.state disk.old).is_honest
-            → (HidesOlder newer → ⊥) × IsDamaged self.now.sizes run.now (filter_of self.now role) (fences_of_tag self.now role) key.now n (D.state disk.old).bytes }
+            → (HidesOlder found.old → ⊥) × IsDamaged self.now.sizes run.now (filter_of self.now role) (fences_of_tag self.now role) key.now n (D.state disk.old).bytes }
         ensures reads { (n : ℕ) → CountsYes (filter_of self.now role) key.now n
             → Reads (file_length self.now.sizes) n result (D.state disk.old) (D.state disk.new) }
-        ensures none { HidesOlder newer → (disk.new ≡ disk.old) × (result ≡ Ok newer) }
+        ensures none { HidesOlder found.old → (disk.new ≡ disk.old) × (found_by result found.new ≡ Ok found.old) }
     {
-        let guide = &self.guides[role.number() as usize];
-        let (filter, fences) = (&guide.filter, &guide.fences);
-        let Some(newer) = newer else {
-            return find(disk, &self.geometry, run, filter, fences, key);
-        };
-        if !matches!(newer, Rec::Delta(_)) {
-            return Ok(Some(newer));
+        if hides_older(found) {
+            return Ok(());
         }
-        let older = find(disk, &self.geometry, run, filter, fences, key)?;
-        Ok(Some(fold_under(newer, older)))
+        let guide = &self.guides[role.number() as usize];
+        match find(disk, &self.geometry, run, &guide.filter, &guide.fences, key) {
+            Ok(Some(older)) => {
+                put_under(found, older);
+                Ok(())
+            }
+            Ok(None) => Ok(()),
+            Err(broken) => Err(broken),
+        }
     }
 }

@@ -1,4 +1,4 @@
-use Rattle.std.specs.Prelude.{◌≡◌, ◌≢◌, IsTrue, Option, None, Some, Ok, Err}
+use Rattle.std.specs.Prelude.{◌≡◌, ◌≢◌, ℕ, IsTrue, Option, None, Some, Ok, Err}
 use Rattle.std.specs.declared.result.Result.{Result}
 use Rattle.std.proofs.Common.{◌∙◌, ap, refl, subst, sym}
 use Rattle.blsm_model.specs.declared.history.Reply.TheVariants as reply
@@ -21,8 +21,8 @@ use Rattle.tree_core.specs.declared.answers.Lookup.TheVariants as lookup
 use Rattle.tree_core.proofs.LookupSteps.{asked_few}
 use Rattle.tree_core.proofs.lookup.look_up.Goals as goal
 
-no_fault : (rec : Option Rec) → ◌≢◌ {A = Result (Option Rec) Broken} (Ok rec) (Err Fault)
-no_fault rec same = cc same
+no_fault : (value : Unit {0}) → ◌≢◌ {A = Result (Unit {0}) Broken} (Ok value) (Err Fault)
+no_fault value same = cc same
 
 not_both : (broken : Broken) (rec : Option Rec) → ◌≢◌ {A = Result (Option Rec) Broken} (Err broken) (Ok rec)
 not_both broken rec same = cc same
@@ -47,32 +47,40 @@ told_is lookup.Fault key held before after rec is_found is ran same told = absur
 told_is (lookup.Damaged page) key held before after rec is_found is ran same told = absurd is_found
 told_is (lookup.Stopped why) key held before after rec is_found is ran same told = absurd is_found
 
+-- a damaged page that is named is the one that was told
+damaged_is : (page : ℕ) (key : Key) (held : Held) (before after : DiskState) → held.book.stopped ≡ None → after.faults ≡ before.faults
+    → (IsTrue before.is_honest
+    → IsDamageBelow held.runs.sizes key before.bytes (from_newest held.runs.catalogue held.runs.guides held.runs.tags) (newest_in key held) page)
+    → FindsBecause (lookup.Damaged page) key held before after
+damaged_is page key held before after ran same told = (ran, same, told)
+
 pub returns-in-Ok-clause-cause : goal.returns-in-Ok-clause-cause
 returns-in-Ok-clause-cause g c =
     let held = c.args.held.now in
     let before = g.D.Disk.state c.args.disk.now in
     let below = from_newest held.runs.catalogue held.runs.guides held.runs.tags in
-    told_is c.answer.result c.args.key.now held before (g.D.Disk.state c.find.new.disk) c.in-Ok.rec c.answer.ensures.is_found c.answer.ensures.reply (sym c.in_default.ensures)
-    (c.in-Ok.ensures.reads.stands (no_fault c.in-Ok.rec))
-    (λ honest. subst (λ (n : Option Rec). AreToldBy held.runs.sizes c.args.key.now before.bytes below n c.in-Ok.rec) c.get-newer.ensures (c.in-Ok.ensures.told honest))
+    told_is c.answer.result c.args.key.now held before (g.D.Disk.state c.find.new.disk) c.find.new.found c.answer.ensures.is_found c.answer.ensures.reply (sym c.in_default.ensures)
+    (c.in-Ok.ensures.reads.stands (no_fault c.in-Ok.field-0))
+    (λ honest. subst (λ (n : Option Rec). AreToldBy held.runs.sizes c.args.key.now before.bytes below n c.find.new.found) c.get-found.ensures (c.in-Ok.ensures.told honest))
 
 pub returns-in-Err-Damaged-clause-cause : goal.returns-in-Err-Damaged-clause-cause
 returns-in-Err-Damaged-clause-cause g c =
     let held = c.args.held.now in
     let before = g.D.Disk.state c.args.disk.now in
-    let below = from_newest held.runs.catalogue held.runs.guides held.runs.tags in (
-      sym c.in_default.ensures,
-      c.in-Err-Damaged.ensures.reads.stands (λ same. cc (same, c.in-Err-Damaged.field-0-is)),
-      λ honest. subst (λ (n : Option Rec). IsDamageBelow held.runs.sizes c.args.key.now before.bytes below n c.in-Err-Damaged.page) c.get-newer.ensures
-          (c.in-Err-Damaged.ensures.damaged c.in-Err-Damaged.page (cc c.in-Err-Damaged.field-0-is) honest),
-    )
+    let after = g.D.Disk.state c.find.new.disk in
+    let below = from_newest held.runs.catalogue held.runs.guides held.runs.tags in
+    subst (λ (p : ℕ). FindsBecause (lookup.Damaged p) c.args.key.now held before after) (sym c.in-Err-Damaged.page-is)
+    (damaged_is c.in-Err-Damaged.page c.args.key.now held before after (sym c.in_default.ensures)
+    (c.in-Err-Damaged.ensures.reads.stands (λ same. cc (same, c.in-Err-Damaged.field-0-is)))
+    (λ honest. subst (λ (n : Option Rec). IsDamageBelow held.runs.sizes c.args.key.now before.bytes below n c.in-Err-Damaged.page) c.get-found.ensures
+    (c.in-Err-Damaged.ensures.damaged c.in-Err-Damaged.page (cc c.in-Err-Damaged.field-0-is) honest)))
 
 pub returns-in-Ok-clause-value : goal.returns-in-Ok-clause-value
 returns-in-Ok-clause-value g c = λ tree honest holds catalogue guided runs not.
     let key = c.args.key.now in
     let rest = over_any (record_of_key key (entries_of tree.c1)) (over_any (record_of_key key (entries_of tree.c1x)) (record_of_key key (entries_of tree.c2))) in
-    let found = same_record c.in-Ok.rec (over_any c.get-newer.result rest) (c.in-Ok.ensures.lists tree honest holds catalogue guided (no_fault c.in-Ok.rec)) in
-    c.answer.ensures.reply ∙ ap (λ (r : Option Rec). answer_to_get (settled r)) (found ∙ ap (λ (n : Option Rec). over_any n rest) c.get-newer.ensures)
+    let found = same_record c.find.new.found (over_any c.get-found.result rest) (c.in-Ok.ensures.lists tree honest holds catalogue guided (no_fault c.in-Ok.field-0)) in
+    c.answer.ensures.reply ∙ ap (λ (r : Option Rec). answer_to_get (settled r)) (found ∙ ap (λ (n : Option Rec). over_any n rest) c.get-found.ensures)
 
 pub returns-in-Err-Damaged-clause-value : goal.returns-in-Err-Damaged-clause-value
 returns-in-Err-Damaged-clause-value g c = λ tree honest holds catalogue guided runs not.
