@@ -101,8 +101,8 @@ fn follow<D: Disk>(
 
 /// Walks a deep merge's finished pages beside C1' and C2, and gives them and the next one the tag of the merge's run, with one call of the disk for
 /// each page of the three, and one more where a call fails; it takes no memory. The filter and the fences of that tag, if there are any, are then
-/// those of the finished pages, where the filter has as many bits as C1' and C2 weigh bytes. It hands on with what the merge goes on: its key may
-/// lie above the progress' one, where all between them settles to nothing.
+/// those of the finished pages; how many bits the filter has, as many as C1' and C2 weigh bytes, no clause says. It hands on with what the merge
+/// goes on: its key may lie above the progress' one, where all between them settles to nothing.
 ///
 /// `Damaged` names the first page that isn't free, isn't a valid page, has no next page, or hasn't the next entries of what C1' and C2 have up to
 /// the progress' key, folded and settled. Where no page is such a one, it names the last page, if the pages aren't all of that, their entries,
