@@ -14,7 +14,10 @@ pub(crate) fn overwrite(bytes: &mut Vec<u8>, at: usize, from: &[u8]) -> Result<(
     ensures room { OnErr result (vec_capacity bytes.old < at + length from.now) }
 {
     let inside = from.len().min(bytes.len() - at);
-    bytes.extend_from_slice(&from[inside..])?;
+    // A copy of no bytes is a call too, and most writes end inside.
+    if inside < from.len() {
+        bytes.extend_from_slice(&from[inside..])?;
+    }
     bytes[at..at + inside].copy_from_slice(&from[..inside]);
     Ok(())
 }

@@ -3,6 +3,7 @@ ghost use Rattle.std.specs.Prelude.{◌≡◌, ℕ, ◌<◌, ◌≤◌, ◌++◌
 ghost use Rattle.std.specs.List.{All};
 ghost use Rattle.blsm_model.specs.declared.history.Entry.{Entry};
 ghost use Rattle.blsm_model.specs.declared.history.Line.{Line};
+ghost use Rattle.blsm_model.specs.declared.op.Op.TheVariants.{Put};
 ghost use Rattle.blsm_model.specs.Format.{most_lines};
 ghost use Rattle.blsm_model.specs.Histories.{writes_of};
 ghost use Rattle.blsm_model.specs.Legal.{total_weight};
@@ -68,20 +69,23 @@ fn push_op(lines: &mut Vec<Line>, kind: u64, place: u64, count: u64, size: usize
 {
     let key = make_key(place);
     match kind {
-        0..=59 => push(
-            lines,
-            Op::Put(
-                key,
-                Value {
-                    count,
-                    text: make_text(place, size),
-                },
-            ),
-        ),
+        0..=59 => push_put(lines, key, count, place, size),
         60..=77 => push(lines, Op::Add(key, count)),
         78..=79 => push(lines, Op::Del(key)),
         _ => push(lines, Op::Get(key)),
     }
+}
+
+// Puts the line of a put at the end. It stays a call, as a function zeroes all its locals at entry, and no other command has a text.
+#[inline(never)]
+fn push_put(lines: &mut Vec<Line>, key: Key, count: u64, place: u64, size: usize)
+    requires size { size ≤ longest_made }
+    requires room { length lines.old.items < vec_capacity lines.old }
+    ensures lines { lines.new.items ≡ lines.old.items ++ record { seat = 0; op = Put key (record { count = count; text = text_at place size }) } ∷ [] }
+    ensures capacity { vec_capacity lines.new ≡ vec_capacity lines.old }
+{
+    let text = make_text(place, size);
+    push(lines, Op::Put(key, Value { count, text }));
 }
 
 // Puts a line of the first caller at the end.
@@ -125,10 +129,9 @@ fn make_text(place: u64, size: usize) -> Text
 {
     let letter = b'a' + (place % 26) as u8;
     let bytes = [letter; MOST_TEXT];
-    match Text::from_bytes(&bytes[..size]) {
-        Some(text) => text,
-        None => unreachable!(),
-    }
+    let mut text = Text::empty();
+    text.set(&bytes[..size]);
+    text
 }
 
 /// Makes the script of a seed: so many commands of the first caller, at most 65,536, on 1,500 keys. `NoMemory` where

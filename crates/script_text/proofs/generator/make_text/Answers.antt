@@ -5,4 +5,4 @@ use Rattle.script_text.proofs.generator.make_text.Goals as goal
 
 pub returns : goal.returns
 unfolding text_at
-returns c = c.in-Some.ensures.some ∙ take-replicate c.args.size 199 (97 + c.args.place % 26) (omega arith)
+returns c = c.set.ensures ∙ take-replicate c.args.size 199 (97 + c.args.place % 26) (omega arith)
