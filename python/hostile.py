@@ -79,11 +79,14 @@ def deep_script(draw: random.Random, lines: int) -> str:
 
 
 def has_all(found: Found) -> bool:
-    return all(component.pages for component in found.catalogue.components) and len(found.lanes) == 2 and all(end > 200 for end in found.lanes.values())
+    """All components, pages that a deep merge has finished, and records in both lanes."""
+    catalogue = found.catalogue
+    has_pages = all(component.pages for component in catalogue.components) and catalogue.progress is not None
+    return has_pages and len(found.lanes) == 2 and all(end > 200 for end in found.lanes.values())
 
 
 def deep_store(program: str, path: Path, seed: int) -> Found:
-    """Makes a store that a run left with all three components, and with records in both lanes."""
+    """Makes a store that a run left with all three components, finished pages of a deep merge, and records in both lanes."""
     for lines in range(1300, 3000, 9):
         path.unlink(missing_ok=True)
         store = make(program, path)

@@ -1,6 +1,7 @@
 """Reads the bytes of a store's file by its written form: what `check` must print of it and its map, or the first place that isn't of that form.
 
-A file is read in one order: superblock and length, catalogue slots, version, the pages of C1, C1' and C2, lane A, lane B. Nothing here is the program's:
+A file is read in one order: superblock and length, catalogue slots, version, the pages of C1, C1' and C2, those that a deep merge has finished, lane A, lane B.
+Nothing here is the program's:
 `hostile.py` compares the program's answers over damaged files with these.
 """
 
@@ -13,7 +14,8 @@ from functools import lru_cache
 
 SUPERBLOCK = 27
 SLOTS = (512, 1024)  # of odd and of even versions
-SLOT = 85
+SLOT = 187  # at most
+FLAG, OUTPUT, KEY = 84, 85, 123  # where a slot has its flag, and behind it a deep merge's progress, the last of which is a key
 REGIONS = 4096  # where the lanes' regions begin
 PAGE = 4096
 MOST_USED = 4088
@@ -124,10 +126,24 @@ class Component:
 
 
 @dataclass(frozen=True)
+class Progress:
+    """What the finished pages of a deep merge have: all that C1' and C2 have up to the key, which weighs `taken` there. Behind them comes page `following`."""
+
+    output: Component
+    following: int
+    taken: int
+    key: bytes
+
+    def is_right(self, newer: Component, pages: int) -> bool:
+        return newer.pages > 0 and self.output.pages > 0 and self.output.is_right(pages) and self.following < pages and 1 <= len(self.key) <= 64
+
+
+@dataclass(frozen=True)
 class Catalogue:
     version: int
     lanes: tuple[int, int, int]  # the regions of A, B and the spare one
     components: tuple[Component, Component, Component]  # C1, C1', C2
+    progress: Progress | None = None
 
     @property
     def weight(self) -> int:
@@ -142,7 +158,7 @@ class Found:
     catalogue: Catalogue
     report: str
     map: dict[bytes, tuple[int, bytes]]
-    pages: dict[int, int] = field(default_factory=dict)  # where each live page begins, and how much of it is used
+    pages: dict[int, int] = field(default_factory=dict)  # where each page that must stay begins, and how much of it is used
     lanes: dict[int, int] = field(default_factory=dict)  # where the regions of lanes A and B begin, and how long the text is with its closed gate
 
 
@@ -157,16 +173,31 @@ def read_sizes(file: Bytes) -> Sizes:
     return sizes
 
 
+def read_progress(file: Bytes, slot: int) -> Progress | None:
+    """The progress that a slot names, or none where its flag is 0."""
+    flag = file[slot + FLAG]
+    if flag == 0:
+        return None
+    if flag != 1:
+        raise damaged("slots")
+    *output, following, taken, length = struct.unpack_from(">IIQQIQH", file, slot + OUTPUT)
+    return Progress(Component(*output), following, taken, bytes(file[slot + KEY : slot + KEY + length]))
+
+
 def read_slot(file: Bytes, parity: int, pages: int) -> Catalogue | None:
     """The catalogue of a slot, or none where its gate is closed."""
-    gate, version, *numbers, flag = struct.unpack_from(">BQBBB" + 3 * "IIQQ" + "B", file, SLOTS[1 - parity])
+    at = SLOTS[1 - parity]
+    gate, version, *numbers = struct.unpack_from(">BQBBB" + 3 * "IIQQ", file, at)
     if gate != 1:
         return None
+    progress = read_progress(file, at)
     c1, c1x, c2 = (Component(*numbers[i : i + 4]) for i in (3, 7, 11))
     a, b, spare = numbers[:3]
-    if version < 1 or version % 2 != parity or flag != 0 or {a, b, spare} != {0, 1, 2} or not all(component.is_right(pages) for component in (c1, c1x, c2)):
+    if version < 1 or version % 2 != parity or {a, b, spare} != {0, 1, 2} or not all(component.is_right(pages) for component in (c1, c1x, c2)):
         raise damaged("slots")
-    return Catalogue(version, (a, b, spare), (c1, c1x, c2))
+    if progress and not progress.is_right(c1x, pages):
+        raise damaged("slots")
+    return Catalogue(version, (a, b, spare), (c1, c1x, c2), progress)
 
 
 def read_catalogue(file: Bytes, sizes: Sizes) -> Catalogue:
@@ -232,6 +263,31 @@ def read_component(file: Bytes, sizes: Sizes, component: Component, only_bases: 
     return entries
 
 
+def read_output(file: Bytes, sizes: Sizes, progress: Progress, newer: list[Entry], older: list[Entry], met: dict[int, int]) -> None:
+    """Tests that the finished pages are what a deep merge of these lists writes up to the key, and that more is to come behind it."""
+    merged = sorted(settled([older, newer]))
+    due = [(key, Record(BASE, *value)) for key, value in merged if key <= progress.key]
+    last, number, left = progress.output.first, progress.output.first, progress.output.pages
+    entries: list[Entry] = []
+    while len(entries) < len(due):
+        at = sizes.page_at(number)
+        if left == 0 or number >= sizes.pages:
+            raise damaged(f"page {last}")
+        page = read_page(bytes(file[at : at + PAGE]), sizes.pages) if at not in met else None
+        if page is None or page[0] == NO_PAGE or list(page[1]) != due[len(entries) : len(entries) + len(page[1])]:
+            raise damaged(f"page {number}")
+        met[at] = struct.unpack_from(">H", file, at + 2)[0]
+        entries += page[1]
+        last, number, left = number, page[0], left - 1
+    if left > 0:
+        raise damaged(f"page {number if number < sizes.pages else last}")
+    taken = sum(weight(*entry) for entry in newer + older if entry[0] <= progress.key)
+    sums = (number, taken, len(entries), sum(weight(*entry) for entry in entries))
+    named = (progress.following, progress.taken, progress.output.entries, progress.output.weight)
+    if sums != named or sizes.page_at(number) in met or len(merged) == len(due):
+        raise damaged(f"page {last}")
+
+
 @lru_cache(maxsize=64)
 def read_lane(region: bytes) -> tuple[tuple[Entry, ...], int | None]:
     """The entries of a region, and where its closed gate stands, or none where the lane is damaged behind them."""
@@ -282,6 +338,8 @@ def read(file: Bytes) -> Found:
     catalogue = read_catalogue(file, sizes)
     pages: dict[int, int] = {}
     c1, c1x, c2 = (read_component(file, sizes, component, i == 2, pages) for i, component in enumerate(catalogue.components))
+    if catalogue.progress:
+        read_output(file, sizes, catalogue.progress, c1x, c2, pages)
     lanes: dict[int, int] = {}
     room = min(2 * sizes.half, sizes.capacity - catalogue.weight)
     a, count_a = replay(file, sizes, catalogue.lanes[0], room, lanes)

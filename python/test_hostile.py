@@ -44,8 +44,8 @@ class Places(unittest.TestCase):
         self.assertEqual(self.kinds["ends of pages"], [range(page + 25, page + 4096)])
 
     def test_a_sample_has_all_kinds_and_no_place_twice(self) -> None:
-        taken = sample(random.Random(1), self.kinds, 1000)
-        self.assertEqual(len({*taken}), 1000)
+        taken = sample(random.Random(1), self.kinds, 2000)
+        self.assertEqual(len({*taken}), 2000)
         for kind, ranges in self.kinds.items():
             with self.subTest(kind):
                 self.assertTrue(any(at in places for at in taken for places in ranges))

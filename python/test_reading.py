@@ -3,9 +3,10 @@
 import struct
 import unittest
 from collections.abc import Callable
+from dataclasses import replace
 
 import reading
-from reading import BASE, DELTA, TOMBSTONE, Component, Found, Record, Sizes, Unread, fold, read
+from reading import BASE, DELTA, TOMBSTONE, Component, Found, Progress, Record, Sizes, Unread, fold, read
 
 SMALLEST = Sizes(17_408, 2, 8_704, 1_024)
 EMPTY = Component(reading.NO_PAGE, 0, 0, 0)
@@ -21,6 +22,12 @@ LANE = SMALLEST.region
 def slot(version: int, lanes: tuple[int, int, int] = (0, 1, 2), *components: Component) -> bytes:
     numbers = [(c.first, c.pages, c.entries, c.weight) for c in (*components, EMPTY, EMPTY, EMPTY)[:3]]
     return struct.pack(">BQBBB", 1, version, *lanes) + b"".join(struct.pack(">IIQQ", *four) for four in numbers) + b"\x00"
+
+
+def named(progress: Progress) -> bytes:
+    """What stands behind the numbers of a slot that names a deep merge's progress."""
+    output = struct.pack(">IIQQ", *vars(progress.output).values())
+    return b"\x01" + output + struct.pack(">IQH", progress.following, progress.taken, len(progress.key)) + progress.key
 
 
 def page(*entries: bytes, count: int | None = None, used: int | None = None, following: int = reading.NO_PAGE) -> bytes:
@@ -40,6 +47,26 @@ def store(*parts: tuple[int, bytes]) -> bytearray:
 # C2 has x on page 1; lane A, which is region 1, deletes x and adds 7 to it
 MERGED = ((512, bytes(85)), (1024, slot(4, (1, 2, 0), EMPTY, EMPTY, Component(1, 1, 1, 17))), (SMALLEST.page_at(1), page(X)))
 WRITES = (4096 + LANE, b"\x01" + DEL_X + b"\x01" + ADD_X + b"\x00")
+
+
+
+
+def heavy(key: str, kind: int = BASE) -> bytes:
+    """A put of weight 449, or a tombstone."""
+    text = b"t" * 435 if kind == BASE else b""
+    return struct.pack(">BHHQ", kind, 1, len(text), 0) + key.encode() + text
+
+
+# C1' has a to h on page 0, and a tombstone of i, and j on page 1; C2 has i on page 4. Of the deep merge page 2 is finished, and page 3 comes next.
+DONE = Progress(Component(2, 1, 8, 8 * 449), 3, 8 * 449, b"h")
+FRONT = [heavy(key) for key in "abcdefgh"]
+NEWER, OLDER = Component(0, 2, 10, 9 * 449 + 14), Component(4, 1, 1, 449)
+
+
+def left(progress: Progress, *parts: tuple[int, bytes]) -> tuple[tuple[int, bytes], ...]:
+    """The parts of a store whose deep merge was left with this progress."""
+    pages = [(0, page(*FRONT, following=1)), (1, page(heavy("i", TOMBSTONE), heavy("j"))), (2, page(*FRONT, following=3)), (4, page(heavy("i")))]
+    return (512, slot(3, (0, 1, 2), EMPTY, NEWER, OLDER)[:84] + named(progress)), *((SMALLEST.page_at(n), text) for n, text in pages), *parts
 
 
 class Folding(unittest.TestCase):
@@ -106,6 +133,64 @@ class Right(unittest.TestCase):
         self.assertEqual(read(store((27, b"\xff"), (4096, b"\x02\xff"), spare, (SMALLEST.page_at(0), b"\xff" * 4096))).map, {})
 
 
+class Outputs(unittest.TestCase):
+    def test_what_a_deep_merge_has_finished(self) -> None:
+        found = read(store(*left(DONE)))
+        self.assertEqual((found.catalogue.progress, len(found.map)), (DONE, 9))
+        self.assertEqual(sorted(found.pages), [SMALLEST.page_at(n) for n in (0, 1, 2, 4)])
+        self.assertEqual(found.report, read(store(*left(DONE, (512 + 84, b"\x00")))).report)
+
+    def test_the_key_may_lie_higher_where_nothing_is_between(self) -> None:
+        self.assertEqual(read(store(*left(replace(DONE, key=b"hz")))).catalogue.progress, replace(DONE, key=b"hz"))
+        self.assertEqual(len(read(store(*left(replace(DONE, key=b"i", taken=DONE.taken + 449 + 14)))).map), 9)
+
+    def test_slots(self) -> None:
+        output = DONE.output
+        for wrong in (
+            *(replace(DONE, output=replace(output, first=number)) for number in (SMALLEST.pages, reading.NO_PAGE)),
+            *(replace(DONE, output=replace(output, pages=number)) for number in (0, SMALLEST.pages + 1)),
+            replace(DONE, output=replace(output, entries=0)),
+            replace(DONE, output=replace(output, weight=13)),
+            replace(DONE, following=SMALLEST.pages),
+            replace(DONE, key=b""),
+            replace(DONE, key=b"h" * 65),
+        ):
+            with self.subTest(wrong):
+                refused(self, 6, "damaged slots", *left(wrong))
+
+    def test_numbers_are_told_at_the_last_page(self) -> None:
+        output = DONE.output
+        for wrong in (
+            *(replace(DONE, output=replace(output, entries=8 + by)) for by in (1, -1)),
+            *(replace(DONE, output=replace(output, weight=output.weight + by)) for by in (1, -1)),
+            *(replace(DONE, taken=DONE.taken + by) for by in (1, -1)),
+            replace(DONE, following=2),
+            replace(DONE, following=5),
+            replace(DONE, key=b"g"),
+        ):
+            with self.subTest(wrong):
+                refused(self, 6, "damaged page 2", *left(wrong))
+
+    def test_pages(self) -> None:
+        at = SMALLEST.page_at(2)
+        deltas = [struct.pack(">BHHQ", DELTA, 1, 0, 0) + b"a", *FRONT[1:], heavy("i")]
+        for part in (page(*FRONT), page(*FRONT, following=3, used=4089), page(*deltas, following=3), page(*FRONT[:7], heavy("i"), following=3)):
+            with self.subTest(part[:8]):
+                refused(self, 6, "damaged page 2", *left(DONE, (at, part)))
+        refused(self, 6, "damaged page 3", *left(replace(DONE, output=replace(DONE.output, pages=2))))
+        refused(self, 6, "damaged page 0", *left(replace(DONE, output=replace(DONE.output, first=0))))
+
+    def test_an_entry_has_to_come_behind_them(self) -> None:
+        parts = left(DONE, (SMALLEST.page_at(1), page(heavy("i", TOMBSTONE), heavy("j", TOMBSTONE)).ljust(4096, b"\x00")))
+        refused(self, 6, "damaged page 2", *parts, (512 + 36, struct.pack(">IIQQ", 0, 2, 10, 8 * 449 + 28)))
+
+
+def refused(test: unittest.TestCase, status: int, line: str, *parts: tuple[int, bytes]) -> None:
+    with test.assertRaises(Unread) as why:
+        read(store(*parts))
+    test.assertEqual((why.exception.status, why.exception.line), (status, line))
+
+
 class Wrong(unittest.TestCase):
     def refused(self, status: int, line: str, *parts: tuple[int, bytes], change: Callable[[bytearray], None] = lambda file: None) -> None:
         file = store(*parts)
@@ -136,7 +221,7 @@ class Wrong(unittest.TestCase):
             (512, slot(1, (0, 1, 2), heavy)),
             (512, slot(1, (0, 1, 2), EMPTY, heavy, Component(2, 1, 1, SMALLEST.capacity - SMALLEST.c1_mark + 1))),
             (1024, slot(1)),
-            (512 + 84, b"\x01"),
+            (512 + 84, b"\x01"),  # progress, and no C1'
             (512 + 84, b"\x02"),
         ):
             with self.subTest(part):

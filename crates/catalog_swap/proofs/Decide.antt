@@ -1,8 +1,7 @@
 -- Whether a slot has a catalogue is decided by its bytes.
-use Rattle.std.proofs.Common.{◌≡◌, ◌⊎◌, inl, inr, ⊎_elim, ℕ, ◌^◌, ◌<◌, ◌≤◌, true, false, List, [], ◌∷◌, length, take, drop, bytes_eq, refl, ap, sym, subst, ◌∙◌, arith}
-use Rattle.std.specs.Int.{w32, w64, from_be_bytes}
+use Rattle.std.proofs.Common.{◌≡◌, ◌⊎◌, inl, inr, ⊎_elim, ℕ, ◌^◌, ◌<◌, ◌≤◌, true, false, List, [], ◌∷◌, length, drop, bytes_eq, refl, sym, subst, arith}
+use Rattle.std.specs.Prelude.{Option, Some, None, IfSome}
 use Rattle.std.proofs.lemmas.Bool.{cases_lt}
-use Rattle.std.proofs.lemmas.Nat.{from_be_bytes-to_be_bytes_4, from_be_bytes-to_be_bytes_8}
 use Rattle.std.proofs.lemmas.Slice.Eq.{bytes_eq-Decides}
 use Rattle.disk_trait.specs.Disk.{part}
 use Rattle.gated_write.specs.Gated.{open_byte, IsClosed}
@@ -10,12 +9,13 @@ use Rattle.blsm_model.specs.declared.component.Component.{Component}
 use Rattle.blsm_model.specs.Sizes.{Sizes}
 use Rattle.blsm_model.specs.Geometry.{page_count}
 use Rattle.catalog_swap.specs.declared.catalog.Catalog.{Catalog}
+use Rattle.catalog_swap.specs.declared.catalog.Progress.{Progress}
 use Rattle.blsm_model.specs.Components.{no_page}
 use Rattle.blsm_model.specs.Lanes.{a_of, b_of, spare_of, AreRoles}
-use Rattle.catalog_swap.specs.Text.{AreNumbers, FitsBody, IsComponent, IsCatalog, component_text, body_text, slot_text}
+use Rattle.catalog_swap.specs.Text.{AreNumbers, FitsBody, FitsProgress, IsComponent, IsInRange, IsProgressOf, IsCatalog, slot_text}
 use Rattle.catalog_swap.specs.Slots.{slot_of, odd_slot, even_slot, slot_length, HasSlot, IsBroken, IsNewest, IsDamagedSlots, none_open, odd_broken, even_broken}
-use Rattle.catalog_swap.proofs.TextLemmas.{numbers_parts, numbers_of_body}
-use Rattle.catalog_swap.proofs.SlotLemmas.{newest_alone, newest_above}
+use Rattle.catalog_swap.proofs.SaidLemmas.{catalog_in, catalog_back}
+use Rattle.catalog_swap.proofs.SlotLemmas.{slot_begins, newest_alone, newest_above}
 
 -- it holds, or it doesn't
 abbrev pub Decided : Type 0 → Type 0
@@ -66,13 +66,30 @@ numbers c =
     iff (λ p. record { first = p.0; pages = p.1.0; entries = p.1.1.0; weight = p.1.1.1 }) (λ n. (n.first, (n.pages, (n.entries, n.weight))))
     (both (below c.first (2 ^ 32)) (both (below c.pages (2 ^ 32)) (both (below c.entries (2 ^ 64)) (below c.weight (2 ^ 64)))))
 
+in_range : (pages : ℕ) (c : Component) → Decided (IsInRange pages c)
+in_range pages c =
+    iff (λ p. record { first = p.0; some_page = p.1.0; no_more_pages = p.1.1.0; some_entry = p.1.1.1.0; some_weight = p.1.1.1.1 })
+    (λ n. (n.first, (n.some_page, (n.no_more_pages, (n.some_entry, n.some_weight)))))
+    (both (below c.first pages) (both (at_most 1 c.pages) (both (at_most c.pages pages) (both (at_most 1 c.entries) (at_most 14 c.weight)))))
+
 component : (pages : ℕ) (c : Component) → Decided (IsComponent pages c)
 component pages c =
     either
     (iff (λ p. record { first = p.0; pages = p.1.0; entries = p.1.1.0; weight = p.1.1.1 }) (λ n. (n.first, (n.pages, (n.entries, n.weight))))
     (both (same c.first no_page) (both (same c.pages 0) (both (same c.entries 0) (same c.weight 0)))))
-    (iff (λ p. record { first = p.0; some_page = p.1.0; no_more_pages = p.1.1.0; some_entry = p.1.1.1.0; some_weight = p.1.1.1.1 }) (λ n. (n.first, (n.some_page, (n.no_more_pages, (n.some_entry, n.some_weight)))))
-    (both (below c.first pages) (both (at_most 1 c.pages) (both (at_most c.pages pages) (both (at_most 1 c.entries) (at_most 14 c.weight))))))
+    (in_range pages c)
+
+named_fits : (p : Option Progress) → Decided (IfSome p FitsProgress)
+named_fits None = inl tt
+named_fits (Some p) =
+    iff (λ d. record { output = d.0; next = d.1.0; z = d.1.1.0; some_key = d.1.1.1.0; short_key = d.1.1.1.1 }) (λ n. (n.output, (n.next, (n.z, (n.some_key, n.short_key)))))
+    (both (numbers p.output) (both (below p.next (2 ^ 32)) (both (below p.z (2 ^ 64)) (both (at_most 1 (length p.key)) (at_most (length p.key) 64)))))
+
+named : (pages : ℕ) (c1x : Component) (p : Option Progress) → Decided (IfSome p (IsProgressOf pages c1x))
+named pages c1x None = inl tt
+named pages c1x (Some p) =
+    iff (λ d. record { some_c1x = d.0; output = d.1.0; next = d.1.1 }) (λ n. (n.some_c1x, (n.output, n.next)))
+    (both (in_range pages c1x) (both (in_range pages p.output) (below p.next pages)))
 
 lanes : (l : List ℕ) → Decided (AreRoles l)
 lanes l =
@@ -83,68 +100,43 @@ lanes l =
 
 fits : (c : Catalog) → Decided (FitsBody c)
 fits c =
-    iff (λ p. record { version = p.0; lanes = p.1.0; c1 = p.1.1.0; c1x = p.1.1.1.0; c2 = p.1.1.1.1 }) (λ n. (n.version, (n.lanes, (n.c1, (n.c1x, n.c2)))))
-    (both (below c.version (2 ^ 64)) (both (same (length c.lanes) 3) (both (numbers c.c1) (both (numbers c.c1x) (numbers c.c2)))))
+    iff (λ p. record { version = p.0; lanes = p.1.0; c1 = p.1.1.0; c1x = p.1.1.1.0; c2 = p.1.1.1.1.0; progress = p.1.1.1.1.1 })
+    (λ n. (n.version, (n.lanes, (n.c1, (n.c1x, (n.c2, n.progress))))))
+    (both (below c.version (2 ^ 64)) (both (same (length c.lanes) 3) (both (numbers c.c1) (both (numbers c.c1x) (both (numbers c.c2) (named_fits c.progress))))))
 
 pub catalog : (sizes : Sizes) (c : Catalog) → Decided (IsCatalog sizes c)
 catalog sizes c =
-    iff (λ p. record { fits = p.0; some_version = p.1.0; lanes = p.1.1.0; c1 = p.1.1.1.0; c1x = p.1.1.1.1.0; c2 = p.1.1.1.1.1 }) (λ n. (n.fits, (n.some_version, (n.lanes, (n.c1, (n.c1x, n.c2))))))
+    let pages = page_count sizes in
+    iff (λ p. record {
+      fits = p.0;
+      some_version = p.1.0;
+      lanes = p.1.1.0;
+      c1 = p.1.1.1.0;
+      c1x = p.1.1.1.1.0;
+      c2 = p.1.1.1.1.1.0;
+      progress = p.1.1.1.1.1.1;
+    })
+    (λ n. (n.fits, (n.some_version, (n.lanes, (n.c1, (n.c1x, (n.c2, n.progress)))))))
     (both (fits c) (both (at_most 1 c.version) (both (lanes c.lanes)
-    (both (component (page_count sizes) c.c1) (both (component (page_count sizes) c.c1x) (component (page_count sizes) c.c2))))))
-
--- ---- the catalogue that a body says
-
-component_in : List ℕ → Component
-component_in text = record {
-  first = from_be_bytes w32 (part text 0 4);
-  pages = from_be_bytes w32 (part text 4 4);
-  entries = from_be_bytes w64 (part text 8 8);
-  weight = from_be_bytes w64 (part text 16 8);
-}
-
-catalog_in : List ℕ → Catalog
-catalog_in body = record {
-  version = from_be_bytes w64 (part body 0 8);
-  lanes = part body 8 3;
-  c1 = component_in (part body 11 24);
-  c1x = component_in (part body 35 24);
-  c2 = component_in (part body 59 24);
-}
-
-component_back : (c : Component) → AreNumbers c → component_in (component_text c) ≡ c
-unfolding component_in component_text
-component_back c n = λ i. record {
-  first = from_be_bytes-to_be_bytes_4 c.first n.first i;
-  pages = from_be_bytes-to_be_bytes_4 c.pages n.pages i;
-  entries = from_be_bytes-to_be_bytes_8 c.entries n.entries i;
-  weight = from_be_bytes-to_be_bytes_8 c.weight n.weight i;
-}
-
-catalog_back : (c : Catalog) → FitsBody c → catalog_in (take 83 (body_text c)) ≡ c
-unfolding catalog_in
-catalog_back c f =
-    let parts = numbers_parts c f.lanes in
-    ap catalog_in (numbers_of_body c f.lanes) ∙ λ i. record {
-      version = (ap (from_be_bytes w64) parts.0 ∙ from_be_bytes-to_be_bytes_8 c.version f.version) i;
-      lanes = parts.1 i;
-      c1 = (ap component_in parts.2 ∙ component_back c.c1 f.c1) i;
-      c1x = (ap component_in parts.3 ∙ component_back c.c1x f.c1x) i;
-      c2 = (ap component_in parts.4 ∙ component_back c.c2 f.c2) i;
-    }
+    (both (component pages c.c1) (both (component pages c.c1x) (both (component pages c.c2)
+    (named pages c.c1x c.progress)))))))
 
 -- ---- a slot
 
 slot : (sizes : Sizes) (at : ℕ) (file : List ℕ) → Decided ((c : Catalog) × HasSlot sizes at c file)
 slot sizes at file =
-    let text = part file at slot_length in
-    let said = catalog_in (take 83 (drop 1 text)) in
-    iff (λ (p : IsCatalog sizes said × ((slot_of said.version ≡ at) × (text ≡ slot_text said))). (said, record { fits = p.0; parity = p.1.0; text = p.1.1 }))
+    let said = catalog_in (drop 1 (part file at slot_length)) in
+    iff (λ (p : IsCatalog sizes said × ((slot_of said.version ≡ at) × (part file at (length (slot_text said)) ≡ slot_text said))).
+    (said, record { fits = p.0; parity = p.1.0; text = p.1.1 }))
     (λ has.
-    let is : said ≡ has.0 = ap (λ (l : List ℕ). catalog_in (take 83 (drop 1 l))) has.1.text ∙ catalog_back has.0 has.1.fits.fits in (
+    let is : said ≡ has.0 = catalog_back has.0 (drop 1 (part file at slot_length)) has.1.fits.fits (slot_begins has.1) in (
       subst (IsCatalog sizes) (sym is) has.1.fits,
-      (subst (λ (c : Catalog). slot_of c.version ≡ at) (sym is) has.1.parity, subst (λ (c : Catalog). text ≡ slot_text c) (sym is) has.1.text),
+      (
+        subst (λ (c : Catalog). slot_of c.version ≡ at) (sym is) has.1.parity,
+        subst (λ (c : Catalog). part file at (length (slot_text c)) ≡ slot_text c) (sym is) has.1.text,
+      ),
     ))
-    (both (catalog sizes said) (both (same (slot_of said.version) at) (bytes_same text (slot_text said))))
+    (both (catalog sizes said) (both (same (slot_of said.version) at) (bytes_same (part file at (length (slot_text said))) (slot_text said))))
 
 abbrev Slot : Sizes → ℕ → List ℕ → Type 0
 Slot sizes at file = IsClosed at file ⊎ ((c : Catalog) × HasSlot sizes at c file) ⊎ IsBroken sizes at file

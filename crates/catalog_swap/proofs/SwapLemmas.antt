@@ -18,8 +18,8 @@ use Rattle.catalog_swap.specs.declared.catalog.Catalog.{Catalog}
 use Rattle.catalog_swap.specs.Text.{body_text}
 use Rattle.catalog_swap.specs.Slots.{slot_length, slot_of, other_slot, IsOpen, HasSlot, IsNewest, AreSameSlots}
 use Rattle.catalog_swap.specs.Swap.{spare_start, prepared, IsSettled, IsReady, IsNext, IsEither}
-use Rattle.catalog_swap.proofs.FileLemmas.{gate_same, closed_same, newest_same, slots_apart, behind_apart, settled_only, settled_each}
-use Rattle.catalog_swap.proofs.TextLemmas.{length-body_text}
+use Rattle.catalog_swap.proofs.FileLemmas.{gate_same, closed_same, newest_same, slots_apart, behind_apart, settled_only, settled_each, text_same}
+use Rattle.catalog_swap.proofs.TextLemmas.{body_short}
 
 -- a gate is open, or it isn't
 gate_cases : (at : ℕ) (file : List ℕ) → IsOpen at file ⊎ IsClosed at file
@@ -41,7 +41,7 @@ newest_kept : (sizes : Sizes) (now : Catalog) (n : ℕ) (old new : List ℕ) →
 newest_kept sizes now n old new small same has = record {
   fits = has.fits;
   parity = has.parity;
-  text = part_apart (slot_of now.version) slot_length (others_apart now.version n small) same ∙ has.text;
+  text = text_same (slot_of now.version) old new has.fits (part_apart (slot_of now.version) slot_length (others_apart now.version n small) same) ∙ has.text;
 }
 
 -- ---- preparing: the older slot's gate
@@ -57,7 +57,7 @@ gate_torn sizes now old new newest was_open same = record {
         | inl opened ↦
             elim newest.other [
               | inl closed ↦ absurd (closed was_open)
-              | inr older ↦ inr (record { catalog = older.catalog; stands = record { fits = older.stands.fits; parity = older.stands.parity; text = stays opened ∙ older.stands.text }; lower = older.lower })
+              | inr older ↦ inr (record { catalog = older.catalog; stands = record { fits = older.stands.fits; parity = older.stands.parity; text = text_same at old new older.stands.fits (stays opened) ∙ older.stands.text }; lower = older.lower })
             ]
       ];
 }
@@ -65,14 +65,14 @@ gate_torn sizes now old new newest was_open same = record {
     at : ℕ
     at = other_slot now.version
 
-    body_apart : AreApart (span at 1) (span (at + 1) 84)
+    body_apart : AreApart (span at 1) (span (at + 1) 186)
     body_apart i gate body = omega (arith, gate.1, body.0)
 
     stays : IsOpen at new → part new at slot_length ≡ part old at slot_length
     stays opened =
-        part-split new at 1 84
-        ∙ (λ i. (opened ∙ sym was_open) i ++ part_apart (at + 1) 84 body_apart same i)
-        ∙ sym (part-split old at 1 84)
+        part-split new at 1 186
+        ∙ (λ i. (opened ∙ sym was_open) i ++ part_apart (at + 1) 186 body_apart same i)
+        ∙ sym (part-split old at 1 186)
 
 -- The older slot's gate is closed from start to mid, or was closed.
 module _ (sizes : Sizes) (now : Catalog) (start mid : DiskState) (honest : IsTrue start.is_honest) (place : ℕ) (placed : place ≡ other_slot now.version)
@@ -153,8 +153,8 @@ back_slot : (sizes : Sizes) (now next : Catalog) → IsNext sizes now next → s
 back_slot sizes now next is = let follows = is.follows in omega (arith, follows)
 
 module _ (sizes : Sizes) (now next : Catalog) (is : IsNext sizes now next) (place : ℕ) (placed : place ≡ slot_of next.version) (text : List ℕ) (spelled : text ≡ body_text next) where
-  long : 1 + length text ≡ slot_length
-  long = omega (arith, ap (length {A = ℕ}) spelled, length-body_text next is.fits.fits.lanes)
+  short : 1 + length text ≤ slot_length
+  short = omega (arith, ap (length {A = ℕ}) spelled, body_short next is.fits.fits)
 
   other_place : place ≡ other_slot now.version
   other_place = placed ∙ next_slot sizes now next is
@@ -165,8 +165,8 @@ module _ (sizes : Sizes) (now next : Catalog) (is : IsNext sizes now next) (plac
 
   now_kept : (old new : List ℕ) → Outside old new → HasSlot sizes (slot_of now.version) now old → HasSlot sizes (slot_of now.version) now new
   now_kept old new same has =
-      newest_kept sizes now slot_length old new (omega arith)
-      (subst (λ (k : ℕ). IsSameOutside (span k slot_length) old new) other_place (subst (λ (n : ℕ). IsSameOutside (span place n) old new) long same)) has
+      newest_kept sizes now (1 + length text) old new short
+      (subst (λ (k : ℕ). IsSameOutside (span k (1 + length text)) old new) other_place same) has
 
   -- the text stands whole behind its open gate
   next_newest : (old new : List ℕ) → IsNewest sizes now old → Outside old new → part new place (1 + length text) ≡ open_byte ∷ text → IsNewest sizes next new
@@ -174,7 +174,9 @@ module _ (sizes : Sizes) (now next : Catalog) (is : IsNext sizes now next) (plac
     stands = record {
       fits = is.fits;
       parity = refl;
-      text = ap (λ (k : ℕ). part new k slot_length) (sym placed) ∙ ap (λ (n : ℕ). part new place n) (sym long) ∙ stands ∙ ap (λ (l : List ℕ). open_byte ∷ l) spelled;
+      text =
+          let more : length (open_byte ∷ text) ≡ 1 + length text = omega arith in
+          (λ i. part new (sym placed i) (length (open_byte ∷ sym spelled i))) ∙ ap (part new place) more ∙ stands ∙ ap (λ (l : List ℕ). open_byte ∷ l) spelled;
     };
     other = inr (record {
       catalog = now;

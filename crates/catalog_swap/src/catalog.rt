@@ -1,21 +1,36 @@
 //! The catalogue, and its text.
-ghost use Rattle.std.specs.Prelude.{◌≡◌, ◌↔◌, ◌+◌, ◌≤◌, ◌<◌, ◌^◌, ◌++◌, ◌∷◌, List, [], length, take, drop, IsTrue};
+ghost use Rattle.std.specs.Prelude.{◌≡◌, ◌↔◌, ◌+◌, ◌≤◌, ◌++◌, ◌∷◌, [], Some, length, take, drop, IsTrue, IsNone, IfSome, IfNone, Option};
 ghost use Rattle.disk_trait.specs.Disk.{part};
 ghost use Rattle.blsm_model.specs.Geometry.{page_count};
 ghost use Rattle.blsm_model.specs.Lanes.{AreRoles};
-ghost use Rattle.catalog_swap.specs.Text.{AreNumbers, FitsBody, IsComponent, IsCatalog, component_text, numbers_text, numbers_length, no_flag, body_text};
+ghost use Rattle.catalog_swap.specs.declared.catalog.Catalog.{Catalog};
+ghost use Rattle.catalog_swap.specs.declared.catalog.Progress.{Progress};
+ghost use Rattle.catalog_swap.specs.Text.{AreNumbers, FitsBody, FitsProgress, HasKey, IsComponent, IsInRange, IsProgressOf, IsCatalog};
+ghost use Rattle.catalog_swap.specs.Text.{component_text, numbers_text, numbers_length, progress_text, flagged_text, body_text, BeginsWith};
 
-use big_endian::{u32_at, u64_at};
-use blsm_model::{Component, Geometry};
+use big_endian::{u16_at, u32_at, u64_at};
+use blsm_model::{Component, Geometry, Key};
 
-/// How many bytes the body of a slot has, behind its gate.
-pub const BODY_LEN: usize = 84;
+/// How many bytes the body of a slot has at most, behind its gate.
+pub const BODY_LEN: usize = KEY_AT + Key::MAX_LEN;
 
-// Where the flag of a body stands, behind its numbers.
-const FLAG_AT: usize = BODY_LEN - 1;
+// Where the flag of a body stands, behind its numbers, and what a body with progress has behind that.
+const FLAG_AT: usize = 83;
 
-// The flag of a body that says no more than its numbers.
+const OUTPUT_AT: usize = FLAG_AT + 1;
+
+const NEXT_AT: usize = OUTPUT_AT + COMPONENT_LEN;
+
+const Z_AT: usize = NEXT_AT + 4;
+
+const KEY_LEN_AT: usize = Z_AT + 8;
+
+const KEY_AT: usize = KEY_LEN_AT + 2;
+
+// The flag of a body that says no more than its numbers, and of one with progress.
 const NO_FLAG: u8 = 0;
+
+const PROGRESS_FLAG: u8 = 1;
 
 // How many bytes a component's numbers have.
 const COMPONENT_LEN: usize = 24;
@@ -28,8 +43,21 @@ const LEAST_WEIGHT: u64 = 14;
 
 const LANES: usize = 3;
 
+/// What the finished pages of a deep merge's run hold.
+#[derive(PartialEq, Eq, Debug, Drop)]
+pub struct Progress {
+    /// The finished pages, as a run of their own that goes on.
+    pub output: Component,
+    /// The page that the last of them names.
+    pub next: u32,
+    /// How much C1' and C2 weigh up to the key, in bytes, also of what settled to nothing.
+    pub z: u64,
+    /// The key up to which all of C1' and C2 is on these pages.
+    pub key: Key,
+}
+
 /// What the tree is made of.
-#[derive(Clone, Copy, PartialEq, Eq, Debug)]
+#[derive(PartialEq, Eq, Debug, Drop)]
 pub struct Catalog {
     /// At least 1, and one more at each commit.
     pub version: u64,
@@ -41,6 +69,8 @@ pub struct Catalog {
     pub c1x: Component,
     /// C2, which the deep merges write.
     pub c2: Component,
+    /// How far the deep merge has come, if that is named.
+    pub progress: Option<Progress>,
 }
 
 // The text of a component.
@@ -66,18 +96,49 @@ fn put(body: &mut [u8; BODY_LEN], at: usize, bytes: &[u8])
     body[at..at + bytes.len()].copy_from_slice(bytes);
 }
 
-// The body of the slot of a catalogue.
-pub fn body_of(catalog: &Catalog) -> [u8; BODY_LEN]
-    ensures { result ≡ body_text catalog.now }
+// Writes a deep merge's progress behind the flag of a body, and gives the body's length in bytes.
+fn put_progress(body: &mut [u8; BODY_LEN], progress: &Progress) -> usize
+    ensures text { take result body.new ≡ take OUTPUT_AT body.old ++ progress_text progress.now }
+    ensures inside { result ≤ BODY_LEN }
+    ensures key { HasKey (Some progress.now) }
 {
-    let mut body = [0; BODY_LEN];
-    put(&mut body, 0, &catalog.version.to_be_bytes());
-    put(&mut body, 8, &catalog.lanes);
-    put(&mut body, 11, &component_text(&catalog.c1));
-    put(&mut body, 35, &component_text(&catalog.c1x));
-    put(&mut body, 59, &component_text(&catalog.c2));
-    put(&mut body, FLAG_AT, &[NO_FLAG]);
-    body
+    let key = progress.key.as_bytes();
+    put(body, OUTPUT_AT, &component_text(&progress.output));
+    put(body, NEXT_AT, &progress.next.to_be_bytes());
+    put(body, Z_AT, &progress.z.to_be_bytes());
+    put(body, KEY_LEN_AT, &(key.len() as u16).to_be_bytes());
+    put(body, KEY_AT, key);
+    KEY_AT + key.len()
+}
+
+// Writes what a catalogue says without its progress.
+fn put_numbers(body: &mut [u8; BODY_LEN], catalog: &Catalog)
+    ensures { take FLAG_AT body.new ≡ numbers_text catalog.now }
+{
+    put(body, 0, &catalog.version.to_be_bytes());
+    put(body, 8, &catalog.lanes);
+    put(body, 11, &component_text(&catalog.c1));
+    put(body, 35, &component_text(&catalog.c1x));
+    put(body, 59, &component_text(&catalog.c2));
+}
+
+// Writes the body of the slot of a catalogue over the front of these bytes, and gives its length in bytes.
+pub fn put_body(body: &mut [u8; BODY_LEN], catalog: &Catalog) -> usize
+    ensures text { take result body.new ≡ body_text catalog.now }
+    ensures inside { result ≤ BODY_LEN }
+    ensures key { HasKey catalog.now.progress }
+{
+    put_numbers(body, catalog);
+    match &catalog.progress {
+        None => {
+            put(body, FLAG_AT, &[NO_FLAG]);
+            OUTPUT_AT
+        }
+        Some(progress) => {
+            put(body, FLAG_AT, &[PROGRESS_FLAG]);
+            put_progress(body, progress)
+        }
+    }
 }
 
 // The component whose text stands at a place.
@@ -103,18 +164,32 @@ fn lanes_at(bytes: &[u8], at: usize) -> [u8; LANES]
     lanes
 }
 
-// Whether a body says no more than its numbers.
-pub fn is_plain(body: &[u8]) -> bool
+// The progress behind the flag of a body; `None` where its key is too short or too long.
+fn progress_in(body: &[u8]) -> Option<Progress>
     requires { length body.now ≡ BODY_LEN }
-    ensures { IsTrue result ↔ (drop numbers_length body.now ≡ no_flag ∷ []) }
+    ensures found { IfSome result (λ found. FitsProgress found × (take (length (progress_text found)) (drop OUTPUT_AT body.now) ≡ progress_text found)) }
+    ensures none { IfNone result ((other : Progress) → FitsProgress other
+        → take (length (progress_text other)) (drop OUTPUT_AT body.now) ≡ progress_text other → ⊥) }
 {
-    body[FLAG_AT] == NO_FLAG
+    let key_len = usize::from(u16_at(body, KEY_LEN_AT));
+    if key_len > Key::MAX_LEN {
+        return None;
+    }
+    let key = Key::from_bytes(&body[KEY_AT..KEY_AT + key_len])?;
+    Some(Progress {
+        output: component_at(body, OUTPUT_AT),
+        next: u32_at(body, NEXT_AT),
+        z: u64_at(body, Z_AT),
+        key,
+    })
 }
 
-// The catalogue that the numbers of a body say, valid or not.
-pub fn catalog_in(body: &[u8]) -> Catalog
-    requires { length body.now ≡ BODY_LEN }
+// The catalogue that the numbers of a body say, with this progress.
+fn catalog_with(body: &[u8], progress: Option<Progress>) -> Catalog
+    requires long { length body.now ≡ BODY_LEN }
+    requires fits { IfSome progress FitsProgress }
     ensures text { take numbers_length body.now ≡ numbers_text result }
+    ensures progress { result.progress ≡ progress }
     ensures fits { FitsBody result }
 {
     Catalog {
@@ -123,7 +198,32 @@ pub fn catalog_in(body: &[u8]) -> Catalog
         c1: component_at(body, 11),
         c1x: component_at(body, 35),
         c2: component_at(body, 59),
+        progress,
     }
+}
+
+// The catalogue that a body says, valid or not; `None` where the bytes begin with the body of none.
+pub fn catalog_in(body: &[u8]) -> Option<Catalog>
+    requires { length body.now ≡ BODY_LEN }
+    ensures found { IfSome result (λ found. FitsBody found × BeginsWith body.now found) }
+    ensures none { IfNone result ((other : Catalog) → FitsBody other → BeginsWith body.now other → ⊥) }
+{
+    match body[FLAG_AT] {
+        NO_FLAG => Some(catalog_with(body, None)),
+        PROGRESS_FLAG => Some(catalog_with(body, Some(progress_in(body)?))),
+        _ => None,
+    }
+}
+
+// Whether a component has a first page and pages, in a store of so many pages, and at least one entry.
+fn is_in_range(component: &Component, pages: u64) -> bool
+    ensures { IsTrue result ↔ IsInRange pages component.now }
+{
+    u64::from(component.first) < pages
+        && 1 <= component.pages
+        && u64::from(component.pages) <= pages
+        && 1 <= component.entries
+        && LEAST_WEIGHT <= component.weight
 }
 
 // Whether a catalogue of a store of so many pages may have this component.
@@ -134,12 +234,21 @@ fn is_component(component: &Component, pages: u64) -> bool
         && component.pages == 0
         && component.entries == 0
         && component.weight == 0;
-    let is_in_range = u64::from(component.first) < pages
-        && 1 <= component.pages
-        && u64::from(component.pages) <= pages
-        && 1 <= component.entries
-        && LEAST_WEIGHT <= component.weight;
-    is_empty || is_in_range
+    is_empty || is_in_range(component, pages)
+}
+
+// Whether a catalogue of a store of so many pages, which has this C1', may name this progress of a deep merge, if any.
+fn is_progress(progress: &Option<Progress>, c1x: &Component, pages: u64) -> bool
+    ensures { IsTrue result ↔ IfSome progress.now (IsProgressOf pages c1x.now) }
+{
+    match progress {
+        None => true,
+        Some(progress) => {
+            is_in_range(c1x, pages)
+                && is_in_range(&progress.output, pages)
+                && u64::from(progress.next) < pages
+        }
+    }
 }
 
 // Whether these are the three lanes, in some order.
@@ -161,4 +270,5 @@ pub fn is_catalog(catalog: &Catalog, geo: &Geometry) -> bool
         && is_component(&catalog.c1, pages)
         && is_component(&catalog.c1x, pages)
         && is_component(&catalog.c2, pages)
+        && is_progress(&catalog.progress, &catalog.c1x, pages)
 }

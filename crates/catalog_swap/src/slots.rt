@@ -6,11 +6,11 @@ ghost use Rattle.blsm_model.specs.Sizes.{Sizes};
 ghost use Rattle.blsm_model.specs.Geometry.{file_length};
 ghost use Rattle.catalog_swap.specs.declared.catalog.Catalog.{Catalog};
 ghost use Rattle.catalog_swap.specs.declared.slots.SlotsBroken.TheVariants.{Damaged};
-ghost use Rattle.catalog_swap.specs.Text.{IsCatalog, body_text};
+ghost use Rattle.catalog_swap.specs.Text.{IsCatalog, BeginsWith};
 ghost use Rattle.catalog_swap.specs.Slots.{slot_of, other_slot, odd_slot, even_slot};
 ghost use Rattle.catalog_swap.specs.Reading.{TellsNewest, TellsSlot};
 
-use crate::catalog::{BODY_LEN, Catalog, catalog_in, is_catalog, is_plain};
+use crate::catalog::{BODY_LEN, Catalog, catalog_in, is_catalog};
 use blsm_model::Geometry;
 use disk_trait::Disk;
 use gated_write::OPEN;
@@ -23,8 +23,11 @@ pub const ODD_SLOT: u64 = 512;
 /// Where the slot of the even versions begins.
 pub const EVEN_SLOT: u64 = 1_024;
 
-/// The length of a slot, in bytes.
+/// The length of a slot at most, in bytes.
 pub const SLOT_LEN: usize = BODY_LEN + 1;
+
+/// The length of a slot that names no deep merge's progress, in bytes.
+pub const PLAIN_LEN: usize = 85;
 
 /// Why no catalogue was read.
 #[derive(Clone, Copy, PartialEq, Eq, Debug, Drop, Error)]
@@ -73,11 +76,11 @@ pub fn other_slot(version: u64) -> u64
 // The catalogue of an open slot, if its body is valid.
 fn valid_catalog(body: &[u8], geo: &Geometry, at: u64) -> Option<Catalog>
     requires { length body.now ≡ BODY_LEN }
-    ensures found { IfSome result (λ found. IsCatalog geo.now found × (slot_of found.version ≡ at) × (body.now ≡ body_text found)) }
-    ensures none { IfNone result ((other : Catalog) → IsCatalog geo.now other → slot_of other.version ≡ at → body.now ≡ body_text other → ⊥) }
+    ensures found { IfSome result (λ found. IsCatalog geo.now found × (slot_of found.version ≡ at) × BeginsWith body.now found) }
+    ensures none { IfNone result ((other : Catalog) → IsCatalog geo.now other → slot_of other.version ≡ at → BeginsWith body.now other → ⊥) }
 {
-    let found = catalog_in(body);
-    if is_plain(body) && is_catalog(&found, geo) && slot_of(found.version) == at {
+    let found = catalog_in(body)?;
+    if is_catalog(&found, geo) && slot_of(found.version) == at {
         Some(found)
     } else {
         None

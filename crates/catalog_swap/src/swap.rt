@@ -8,11 +8,11 @@ ghost use Rattle.gated_write.specs.Gated.{IsClosed};
 ghost use Rattle.blsm_model.specs.Geometry.{file_length};
 ghost use Rattle.catalog_swap.specs.declared.catalog.Catalog.{Catalog};
 ghost use Rattle.blsm_model.specs.Lanes.{spare_of, region_start};
-ghost use Rattle.catalog_swap.specs.Text.{slot_text};
+ghost use Rattle.catalog_swap.specs.Text.{HasKey, slot_text};
 ghost use Rattle.catalog_swap.specs.Slots.{slot_of, other_slot, slot_length, IsNewest};
 ghost use Rattle.catalog_swap.specs.Swap.{prepared, IsSettled, IsPrepared, IsReady, IsNext, IsEither};
 
-use crate::catalog::{Catalog, body_of};
+use crate::catalog::{BODY_LEN, Catalog, put_body};
 use crate::slots::{other_slot, slot_of};
 use blsm_model::Geometry;
 use disk_trait::Disk;
@@ -93,9 +93,12 @@ pub fn commit<D: Disk>(disk: &mut D, geo: &Geometry, new: &Catalog) -> Result<()
         → IsReady geo.now now (D.state disk.old) → IsEither geo.now now new.now (D.state disk.new).bytes }
     ensures committed { OnOk result (IsTrue (D.state disk.old).is_honest → (now : Catalog) → IsNext geo.now now new.now
         → IsReady geo.now now (D.state disk.old) → IsSettled geo.now new.now (D.state disk.new)) }
+    ensures key { HasKey new.now.progress }
     ensures written { OnOk result (HasWritten (slot_of new.now.version) (slot_text new.now) (D.state disk.old) (D.state disk.new)) }
     ensures effect { Affects (span (slot_of new.now.version) slot_length) (file_length geo.now) 4 (D.state disk.old) (D.state disk.new) }
     ensures faults { TellsFaults result (D.state disk.old) (D.state disk.new) }
 {
-    write_gated(disk, slot_of(new.version), &body_of(new))
+    let mut body = [0; BODY_LEN];
+    let len = put_body(&mut body, new);
+    write_gated(disk, slot_of(new.version), &body[..len])
 }

@@ -1,8 +1,9 @@
 // Passes and deep merges of a few keys, by what they hold.
 use crate::asserts::{assert_same, assert_same_at, assert_that};
-use crate::samples::{add, del, key, put, value};
-use crate::stores::{File, check_reply, fresh, geometry, make, work, write};
-use blsm_model::{Annals, Component, Geometry, Key, Op, ShortReply};
+use crate::samples::{add, del, key, put, put_of, value};
+use crate::stores::{File, check_reply, fresh, geometry, make, smallest, work, write};
+use blsm_model::{Annals, CALLERS, Component, Geometry, Key, Op, ShortReply};
+use catalog_swap::Catalog;
 use disk_mem::MemDisk;
 use page_file::no_component;
 use record_delta::Rec;
@@ -218,4 +219,67 @@ fn a_tombstone_and_a_delta_over_two_bases(rt: HostRuntime) {
     let y = base(&rt, b"y", 4, b"");
     let z = base(&rt, b"z", 1, b"");
     check_two(&rt, alloc, &mut file, &c2, [y, z]);
+}
+
+// The least store behind so many puts of rising keys, each of which weighs 512 bytes and pays for itself.
+fn after_puts(rt: &impl Abort, alloc: Global, puts: usize) -> Core<MemDisk> {
+    let mut core = fresh(rt, alloc, smallest(rt));
+    for number in 0..puts {
+        write(alloc, &mut core, 0, put_of(rt, number));
+    }
+    core
+}
+
+// The newest catalogue that it leaves.
+fn left_by(rt: &impl Abort, core: Core<MemDisk>) -> Catalog {
+    let (disk, _, _) = core.end();
+    File::over(rt, smallest(rt), disk).newest(rt)
+}
+
+// How many pages and entries a catalogue names, of which weight, and z.
+fn named(now: &Catalog) -> Option<(u32, u64, u64, u64)> {
+    match &now.progress {
+        Some(progress) => {
+            let output = &progress.output;
+            Some((output.pages, output.entries, output.weight, progress.z))
+        }
+        None => None,
+    }
+}
+
+// C1 rotates in the fifth version. The pass's swap behind that names what the deep merge has finished, and the deep merge's own swap nothing.
+#[test]
+fn a_pass_names_what_the_deep_merge_has_finished(rt: HostRuntime) {
+    let alloc = rt.alloc();
+    let finished = Some((20, 140, 71_680, 71_680));
+    for &(puts, version, wanted) in &[(185, 5, None), (200, 6, finished), (215, 7, None)] {
+        let now = left_by(&rt, after_puts(&rt, alloc, puts));
+        assert_same_at(&rt, now.version, version, puts);
+        assert_same_at(&rt, named(&now), wanted, puts);
+    }
+}
+
+// A turn of a seat: of a caller's work, or of a worker.
+fn turn_of(seat: u32) -> Kind {
+    if seat < CALLERS {
+        Kind::WorkTurn
+    } else {
+        Kind::WorkerTurn
+    }
+}
+
+// The third turn swaps the pass.
+#[test]
+fn a_turn_names_what_the_deep_merge_has_finished(rt: HostRuntime) {
+    let alloc = rt.alloc();
+    let finished = Some((19, 133, 68_096, 68_096));
+    for seat in [0, CALLERS] {
+        let mut core = after_puts(&rt, alloc, 196);
+        for _ in 0..3 {
+            make(alloc, &mut core, seat, turn_of(seat));
+        }
+        let now = left_by(&rt, core);
+        assert_same_at(&rt, now.version, 6, seat);
+        assert_same_at(&rt, named(&now), finished, seat);
+    }
 }

@@ -96,7 +96,7 @@ impl File {
         let space = Space::reserve(alloc, geo.pages() as u32)?;
         let merges = MergeRoom::reserve(alloc)?;
         let guides = GuideRoom::reserve(alloc, &geo, 0)?;
-        let runs = Runs::open(&geo, first_catalogue(), space, merges, guides);
+        let runs = Runs::open(&geo, first_catalogue(), space, merges, guides, None);
         let log = LoggedTables::open(
             Table::reserve(alloc, geo.high_mark())?,
             Table::reserve(alloc, geo.high_mark())?,
@@ -141,6 +141,7 @@ fn first_catalogue() -> Catalog
         c1: no_component(),
         c1x: no_component(),
         c2: no_component(),
+        progress: None,
     }
 }
 

@@ -43,7 +43,7 @@ impl Model for Deep {
 
     ghost Value = { DeepState };
 
-    ghost view = { λ d. record { writer = d.merge.writer; c1x = d.c1x; c2 = d.merge.older; at = d.merge.at; closed = d.merge.closed; left = d.merge.left } };
+    ghost view = { λ d. record { writer = d.merge.writer; c1x = d.c1x; c2 = d.merge.older; at = d.merge.at; closed = d.merge.closed; left = d.merge.left; rest = d.merge.rest } };
 }
 
 impl Deep {

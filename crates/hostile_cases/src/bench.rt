@@ -9,14 +9,16 @@ use std::sync::Wait;
 use std::thread::Threads;
 use text_io::{FaultlessSink, FaultlessSource, Sink, Source};
 
-// A store of the smallest geometry with short quanta.
-const MAKE: &str = "blsm make store --half 17408 --ratio 2 --quantum 1024";
+// A store of the smallest geometry.
+const MAKE: &str = "blsm make store --half 17408 --ratio 2";
 
 const RUN: &str = "blsm run store --workers 0";
 
 const SERVE: &str = "blsm serve store";
 
 const CHECK: &str = "blsm check store";
+
+const SETTLE: &str = "blsm settle store";
 
 /// How many bytes a text may have.
 pub const TEXT_LIMIT: u64 = 1 << 18;
@@ -82,12 +84,13 @@ pub fn call<R: Threads + Wait + Sync>(
     Ok(Answer { status, text, disk })
 }
 
-/// The words of the calls, and the disk of a store that was just made.
+/// The words of the calls, and the disk of the store that the cases begin with.
 #[derive(Drop)]
 pub struct Bench {
     run: Vec<String>,
     serve: Vec<String>,
     check: Vec<String>,
+    settle: Vec<String>,
     made: PageDisk,
 }
 
@@ -111,6 +114,7 @@ impl Bench {
             run: words_of(alloc, RUN)?,
             serve: words_of(alloc, SERVE)?,
             check: words_of(alloc, CHECK)?,
+            settle: words_of(alloc, SETTLE)?,
             made: make(rt, alloc, MAKE)?,
         })
     }
@@ -126,7 +130,18 @@ impl Bench {
         Ok(())
     }
 
-    /// The disk of a store that was just made, on which no call was answered.
+    /// Has the cases to come begin with the store as a script leaves it.
+    pub fn fill<R: Threads + Wait + Sync>(
+        &mut self,
+        rt: &R,
+        alloc: Global,
+        script: &str,
+    ) -> Result<(), Departure> {
+        self.made = self.after(rt, alloc, script)?;
+        Ok(())
+    }
+
+    /// The disk of the store, on which no call was answered.
     pub fn fresh(&self) -> Result<PageDisk, Departure> {
         Ok(self.made.copied()?)
     }
@@ -179,13 +194,26 @@ impl Bench {
         call(rt, alloc, &self.check, disk, "")
     }
 
-    /// The store once a script was run over it, which must end well.
+    /// Settles the store on a disk.
+    pub fn settle<R: Threads + Wait + Sync>(
+        &self,
+        rt: &R,
+        alloc: Global,
+        disk: PageDisk,
+    ) -> Result<Answer, Departure> {
+        call(rt, alloc, &self.settle, disk, "")
+    }
+
+    /// The store once a script was run over it, which must end well; without a script, as it is, since an opening settles it.
     pub fn after<R: Threads + Wait + Sync>(
         &self,
         rt: &R,
         alloc: Global,
         script: &str,
     ) -> Result<PageDisk, Departure> {
+        if script.is_empty() {
+            return self.fresh();
+        }
         let answer = self.run(rt, alloc, self.fresh()?, script)?;
         if answer.status != Status::Done {
             return Err(Departure::found(alloc, "first run", 0, &answer.text));

@@ -1,5 +1,6 @@
 //! Calls of the program, one after the other over one disk, and what each answers.
 use crate::bench::call;
+use crate::damage::change;
 use crate::departure::Departure;
 use crate::disk::PageDisk;
 use crate::runs::read_head;
@@ -100,7 +101,7 @@ fn check_stopped<R: Threads + Wait + Sync>(
     Ok(check_line(rt, alloc, scripts, disk, line)?.copied()?)
 }
 
-// A call, or zeros that are written.
+// A call, a change of the disk, or zeros that are written.
 fn check_step<R: Threads + Wait + Sync>(
     rt: &R,
     alloc: Global,
@@ -113,6 +114,10 @@ fn check_step<R: Threads + Wait + Sync>(
         write_zeros(alloc, &mut disk, count)?;
         return Ok(disk);
     }
+    if let Some(word) = step.strip_prefix("change ") {
+        change(alloc, &mut disk, word)?;
+        return Ok(disk);
+    }
     match step.strip_prefix("stop ") {
         Some(step) => check_stopped(rt, alloc, scripts, disk, step),
         None => check_line(rt, alloc, scripts, disk, step),
@@ -120,8 +125,8 @@ fn check_step<R: Threads + Wait + Sync>(
 }
 
 /// Checks a case: steps over a disk without a byte, parted by bars. A step is the words of a call, and behind a `<` the script that it reads, and
-/// then its status and its lines, of which two dots leave out the first ones, or all; or a number of zeros that are written. Before the words a call
-/// of the disk may stand at which it stops.
+/// then its status and its lines, of which two dots leave out the first ones, or all; or bytes that change, or a number of zeros that are written.
+/// Before the words a call of the disk may stand at which it stops.
 pub fn check<R: Threads + Wait + Sync>(
     rt: &R,
     alloc: Global,

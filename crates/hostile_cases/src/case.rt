@@ -8,7 +8,7 @@ use std::alloc::Global;
 use std::sync::Wait;
 use std::thread::Threads;
 
-/// Does what a line says: names a script, makes another store for the cases to come, or checks a case.
+/// Does what a line says: names a script, makes another store for the cases to come, fills it, or checks a case.
 pub fn check<R: Threads + Wait + Sync>(
     rt: &R,
     alloc: Global,
@@ -22,10 +22,12 @@ pub fn check<R: Threads + Wait + Sync>(
     match word {
         "script" => scripts.add(rest),
         "store" => bench.remake(rt, alloc, rest),
+        "fill" => bench.fill(rt, alloc, scripts.get(rest)?),
         "fail" => runs::check(rt, alloc, bench, scripts, Failing::Alone, rest),
         "stop" => runs::check(rt, alloc, bench, scripts, Failing::AndAfter, rest),
         "fails" => sweeps::check(rt, alloc, bench, scripts, Failing::Alone, rest),
         "stops" => sweeps::check(rt, alloc, bench, scripts, Failing::AndAfter, rest),
+        "openings" => sweeps::check_openings(rt, alloc, bench, scripts.get(rest)?),
         "alike" => alike::check(rt, alloc, bench, scripts.get(rest)?),
         "sessions" => sessions::check(rt, alloc, bench, scripts.get(rest)?),
         "calls" => calls::check(rt, alloc, scripts, rest),

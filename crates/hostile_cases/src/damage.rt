@@ -73,8 +73,8 @@ fn write(alloc: Global, disk: &mut PageDisk, at: u64, bytes: &[u8]) -> Result<()
     }
 }
 
-// Makes a change of a disk: bytes at a place, a byte more at its end, or one less.
-fn change(alloc: Global, disk: &mut PageDisk, change: &str) -> Result<(), Departure> {
+/// Makes a change of a disk: bytes at a place, a byte more at its end, or one less.
+pub fn change(alloc: Global, disk: &mut PageDisk, change: &str) -> Result<(), Departure> {
     if change == "cut" {
         disk.cut();
         return Ok(());
@@ -87,7 +87,7 @@ fn change(alloc: Global, disk: &mut PageDisk, change: &str) -> Result<(), Depart
     write(alloc, disk, at, &bytes)
 }
 
-// Both commands answer the same, with the status and the line of it.
+// Each command answers the same, with the status and the line of it.
 fn check_answer(alloc: Global, answer: &Answer, wanted: &str) -> Result<(), Departure> {
     let status = answer.status.code();
     let found = format!(in alloc; "{status} {}", answer.text)?;
@@ -104,7 +104,8 @@ fn read_case(rest: &str) -> Option<(&str, &str, &str)> {
     Some((name, changes, wanted))
 }
 
-/// Checks a case: a script, changes of the file of a store once the script was run over it, and the status and the line that `check` and `run` answer then.
+/// Checks a case: a script, changes of the file of a store once the script was run over it, and the status and the line that `check`, `settle`
+/// and `run` answer then.
 pub fn check<R: Threads + Wait + Sync>(
     rt: &R,
     alloc: Global,
@@ -120,6 +121,8 @@ pub fn check<R: Threads + Wait + Sync>(
         change(alloc, &mut disk, word)?;
     }
     let answer = bench.check(rt, alloc, disk)?;
+    check_answer(alloc, &answer, wanted)?;
+    let answer = bench.settle(rt, alloc, answer.disk)?;
     check_answer(alloc, &answer, wanted)?;
     let answer = bench.run(rt, alloc, answer.disk, "1 get x\n")?;
     check_answer(alloc, &answer, wanted)

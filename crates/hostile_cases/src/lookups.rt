@@ -98,26 +98,26 @@ fn is_any(maps: &[Map], history: &str) -> bool {
     maps.iter().any(|map| map.is_told(history))
 }
 
-// An image of a disk opens, and one of these maps is found in it.
-fn check_image<R: Threads + Wait + Sync>(
+/// An image of a disk, of this number, opens, and one of these maps, which are of the same keys, is found in it.
+pub fn check_image<R: Threads + Wait + Sync>(
     rt: &R,
     alloc: Global,
     bench: &Bench,
-    disk: &PageDisk,
-    number: usize,
+    image: PageDisk,
+    number: u64,
     maps: &[Map],
 ) -> Result<(), Departure> {
     let Some(first) = maps.first() else {
         return Err(Departure::NotACase);
     };
-    let answer = bench.run(rt, alloc, disk.image(number)?, &first.script)?;
+    let answer = bench.run(rt, alloc, image, &first.script)?;
     if answer.status != Status::Done || !is_any(maps, &answer.text) {
-        return Err(Departure::found(alloc, "image", number as u64, &answer.text));
+        return Err(Departure::found(alloc, "image", number, &answer.text));
     }
     Ok(())
 }
 
-/// Each image of a disk opens, and one of these maps, which are of the same keys, is found in it.
+/// Each image of a disk opens, and one of these maps is found in it.
 pub fn check_images<R: Threads + Wait + Sync>(
     rt: &R,
     alloc: Global,
@@ -126,7 +126,7 @@ pub fn check_images<R: Threads + Wait + Sync>(
     maps: &[Map],
 ) -> Result<(), Departure> {
     for number in 0..disk.images() {
-        check_image(rt, alloc, bench, disk, number, maps)?;
+        check_image(rt, alloc, bench, disk.image(number)?, number as u64, maps)?;
     }
     Ok(())
 }

@@ -9,9 +9,9 @@ pub fn is_remark(line: &str) -> bool {
     line.is_empty() || line.starts_with("#")
 }
 
-/// A line that names no script and makes no store.
+/// A line that names no script, and makes no store and fills none.
 pub fn is_case(line: &str) -> bool {
-    !line.starts_with("script ") && !line.starts_with("store ")
+    !line.starts_with("script ") && !line.starts_with("store ") && !line.starts_with("fill ")
 }
 
 /// Scripts by their names.
@@ -60,6 +60,33 @@ pub fn lines_of(alloc: Global, short: &str) -> Result<String, Departure> {
     Ok(text)
 }
 
+// Pushes lines, in which `#` stands for a number.
+fn push_numbered(text: &mut String, lines: &str, number: &str) -> Result<(), Departure> {
+    let mut parts = lines.split("#");
+    text.push_str(parts.next().unwrap_or(""))?;
+    for part in parts {
+        text.push_str(number)?;
+        text.push_str(part)?;
+    }
+    Ok(())
+}
+
+// The lines that semicolons part. Behind `200 * ` they stand so many times, and `#` in them is the number of the time, from 100 on.
+fn counted(alloc: Global, short: &str) -> Result<String, Departure> {
+    let Some((count, short)) = short.split_once(" * ") else {
+        return lines_of(alloc, short);
+    };
+    let Some(count) = number(count) else {
+        return Err(Departure::NotACase);
+    };
+    let lines = lines_of(alloc, short)?;
+    let mut text = String::new(alloc);
+    for time in 100..count.saturating_add(100) {
+        push_numbered(&mut text, &lines, format!(in alloc; "{time}")?.as_str())?;
+    }
+    Ok(text)
+}
+
 impl Scripts {
     pub fn new(alloc: Global) -> Scripts {
         Scripts {
@@ -68,14 +95,20 @@ impl Scripts {
         }
     }
 
-    /// Names a script.
+    /// Names a script, or goes on with the one of this name.
     pub fn add(&mut self, rest: &str) -> Result<(), Departure> {
         let Some((name, lines)) = cut(rest) else {
             return Err(Departure::NotACase);
         };
+        let more = counted(self.alloc, lines)?;
+        for (other, text) in &mut self.named {
+            if other.as_str() == name {
+                text.push_str(&more)?;
+                return Ok(());
+            }
+        }
         let name = String::from_str(self.alloc, name)?;
-        let text = lines_of(self.alloc, lines)?;
-        self.named.push((name, text))?;
+        self.named.push((name, more))?;
         Ok(())
     }
 

@@ -1,8 +1,9 @@
 //! A run of which each call of the disk fails in turn: its history is right, and each image shows the writes that were done.
 use crate::bench::{Answer, Bench};
 use crate::departure::Departure;
+use crate::disk::PageDisk;
 use crate::judge::{Judge, keys_of};
-use crate::lookups::{Map, check_images};
+use crate::lookups::{Map, check_image, check_images};
 use crate::runs::{Failing, disk_that_fails};
 use crate::scripts::Scripts;
 use blsm_model::{Key, Line, Write};
@@ -147,6 +148,63 @@ pub fn check<R: Threads + Wait + Sync>(
             return check_well(alloc, &tried, &answer);
         }
         check_failed(rt, alloc, bench, &tried, call, &answer)?;
+    }
+    Err(Departure::found(alloc, "calls", MOST_CALLS, ""))
+}
+
+// The writes of a script, as what is found of their keys.
+fn map_behind(alloc: Global, script: &str) -> Result<Map, Departure> {
+    let tried = read(alloc, script)?;
+    let writes = writes_of(alloc, tried.script.lines())?;
+    Map::after(alloc, &tried.keys, &writes)
+}
+
+// Opens the store on a disk, with a stop at a call. Answers whether it came so far, and a disk with what this one reads as then.
+fn stopped_opening<R: Threads + Wait + Sync>(
+    rt: &R,
+    alloc: Global,
+    bench: &Bench,
+    disk: &PageDisk,
+    call: u64,
+) -> Result<(bool, PageDisk), Departure> {
+    let mut disk = disk.copied()?;
+    disk.stop(call);
+    let answer = bench.run(rt, alloc, disk, "")?;
+    let has_stopped = answer.disk.faults() > 0;
+    Ok((has_stopped, answer.disk.copied()?))
+}
+
+// Opens the store on a disk three times, the first two with a stop at a call. Answers whether the first one came so far.
+fn check_opening<R: Threads + Wait + Sync>(
+    rt: &R,
+    alloc: Global,
+    bench: &Bench,
+    disk: &PageDisk,
+    maps: &[Map],
+    call: u64,
+) -> Result<bool, Departure> {
+    let (has_stopped, once) = stopped_opening(rt, alloc, bench, disk, call)?;
+    if has_stopped {
+        let (_, twice) = stopped_opening(rt, alloc, bench, &once, call)?;
+        check_image(rt, alloc, bench, twice, call, maps)?;
+    }
+    Ok(has_stopped)
+}
+
+/// Opens the store that a script leaves, with a stop at each call of the disk in turn, then what the disk reads as, with a stop at the same call, and
+/// that once more: the writes of the script are found.
+pub fn check_openings<R: Threads + Wait + Sync>(
+    rt: &R,
+    alloc: Global,
+    bench: &Bench,
+    script: &str,
+) -> Result<(), Departure> {
+    let maps = [map_behind(alloc, script)?];
+    let disk = bench.after(rt, alloc, script)?;
+    for call in 1..MOST_CALLS {
+        if !check_opening(rt, alloc, bench, &disk, &maps, call)? {
+            return Ok(());
+        }
     }
     Err(Departure::found(alloc, "calls", MOST_CALLS, ""))
 }

@@ -8,6 +8,7 @@ use Rattle.std.specs.List.Sorted.{IsStrictlySortedBy}
 use Rattle.std.proofs.lemmas.Bool.{false≢true}
 use Rattle.std.proofs.lemmas.List.Sums.{sum_by-cons}
 use Rattle.blsm_model.specs.Components.{no_page}
+use Rattle.blsm_model.specs.declared.component.Component.{Component}
 use Rattle.blsm_model.specs.declared.key.Key.{Key}
 use Rattle.blsm_model.specs.Sizes.{Sizes}
 use Rattle.record_delta.specs.declared.record.Rec.{Rec}
@@ -15,9 +16,10 @@ use Rattle.record_delta.specs.Records.{weight}
 use Rattle.record_delta.specs.Entries.{Entries, entries_weight, is_above, above}
 use Rattle.page_space.specs.Space.{SpaceState}
 use Rattle.page_file.specs.Entry.{AreRising}
+use Rattle.page_file.specs.Page.{most_used}
 use Rattle.run_cursor.specs.Cursor.{CursorState, from_head}
 use Rattle.run_writer.specs.Writer.{WriterState, IsCounted}
-use Rattle.merge_ends.specs.Input.{head_above, left_in, IsAtEnd, IsReady, IsInput}
+use Rattle.merge_ends.specs.Input.{head_above, left_in, FillsPages, IsAtEnd, IsReady, IsInput}
 use Rattle.merge_ends.specs.Newer.{at_hand, component_left, components_above, newer_calls, newer_left, IsNewer, IsNewerReady}
 use Rattle.merge_ends.specs.Output.{HasRoom}
 use Rattle.merge_ends.proofs.GroupLemmas.{further}
@@ -112,6 +114,21 @@ pub left_covers : (turned : Bool) (at closed next : Option Key) (left now old af
     → after ≤ now → now ≡ before → (IsSome closed → before ≤ old) → IsSome next → after ≤ left
 left_covers true at closed next left now old after before is left_is less same covers some = omega (arith, left_is, less)
 left_covers false at closed next left now old after before is left_is less same covers some = let was = covers (subst (λ (k : Option Key). IsSome k) is some) in omega (arith, left_is, less, same, was)
+
+-- and the part in which the older input stood then
+pub part_told : (turned : Bool) (at closed next : Option Key) (here behind told : Component) (P : Option Key → Component → Type 0) → next ≡ (if turned then at else closed)
+    → told ≡ (if turned then here else behind) → P at here → P closed behind → P next told
+part_told true at closed next here behind told P is told_is now was = subst (λ (k : Option Key). P k told) (sym is) (subst (P at) (sym told_is) now)
+part_told false at closed next here behind told P is told_is now was = subst (λ (k : Option Key). P k told) (sym is) (subst (P closed) (sym told_is) was)
+
+pub part_covers : (turned : Bool) (at closed next : Option Key) (left now old : ℕ) (here behind told : Component) → next ≡ (if turned then at else closed)
+    → left ≡ (if turned then now else old) → told ≡ (if turned then here else behind) → here.weight ≤ now + most_used → FillsPages here
+    → (IsSome closed → (behind.weight ≤ old + most_used) × FillsPages behind) → IsSome next → (told.weight ≤ left + most_used) × FillsPages told
+part_covers true at closed next left now old here behind told is left_is told_is light fills covers some =
+    subst (λ (part : Component). (part.weight ≤ left + most_used) × FillsPages part) (sym told_is) (omega (arith, left_is, light), fills)
+part_covers false at closed next left now old here behind told is left_is told_is light fills covers some =
+    let was = covers (subst (λ (k : Option Key). IsSome k) is some) in
+    subst (λ (part : Component). (part.weight ≤ left + most_used) × FillsPages part) (sym told_is) (omega (arith, left_is, was.0), was.1)
 
 -- it is a number of 64 bits
 pub left_small : (space : SpaceState) (writer : WriterState) (left some : ℕ) → HasRoom space writer left → IsCounted writer → space.pages ≤ no_page → some ≤ left → some < 2 ^ 64

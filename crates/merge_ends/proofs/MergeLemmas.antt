@@ -83,6 +83,10 @@ all_closed writer role page closed out is many =
 pub none_closed : (closed : Option Key) → closed ≡ None → IsSome closed → ⊥
 none_closed closed h1 h2 = grind (arith, common_steps, nat_tests)
 
+-- a component is no table
+pub no_table : (input : Option CursorState) → input ≡ None → IsSome input → ⊥
+no_table input h1 h2 = grind (arith, common_steps, nat_tests)
+
 -- ---- the open page
 
 -- more is to come of components than was pushed
@@ -140,6 +144,8 @@ module _ {settles : Bool} {sizes : Sizes} {file : List ℕ} {space : SpaceState}
         out_is = is.out_is ∙ sym (ap (λ (l : Entries). kept settles (folded_over l (up_to merge.at under))) same);
         closed_up = is.closed_up;
         left_is = is.left_is;
+        here_is = is.here_is;
+        behind_is = is.behind_is;
         closed_is = is.closed_is ∙ sym (ap (λ (l : Entries). kept settles (folded_over l (up_to merge.closed under))) closed_same);
       }
 

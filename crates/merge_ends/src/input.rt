@@ -5,14 +5,14 @@ ghost use Rattle.blsm_model.specs.Geometry.{file_length};
 ghost use Rattle.record_delta.specs.Entries.{Entries};
 ghost use Rattle.page_space.specs.Space.{SpaceState};
 ghost use Rattle.page_file.specs.File.{Reads};
-ghost use Rattle.run_cursor.specs.Cursor.{IsDamageAt};
-ghost use Rattle.merge_ends.specs.Input.{head_above, left_in, IsReady, IsBehind, IsInput};
+ghost use Rattle.run_cursor.specs.Cursor.{IsDamageAt, started};
+ghost use Rattle.merge_ends.specs.Input.{head_above, left_in, IsReady, IsBehind, FillsPages, IsInPart, IsInput};
 
 use blsm_model::{Geometry, Key};
 use disk_trait::Disk;
 use page_file::Broken;
 use record_delta::weight;
-use run_cursor::Cursor;
+use run_cursor::{Cursor, Walk};
 
 // Whether a cursor is at an entry above a key.
 fn is_above(cursor: &Cursor, at: &Option<Key>) -> bool
@@ -69,4 +69,38 @@ pub fn go_above<D: Disk>(
         return Ok(());
     }
     cursor.advance(disk, geo)
+}
+
+/// The same of a walk over an input, which comes to the part from the page of that entry on: where the part in which it stands has all that the
+/// input has above the key, so has that one.
+pub(crate) fn walk_above<D: Disk>(
+    walk: &mut Walk,
+    disk: &mut D,
+    geo: &Geometry,
+    at: &Option<Key>,
+) -> Result<(), Broken>
+    requires behind { IsBehind at.now walk.old.cursor }
+    requires length { IsTrue (D.state disk.old).tells_bytes → length (D.state disk.old).bytes ≡ file_length geo.now }
+    ensures input { (space : SpaceState) (role : ℕ) (pages : List ℕ) (entries : Entries) → IsTrue (D.state disk.old).is_honest
+        → IsInput geo.now (D.state disk.old).bytes space role at.now walk.old.cursor pages entries → result ≢ Err Broken.Fault
+        → (result ≡ Ok tt) × IsInput geo.now (D.state disk.new).bytes space role at.now walk.new.cursor pages entries }
+    ensures part { (space : SpaceState) (role : ℕ) (pages : List ℕ) (entries : Entries) → IsTrue (D.state disk.old).is_honest
+        → IsInput geo.now (D.state disk.old).bytes space role at.now walk.old.cursor pages entries
+        → IsInput geo.now (D.state disk.old).bytes space role at.now (started walk.old.here) pages entries
+        → OnOk result (IsInput geo.now (D.state disk.new).bytes space role at.now (started walk.new.here) pages entries) }
+    ensures in_part { IsInPart walk.old.cursor walk.old.here → OnOk result (IsInPart walk.new.cursor walk.new.here × FillsPages walk.new.here) }
+    ensures ready { OnOk result (IsReady at.now walk.new.cursor × (left_in at.now walk.new.cursor ≡ left_in at.now walk.old.cursor)) }
+    ensures kept { IsErr result → walk.new ≡ walk.old }
+    ensures damaged { (n : ℕ) → result ≡ Err (Broken.Damaged n) → IsTrue (D.state disk.old).tells_bytes
+        → IsDamageAt geo.now walk.new.cursor n (D.state disk.new).bytes }
+    ensures one_a_page { OnOk result ((D.state disk.new).clock + walk.new.cursor.pages ≤ (D.state disk.old).clock + walk.old.cursor.pages) }
+    ensures reads { Reads (file_length geo.now) 1 result (D.state disk.old) (D.state disk.new) }
+{
+    if is_above(&walk.cursor, at) {
+        return Ok(());
+    }
+    let part = walk.next_part(geo);
+    walk.cursor.advance(disk, geo)?;
+    walk.here = part;
+    Ok(())
 }

@@ -23,30 +23,31 @@ ghost use Rattle.merge_ends.specs.Merge.{finished_of, resumed, HasFinished, IsFr
 ghost use Rattle.merge_ends.specs.Merge.{started, progress, group_calls, quantum_calls, Covers, IsMerging};
 
 use crate::finished::Finished;
-use crate::input::{go_above, is_through, left_above};
+use crate::input::{is_through, left_above, walk_above};
 use crate::newer::Newer;
 use crate::output::put;
 use bloom_bits::{Fences, Filter};
 use blsm_model::{Component, Geometry, Key};
 use disk_trait::Disk;
 use merge_step::lying;
-use page_file::Broken;
+use page_file::{Broken, no_component};
 use page_space::{Role, Space};
 use record_delta::Rec;
 use refusal::Failed;
-use run_cursor::Cursor;
+use run_cursor::{Cursor, Walk};
 use run_writer::Writer;
 use std::marker::Model;
 
 /// A merge of a newer input, which is lent at each call, into a component. Contracts see the run that it writes, its cursor over the component, the
-/// greatest key that it took, and the one up to which all is on closed pages of the run.
+/// greatest key that it took, the one up to which all is on closed pages of the run, and where the component goes on behind these.
 #[derive(Debug, Drop)]
 pub struct Merge {
     writer: Writer,
-    older: Cursor,
+    older: Walk,
     at: Option<Key>,
     closed: Option<Key>,
     left: u64,
+    behind: Component,
     // Where a group goes that isn't an entry of the older input as it lies, and the base of a delta. They last, so that no step makes them anew.
     room: Option<(Key, Rec)>,
     base: Option<Rec>,
@@ -57,7 +58,7 @@ impl Model for Merge {
 
     ghost Value = { MergeState };
 
-    ghost view = { λ m. record { writer = m.writer; older = m.older; at = m.at; closed = m.closed; left = m.left } };
+    ghost view = { λ m. record { writer = m.writer; older = m.older.cursor; at = m.at; closed = m.closed; left = m.left; rest = record { here = m.older.here; behind = m.behind } } };
 }
 
 fn copy_of(key: &Option<Key>) -> Option<Key>
@@ -97,6 +98,13 @@ fn left_behind<N: Newer>(
     }
 }
 
+// In which part the older input goes on behind the key that is told of the closed pages.
+fn part_behind(turned: bool, here: Component, behind: Component) -> Component
+    ensures { result ≡ (if turned then here else behind) }
+{
+    if turned { here } else { behind }
+}
+
 impl Merge {
     /// A merge that has taken nothing. Its run's filter gets so many bits, and filter and fences are empty. It calls no device.
     pub fn begin(
@@ -123,10 +131,11 @@ impl Merge {
         fences.clear();
         Merge {
             writer: Writer::start(role),
-            older: Cursor::start(older),
+            older: Walk::start(older),
             at: None,
             closed: None,
             left: 0,
+            behind: *older,
             room: None,
             base: None,
         }
@@ -152,10 +161,14 @@ impl Merge {
     {
         Merge {
             writer: Writer::resume(role, &done.output, done.next),
-            older,
+            older: Walk {
+                cursor: older,
+                here: no_component(),
+            },
             at: Some(done.key.copy()),
             closed: Some(done.key.copy()),
             left: done.left,
+            behind: no_component(),
             room: None,
             base: None,
         }
@@ -180,6 +193,14 @@ impl Merge {
         ensures { result ≡ self.now.left }
     {
         self.left
+    }
+
+    /// The part of the older input from the page on that had the head of its cursor when that key was told: what it has above the key is there. Where
+    /// no page is closed it is all of the input; of a merge that was taken up nothing is told before the next page is closed.
+    pub fn behind(&self) -> Component
+        ensures { result ≡ self.now.rest.behind }
+    {
+        self.behind
     }
 
     /// What is on closed pages of the run; `None` where no page is closed.
@@ -209,7 +230,7 @@ impl Merge {
     pub fn has_taken_older(&self) -> bool
         ensures { IsTrue result ↔ (left_in self.now.at self.now.older ≡ 0) }
     {
-        is_through(&self.older, &self.at)
+        is_through(&self.older.cursor, &self.at)
     }
 
     // Takes the next key group, and gives the weight of its records; 0 where nothing is left.
@@ -237,9 +258,9 @@ impl Merge {
         ensures same_kind { newer_calls (N.run newer.new) ≡ newer_calls (N.run newer.old) }
     {
         newer.go_above(disk, geo, &self.at)?;
-        go_above(&mut self.older, disk, geo, &self.at)?;
-        let taken = newer.group_with(&self.at, &self.older, &mut self.room);
-        let Some((key, rec, weight)) = lying(taken, self.older.peek(), &self.room) else {
+        walk_above(&mut self.older, disk, geo, &self.at)?;
+        let taken = newer.group_with(&self.at, &self.older.cursor, &mut self.room);
+        let Some((key, rec, weight)) = lying(taken, self.older.cursor.peek(), &self.room) else {
             return Ok(0);
         };
         let _pages = geo.pages();
@@ -257,7 +278,8 @@ impl Merge {
             &mut self.base,
         )?;
         let turned = self.writer.component().pages > pages;
-        self.left = left_behind(turned, newer, &self.older, &self.at, self.left);
+        self.left = left_behind(turned, newer, &self.older.cursor, &self.at, self.left);
+        self.behind = part_behind(turned, self.older.here, self.behind);
         tell_closed(&mut self.closed, turned, &self.at);
         self.at = Some(key.copy());
         Ok(weight)
@@ -296,12 +318,14 @@ impl Merge {
         ensures numbers { MergesOn geo.now (quantum_calls (N.run newer.old) geo.now.quantum) (TakesQuantum geo.now.quantum) (stage (progress self.old (N.run newer.old) (N.table newer.old)) space.old filter.old fences.old (D.state disk.old)) (stage (progress self.new (N.run newer.new) (N.table newer.new)) space.new filter.new fences.new (D.state disk.new)) result }
         // What isn't on closed pages yet stays light.
         ensures covers { Covers settles self.old (N.run newer.old) (N.table newer.old) → OnOk result (Covers settles self.new (N.run newer.new) (N.table newer.new)) }
-        ensures kept { IsErr result → (self.new.at ≡ self.old.at) × (self.new.closed ≡ self.old.closed) × (self.new.left ≡ self.old.left) }
+        ensures kept { IsErr result → (self.new.at ≡ self.old.at) × (self.new.closed ≡ self.old.closed) × (self.new.left ≡ self.old.left)
+            × (self.new.rest.behind ≡ self.old.rest.behind) }
         ensures same_table { N.table newer.new ≡ N.table newer.old }
     {
         let at = self.cursor();
         let closed = self.closed();
         let left = self.left();
+        let behind = self.behind;
         let quantum = geo.quantum();
         let mut taken = 0;
         while taken < quantum {
@@ -311,6 +335,7 @@ impl Merge {
                     self.at = at;
                     self.closed = closed;
                     self.left = left;
+                    self.behind = behind;
                     return Err(broken);
                 }
             };

@@ -35,8 +35,9 @@ use Rattle.page_file.specs.Component.{RunPage, AreChained, entries_of, first_num
 use Rattle.page_file.proofs.ComponentLemmas.{chain_split}
 use Rattle.page_space.specs.Space.{Claims, SpaceState}
 use Rattle.output_reading.specs.declared.output.Output.{Output}
-use Rattle.output_reading.specs.declared.progress.Progress.{Progress}
-use Rattle.output_reading.specs.Output.{IsDeparted, IsFront, IsOutputOf, page, whole, settled_fold, settled_up_to, weight_up_to}
+use Rattle.catalog_swap.specs.declared.catalog.Progress.{Progress}
+use Rattle.tree_file.specs.Output.{IsOutputOf, settled_fold, settled_up_to, weight_up_to}
+use Rattle.output_reading.specs.Output.{IsDeparted, IsFront, page, whole}
 use Rattle.page_file.specs.declared.file.Broken.{Broken}
 use Rattle.page_file.specs.declared.file.Broken.TheVariants.{Fault, Damaged}
 use Rattle.output_reading.specs.Walk.{

@@ -63,7 +63,8 @@ use Rattle.merge_step.proofs.MergedLemmas.{ahead, is_true, left, right, same, so
 use Rattle.merge_ends.specs.Input.{head_above, key_of}
 use Rattle.merge_ends.specs.Output.{IsUpTo}
 use Rattle.merge_ends.proofs.GroupLemmas.{further, newer_stays, older_stays, up_to_sorted}
-use Rattle.output_reading.specs.Output.{IsFront, settled_fold, settled_up_to, weight_up_to}
+use Rattle.tree_file.specs.Output.{settled_fold, settled_up_to, weight_up_to}
+use Rattle.output_reading.specs.Output.{IsFront}
 
 -- ---- a sorted list is what it has up to a key, and what it has above it
 

@@ -14,7 +14,8 @@ use Rattle.merge_step.proofs.TakenLemmas.{below_above}
 use Rattle.merge_ends.specs.Output.{IsUpTo}
 use Rattle.merge_ends.proofs.GroupLemmas.{group_none}
 use Rattle.output_reading.specs.declared.inputs.Inputs.{Inputs}
-use Rattle.output_reading.specs.Output.{IsFront, settled_up_to}
+use Rattle.tree_file.specs.Output.{settled_up_to}
+use Rattle.output_reading.specs.Output.{IsFront}
 use Rattle.record_delta.specs.Records.{weight}
 use Rattle.output_reading.specs.Walk.{AreInputs, AreReady, IsGroup, TellsStop}
 use Rattle.output_reading.proofs.FoldLemmas.{HasEnded, ends_none, ends_past, group_settled}

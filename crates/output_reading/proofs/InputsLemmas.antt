@@ -54,7 +54,7 @@ use Rattle.merge_ends.proofs.GroupLemmas.{
   up_to_none,
 }
 use Rattle.output_reading.specs.declared.inputs.Inputs.{Inputs}
-use Rattle.output_reading.specs.Output.{settled_fold, settled_up_to, weight_up_to}
+use Rattle.tree_file.specs.Output.{settled_fold, settled_up_to, weight_up_to}
 use Rattle.output_reading.specs.Walk.{AreBehind, AreInputs, AreReady, left_of, no_space}
 use Rattle.output_reading.proofs.FoldLemmas.{fronts, group_settled}
 

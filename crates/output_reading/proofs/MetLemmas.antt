@@ -486,6 +486,7 @@ goes_at sizes run entries cursor given file next here small g none two rise go =
           few = omega (arith, before.few, this.few, g.entries_is, g.pages_is, long, small);
           light = omega (arith, before.light, this.light, g.weight_is, g.pages_is, weighs, small);
           all = λ last. absurd (omega (arith, last, two));
+          enough = λ some. omega (arith, before.light, this.light, g.weight_is, g.pages_is, weighs, small, two);
         };
       };
     }

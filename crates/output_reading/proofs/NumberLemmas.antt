@@ -3,7 +3,7 @@ use Rattle.std.proofs.Common.{◌≡◌, ◌≢◌, ◌+◌, ◌≤◌, ◌<◌,
 use Rattle.page_space.specs.Space.{Claims, IsFree, IsSpace, SpaceState}
 use Rattle.run_cursor.specs.Cursor.{AreFull, CursorState, started}
 use Rattle.output_reading.specs.declared.output.Output.{Output}
-use Rattle.output_reading.specs.declared.progress.Progress.{Progress}
+use Rattle.catalog_swap.specs.declared.catalog.Progress.{Progress}
 use Rattle.output_reading.specs.Output.{IsLight}
 use Rattle.page_file.specs.declared.file.Broken.{Broken}
 use Rattle.page_file.specs.declared.file.Broken.TheVariants.{Fault}

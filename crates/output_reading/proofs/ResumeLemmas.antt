@@ -59,10 +59,12 @@ use Rattle.tree_runs.specs.Holding.{AreElsewhere}
 use Rattle.tree_runs.specs.Runs.{GuideState}
 use Rattle.output_reading.specs.declared.inputs.Inputs.{Inputs}
 use Rattle.output_reading.specs.declared.output.Output.{Output}
-use Rattle.output_reading.specs.declared.progress.Progress.{Progress}
-use Rattle.output_reading.specs.declared.resumable.Resumable.{Resumable}
-use Rattle.output_reading.specs.Noted.{GoesOnWith, HasNoted, MayResume, ResumesOver}
-use Rattle.output_reading.specs.Output.{IsLight, settled_fold, settled_up_to}
+use Rattle.catalog_swap.specs.declared.catalog.Progress.{Progress}
+use Rattle.tree_runs.specs.declared.resumable.Resumable.{Resumable}
+use Rattle.tree_runs.specs.Ahead.{MayResume, ResumesOver}
+use Rattle.output_reading.specs.Noted.{GoesOnWith, HasNoted}
+use Rattle.tree_file.specs.Output.{settled_fold, settled_up_to}
+use Rattle.output_reading.specs.Output.{IsLight}
 use Rattle.output_reading.specs.Walk.{AreInputs, AreReady, HasClaimed, HasMet, IsEnd, left_of, no_space}
 use Rattle.output_reading.proofs.GuidesLemmas.{numbers_are}
 use Rattle.output_reading.proofs.MetLemmas.{all_given, none_here}
@@ -210,6 +212,7 @@ may_resume {role} {inputs = inputs} progress ahead below few w ready light end t
   older_ready = ready_named w.at_is w.older_is ready.1;
   left_is = w.left_is ∙ left_named inputs ahead w.at_is w.newer_is w.older_is;
   light = omega (arith, ap (λ (c : Component). c.weight) w.output_is, w.left_is, light.settled, end.whole.z_is, total, fewer);
+  left = omega (arith, w.left_is, end.whole.z_is, total, fewer);
 }
   where
     left_named : (inputs : Inputs) (ahead : Resumable) → inputs.at ≡ Some ahead.done.key → ahead.c1x ≡ inputs.newer → ahead.c2 ≡ inputs.older

@@ -16,12 +16,13 @@ use Rattle.page_file.specs.Page.{page_number, IsPageOf}
 use Rattle.page_file.specs.File.{page_at}
 use Rattle.page_file.specs.Component.{RunPage, AreChained, entries_of, first_number, numbers_of}
 use Rattle.page_file.proofs.ComponentLemmas.{chain_split, entries_join}
-use Rattle.output_reading.specs.declared.progress.Progress.{Progress}
-use Rattle.output_reading.specs.Output.{GoesOnAs, IsDeparted, IsDepartedPage, IsFront, IsLastPage, IsOutputOf, page, settled_up_to, whole}
+use Rattle.catalog_swap.specs.declared.catalog.Progress.{Progress}
+use Rattle.tree_file.specs.Output.{IsOutputOf, settled_up_to}
+use Rattle.output_reading.specs.Output.{GoesOnAs, IsDeparted, IsDepartedPage, IsFront, IsLastPage, page, whole}
 use Rattle.output_reading.proofs.PagesLemmas.{distinct_front, front_of_chain, last_push, same_pages}
 
 -- a number isn't among those before it
-before_differs : (xs : List ℕ) (n : ℕ) (ys : List ℕ) → IsDistinct nat_eq (xs ++ n ∷ ys) → Contains xs n → ⊥
+pub before_differs : (xs : List ℕ) (n : ℕ) (ys : List ℕ) → IsDistinct nat_eq (xs ++ n ∷ ys) → Contains xs n → ⊥
 unfolding IsDistinct
 before_differs [] n ys apart has = omega (arith, has.1)
 before_differs (x ∷ xs) n ys apart has =

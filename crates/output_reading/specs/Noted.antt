@@ -1,26 +1,22 @@
 -- What is noted of an output while it is walked, and what a merge goes on with that is taken up behind it. Weights are in bytes.
-use Rattle.std.specs.Prelude.{◌≡◌, ◌≢◌, ℕ, ◌+◌, ◌-◌, ◌^◌, ◌<◌, ◌≤◌, Bool, true, IsTrue, List, [], ◌++◌, length, Option, Some, None}
+use Rattle.std.specs.Prelude.{◌≡◌, ◌≢◌, ℕ, ◌+◌, ◌-◌, ◌^◌, ◌<◌, ◌≤◌, Bool, IsTrue, List, [], ◌++◌, length, Option, Some, None}
 use Rattle.blsm_model.specs.declared.component.Component.{Component}
 use Rattle.blsm_model.specs.declared.key.Key.{Key}
 use Rattle.blsm_model.specs.Sizes.{Sizes}
-use Rattle.record_delta.specs.Entries.{Entries, entries_weight}
+use Rattle.record_delta.specs.Entries.{entries_weight}
 use Rattle.page_file.specs.Page.{page_number}
-use Rattle.page_file.specs.Component.{RunPage, entries_of, first_number}
+use Rattle.page_file.specs.Component.{entries_of, first_number}
 use Rattle.page_space.specs.Space.{SpaceState}
 use Rattle.bloom_bits.specs.Guides.{Guide}
 use Rattle.run_cursor.specs.Cursor.{AreFull, CursorState}
 use Rattle.run_cursor.specs.Given.{HasGiven}
 use Rattle.run_writer.specs.Run.{AreTagged, IsRun, Run, page_of, pages_of}
-use Rattle.run_writer.specs.Writer.{IsCounted, resumed}
-use Rattle.merge_ends.specs.Input.{left_in, IsInput, IsReady}
-use Rattle.merge_ends.specs.Merge.{HasFinished, IsFront}
 use Rattle.merge_ends.specs.Output.{EndBy, most_pages}
 use Rattle.tree_runs.specs.declared.guides.PageStart.{PageStart}
 use Rattle.tree_runs.specs.Runs.{GuideState, guide_at}
 use Rattle.output_reading.specs.declared.inputs.Inputs.{Inputs}
 use Rattle.output_reading.specs.declared.output.Output.{Output}
-use Rattle.output_reading.specs.declared.progress.Progress.{Progress}
-use Rattle.output_reading.specs.declared.resumable.Resumable.{Resumable}
+use Rattle.tree_runs.specs.declared.resumable.Resumable.{Resumable}
 use Rattle.output_reading.specs.Walk.{IsEntered, left_of, unbounded}
 
 -- ---- one entry further
@@ -81,24 +77,3 @@ pub record GoesOnWith (inputs : Inputs) (output : Component) (next : ℕ) (ahead
   pub output_is : ahead.done.output ≡ output
   pub next_is : ahead.done.next ≡ next
   pub left_is : ahead.done.left ≡ left_of inputs
-
--- On any disk: the merge may be taken up, by its numbers, and what it has and what is left to it weigh no more than both inputs.
-pub record MayResume (role : ℕ) (progress : Progress) (both : ℕ) (ahead : Resumable) : Type 0 where
-  pub output_is : ahead.done.output ≡ progress.output
-  pub next_is : ahead.done.next ≡ progress.next
-  pub counted : IsCounted (resumed role ahead.done.output ahead.done.next)
-  pub few : ahead.done.output.pages + 1 < 2 ^ 32
-  pub newer_ready : IsReady (Some ahead.done.key) ahead.c1x
-  pub older_ready : IsReady (Some ahead.done.key) ahead.c2
-  pub left_is : ahead.done.left ≡ left_in (Some ahead.done.key) ahead.c1x + left_in (Some ahead.done.key) ahead.c2
-  pub light : ahead.done.output.weight + ahead.done.left ≤ both
-
--- In this file the finished pages have what comes of both lists up to the key, and less than comes of them in all; and the cursors have the rest,
--- on some of these pages.
-pub record ResumesOver (sizes : Sizes) (file : List ℕ) (space : SpaceState) (role : ℕ) (guide : GuideState) (newer_pages older_pages : List ℕ)
-    (newer older : Entries) (ahead : Resumable) : Type 0 where
-  pub newer_is : IsInput sizes file space role (Some ahead.done.key) ahead.c1x newer_pages newer
-  pub older_is : IsInput sizes file space role (Some ahead.done.key) ahead.c2 older_pages older
-  pub pages : List RunPage
-  pub finished : HasFinished sizes true file space role guide.filter guide.fences ahead.done pages
-  pub front : IsFront true (Some ahead.done.key) (Some ahead.c1x) newer older (entries_of pages) ahead.done.left

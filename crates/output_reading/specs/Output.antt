@@ -1,40 +1,20 @@
--- What the finished pages of a deep merge hold, and which of them departs from that first. Weights are in bytes.
-use Rattle.std.specs.Prelude.{◌≡◌, ◌⊎◌, ◌+◌, ◌*◌, ◌<◌, ◌≤◌, ℕ, List, [], ◌∷◌, ◌++◌, length, nat_eq, Option, Some}
+-- The numbers of a deep merge's finished pages, and which of the pages departs first. Weights are in bytes.
+use Rattle.std.specs.Prelude.{◌≡◌, ◌⊎◌, ◌*◌, ◌<◌, ◌≤◌, ℕ, List, [], ◌∷◌, ◌++◌, length, nat_eq, Some}
 use Rattle.std.specs.List.{Contains, IsDistinct}
 use Rattle.blsm_model.specs.declared.component.Component.{Component}
-use Rattle.blsm_model.specs.declared.key.Key.{Key}
 use Rattle.blsm_model.specs.Format.{least_full}
 use Rattle.blsm_model.specs.Sizes.{Sizes}
 use Rattle.blsm_model.specs.Geometry.{page_count}
-use Rattle.record_delta.specs.Entries.{Entries, entries_weight, folded_over, settled_entries, up_to}
+use Rattle.record_delta.specs.Entries.{Entries}
 use Rattle.page_file.specs.Page.{most_used, page_number, IsPageOf}
 use Rattle.page_file.specs.File.{page_at}
-use Rattle.page_file.specs.Component.{RunPage, AreChained, ReadsOn, entries_of, first_number, numbers_of}
-use Rattle.output_reading.specs.declared.progress.Progress.{Progress}
-
--- both lists folded key by key, and settled
-abbrev pub settled_fold : Entries → Entries → Entries
-settled_fold newer older = settled_entries (folded_over newer older)
-
--- the same of what both have up to a key
-abbrev pub settled_up_to : Option Key → Entries → Entries → Entries
-settled_up_to at newer older = settled_fold (up_to at newer) (up_to at older)
-
--- how much both weigh up to a key, also of what settles to nothing
-abbrev pub weight_up_to : Option Key → Entries → Entries → ℕ
-weight_up_to at newer older = entries_weight (up_to at newer) + entries_weight (up_to at older)
+use Rattle.page_file.specs.Component.{RunPage, AreChained, entries_of, first_number, numbers_of}
+use Rattle.catalog_swap.specs.declared.catalog.Progress.{Progress}
+use Rattle.tree_file.specs.Output.{IsOutputOf, settled_up_to}
 
 -- the one list begins the other
 abbrev pub IsFront : Entries → Entries → Type 0
 IsFront front entries = (rest : Entries) × (entries ≡ front ++ rest)
-
--- In this file the finished pages are these: the last one names the next page of the run. They have what both lists have up to the key, folded
--- and settled; and that isn't all of both, so an entry comes on the next page.
-pub record IsOutputOf (sizes : Sizes) (progress : Progress) (newer older : Entries) (pages : List RunPage) (file : List ℕ) : Type 0 where
-  pub reads : ReadsOn sizes progress.output pages (Some progress.next) file
-  pub entries_are : entries_of pages ≡ settled_up_to (Some progress.key) newer older
-  pub z_is : progress.z ≡ weight_up_to (Some progress.key) newer older
-  pub more : entries_of pages ≡ settled_fold newer older → ⊥
 
 -- On any disk: each finished page weighs nearly as much as it may, and none of them more; and they have no more than was taken of both components,
 -- which weigh so much.

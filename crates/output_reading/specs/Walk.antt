@@ -18,9 +18,10 @@ use Rattle.run_cursor.specs.Given.{HasGiven}
 use Rattle.merge_ends.specs.Input.{left_in, IsBehind, IsInput, IsReady}
 use Rattle.output_reading.specs.declared.inputs.Inputs.{Inputs}
 use Rattle.output_reading.specs.declared.output.Output.{Output}
-use Rattle.output_reading.specs.declared.progress.Progress.{Progress}
-use Rattle.output_reading.specs.declared.resumable.Resumable.{Resumable}
-use Rattle.output_reading.specs.Output.{IsDeparted, IsDepartedPage, IsLastPage, IsOutputOf}
+use Rattle.catalog_swap.specs.declared.catalog.Progress.{Progress}
+use Rattle.tree_runs.specs.declared.resumable.Resumable.{Resumable}
+use Rattle.tree_file.specs.Output.{IsOutputOf}
+use Rattle.output_reading.specs.Output.{IsDeparted, IsDepartedPage, IsLastPage}
 
 -- ---- the map
 

@@ -35,10 +35,9 @@ ghost use Rattle.record_delta.specs.Records.{weight as weight_with};
 ghost use Rattle.run_cursor.specs.Cursor.{started};
 ghost use Rattle.merge_ends.specs.Output.{IsUpTo};
 ghost use Rattle.output_reading.specs.Noted.{GoesOnWith};
-ghost use Rattle.output_reading.specs.Output.{settled_fold, settled_up_to};
+ghost use Rattle.tree_file.specs.Output.{settled_fold, settled_up_to};
 ghost use Rattle.output_reading.specs.Walk.{AreBehind, AreInputs, AreReady, IsGroup, left_of, pages_ahead};
 
-use crate::resumable::Resumable;
 use blsm_model::{Component, Geometry, Key};
 use disk_trait::Disk;
 use merge_ends::{Finished, go_above, left_above};
@@ -46,6 +45,7 @@ use merge_step::least_group;
 use page_file::Broken;
 use record_delta::{Rec, settle};
 use run_cursor::Cursor;
+use tree_runs::Resumable;
 
 /// Cursors over C1' and C2, and the greatest key that was taken of them.
 #[derive(Debug, Drop)]

@@ -5,10 +5,6 @@
 
 mod inputs;
 mod output;
-mod progress;
-mod resumable;
 mod walk;
 
-pub use progress::Progress;
-pub use resumable::Resumable;
 pub use walk::walk_output;

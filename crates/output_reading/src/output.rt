@@ -45,8 +45,8 @@ ghost use Rattle.output_reading.specs.Noted.{HasFence, HasNoted, IsOnward, Start
 ghost use Rattle.output_reading.specs.Output.{IsFront};
 ghost use Rattle.output_reading.specs.Walk.{Ends, Enters, HasClaimed, HasFallen, HasMet, HasPassed, IsWhole, TakesUp, TellsStop, unbounded};
 
-use crate::progress::Progress;
 use blsm_model::{Component, Geometry, Key};
+use catalog_swap::Progress;
 use disk_trait::Disk;
 use page_file::{Broken, MOST_USED};
 use page_space::{Role, Space};
@@ -212,6 +212,8 @@ impl Output {
             → HasFence self.old.cursor (guide_at guides.old role)
             → OnOk result (HasNoted geo.now honest file run role self.new space.new (guide_at guides.new role) (Some key.now)) }
         ensures rooms { KeepsRooms role guides.old guides.new }
+        ensures size { role < length guides.old
+            → OnOk result (length (guide_at guides.new role).filter.bits ≡ length (guide_at guides.old role).filter.bits) }
         ensures passed { OnOk result (HasPassed self.old.cursor self.new.cursor (weight_with key.now rec)) }
         ensures claims { (all : ℕ) (first : SpaceState) → HasClaimed role all self.old.cursor.pages first space.old
             → OnOk result (HasClaimed role all self.new.cursor.pages first space.new) }

@@ -2,10 +2,12 @@
 ghost use Rattle.std.specs.Prelude.{◌≡◌, ◌≢◌, ◌+◌, ◌^◌, ◌<◌, ◌≤◌, [], ◌∷◌, ◌++◌, ℕ, List, Some, None, Err, length, nat_eq, IsTrue, IfErr, IfOk, OnOk};
 ghost use Rattle.std.specs.List.{IsDistinct};
 ghost use Rattle.merge_ends.specs.Merge.{HasFinished};
+ghost use Rattle.bloom_bits.specs.Filter.{rounded};
 ghost use Rattle.tree_runs.specs.Holding.{AreElsewhere};
 ghost use Rattle.tree_runs.specs.Noting.{KeepsRooms};
 ghost use Rattle.tree_runs.specs.Runs.{IsReserved, guide_at};
-ghost use Rattle.output_reading.specs.Noted.{HasNoted, MayNote, MayResume, ResumesOver};
+ghost use Rattle.tree_runs.specs.Ahead.{MayResume, ResumesOver};
+ghost use Rattle.output_reading.specs.Noted.{HasNoted, MayNote};
 ghost use Rattle.blsm_model.specs.Components.{empty_component};
 ghost use Rattle.blsm_model.specs.declared.component.Component.{Component};
 ghost use Rattle.blsm_model.specs.Geometry.{file_length, page_count};
@@ -14,7 +16,8 @@ ghost use Rattle.page_file.specs.File.{Reads};
 ghost use Rattle.page_space.specs.Space.{IsSpace, SpaceState};
 ghost use Rattle.record_delta.specs.Entries.{Entries};
 ghost use Rattle.run_cursor.specs.Cursor.{AreFull};
-ghost use Rattle.output_reading.specs.Output.{IsLight, IsOutputOf, settled_up_to, weight_up_to};
+ghost use Rattle.tree_file.specs.Output.{IsOutputOf, settled_up_to, weight_up_to};
+ghost use Rattle.output_reading.specs.Output.{IsLight};
 ghost use Rattle.output_reading.specs.Walk.{
   AreBehind,
   AreInputs,
@@ -30,13 +33,12 @@ ghost use Rattle.output_reading.specs.Walk.{
 
 use crate::inputs::Inputs;
 use crate::output::Output;
-use crate::progress::Progress;
-use crate::resumable::Resumable;
 use blsm_model::{Component, Geometry, Key};
+use catalog_swap::Progress;
 use disk_trait::Disk;
 use page_file::Broken;
 use page_space::{Role, Space};
-use tree_runs::GuideRoom;
+use tree_runs::{GuideRoom, Resumable};
 
 // Takes all of both up to a key, which the output must be, entry by entry, and gives how much that weighs, in bytes.
 fn follow<D: Disk>(
@@ -76,6 +78,8 @@ fn follow<D: Disk>(
         → OnOk result (HasNoted geo.now (D.state disk.old).is_honest (D.state disk.old).bytes run role output.new space.new
         (guide_at guides.new role) inputs.new.at) }
     ensures rooms { KeepsRooms role guides.old guides.new }
+    ensures size { role < length guides.old
+        → OnOk result (length (guide_at guides.new role).filter.bits ≡ length (guide_at guides.old role).filter.bits) }
     ensures claims { (all : ℕ) (first : SpaceState) → HasClaimed role all output.old.cursor.pages first space.old
         → OnOk result (HasClaimed role all output.new.cursor.pages first space.new) }
     ensures same_pages { space.new.pages ≡ space.old.pages }
@@ -152,6 +156,8 @@ pub fn walk_output<D: Disk>(
         → IfOk result (ResumesOver geo.now (D.state disk.old).bytes space.new role (guide_at guides.new role) (numbers_of list.pages)
         (numbers_of below.pages) newer older) }
     ensures rooms { KeepsRooms role guides.old guides.new }
+    ensures size { role < length guides.old
+        → OnOk result (length (guide_at guides.new role).filter.bits ≡ rounded (c1x.now.weight + c2.now.weight)) }
     ensures once { OnOk result ((D.state disk.new).clock ≤ (D.state disk.old).clock + (c1x.now.pages + c2.now.pages + progress.now.output.pages)) }
     ensures reads { Reads (file_length geo.now) (c1x.now.pages + c2.now.pages + progress.now.output.pages + 1) result (D.state disk.old)
         (D.state disk.new) }

@@ -1,7 +1,7 @@
 -- What was read of a store may be settled.
 use Rattle.std.proofs.lemmas.Bool.Decides.{nat_tests}
 use Rattle.std.proofs.lemmas.Grind.{common_steps}
-use Rattle.std.specs.Prelude.{◌≡◌, ℕ, ◌≤◌, Bool, List, [], None, length}
+use Rattle.std.specs.Prelude.{◌≡◌, ℕ, ◌≤◌, Bool, List, [], Option, None, ◌+◌, length}
 use Rattle.std.proofs.Common.{◌∙◌, refl, ap, sym, subst, arith}
 use Rattle.std.proofs.Math.Seq.{take-length}
 use Rattle.blsm_model.specs.Sizes.{Sizes}
@@ -17,21 +17,25 @@ use Rattle.tree_log.proofs.RestLemmas.{rest_whole}
 use Rattle.tree_reading.specs.declared.found.Found.{Found}
 use Rattle.tree_reading.specs.Damage.{catalogue_weight, room_for_a, room_for_b}
 use Rattle.tree_reading.specs.Reading.{HoldsFound, IsFound}
-use Rattle.tree_runs.specs.Runs.{GuideState, RunsState, first_tags, opened}
+use Rattle.tree_runs.specs.declared.resumable.Resumable.{Resumable}
+use Rattle.tree_runs.specs.Ahead.{IsAhead, IsAheadOver}
+use Rattle.tree_runs.specs.Runs.{GuideState, RunsState, first_tags, guide_at, opened_from}
 use Rattle.tree_runs.specs.Holding.{AreGuided, AreOf, AreTagged}
 use Rattle.page_space.specs.Space.{SpaceState}
 use Rattle.tree_settling.specs.Settling.{HasBegun, IsDeepLight}
 use Rattle.recover_open.specs.Opening.{BeginsIn, weight_found}
 
 abbrev runs_of : Found → List GuideState → RunsState
-runs_of found guides = opened found.geometry found.catalogue found.space guides
+runs_of found guides = opened_from found.geometry found.catalogue found.space guides found.ahead
 
 abbrev log_in : Found → LogState
 log_in found = record { a = found.a; b = found.b; lanes = found.lanes }
 
--- a deep merge that an opening goes on with has taken nothing
+-- a deep merge that an opening goes on with, and what is left for it, weigh no more than C1' and C2
 abbrev pub BeginsLight : Type 0
-BeginsLight = (sizes : Sizes) (catalogue : Catalog) (space : SpaceState) (guides : List GuideState) → IsDeepLight (opened sizes catalogue space guides)
+BeginsLight = (sizes : Sizes) (catalogue : Catalog) (space : SpaceState) (guides : List GuideState) (ahead : Option Resumable)
+    → IsAhead first_tags.deep catalogue.progress (catalogue.c1x.weight + catalogue.c2.weight) ahead
+    → IsDeepLight (opened_from sizes catalogue space guides ahead)
 
 -- the log of a tree with these lanes
 log_is : (found : Found) (tree : Tree) → tree.catalogue ≡ found.catalogue → found.lanes.roles ≡ found.catalogue.lanes → IsRestOf (replayed tree.lane_a) found.a → found.b.entries ≡ replayed tree.lane_b
@@ -42,7 +46,7 @@ begun : BeginsLight → (found : Found) (guides : List GuideState) (honest : Boo
 begun light found guides honest file is =
     let a = is.replayed.a_is in
     let b = is.replayed.b_is in
-    let tree : Tree = record { catalogue = found.catalogue; c1 = []; c1x = []; c2 = []; lane_a = is.replayed.lane_a; lane_b = is.replayed.lane_b } in
+    let tree : Tree = record { catalogue = found.catalogue; c1 = []; c1x = []; c2 = []; output = []; lane_a = is.replayed.lane_a; lane_b = is.replayed.lane_b } in
     let high = high_mark found.geometry in
     let cap = capacity found.geometry in
     let components = catalogue_weight found.catalogue in
@@ -61,7 +65,7 @@ begun light found guides honest file is =
       mark = is.head.fits.mark;
       high = omega (arith, held_a, held_b, ap entries_weight a.table_is, is.whole_a.1);
       full = omega (arith, is.head.fits.full, held_a, held_b, ap entries_weight a.table_is, is.whole_a.1);
-      deep = light found.geometry found.catalogue found.space guides;
+      deep = light found.geometry found.catalogue found.space guides found.ahead is.ahead;
       reserved_a = omega (arith, is.reserved_a);
       reserved_b = omega (arith, is.reserved_b);
     }
@@ -79,14 +83,19 @@ has_begun light found guides honest file runs log is runs_are log_are =
 abbrev pub OpensOver : Found → List GuideState → RunsState → Type 0
 OpensOver found guides runs = (tree : Tree) (a : Entries) (file : List ℕ) → HoldsTree found.geometry tree file → tree.catalogue ≡ found.catalogue
     → AreTagged found.space first_tags.c1 tree.c1 → AreTagged found.space first_tags.c1x tree.c1x → AreTagged found.space first_tags.c2 tree.c2
-    → AreGuided guides first_tags tree → AreOf runs tree a file
+    → AreGuided guides first_tags tree
+    → IsAheadOver found.geometry file found.space first_tags.deep (guide_at guides first_tags.deep) tree.c1x tree.c2 found.ahead → AreOf runs tree a
+    file
 
 pub begins_in : (found : Found) (guides : List GuideState) (file : List ℕ) (runs : RunsState) (log : LogState) → (found.a.floor ≡ None) × (found.a.dropped ≡ 0) → found.lanes.roles ≡ found.catalogue.lanes → (holds : HoldsFound found file) → runs ≡ runs_of found guides → log ≡ log_in found
-    → OpensOver found guides runs → AreGuided guides first_tags holds.tree → BeginsIn runs log holds.tree file
-begins_in found guides file runs log whole roles holds runs_are log_are opens guided =
+    → OpensOver found guides runs → AreGuided guides first_tags holds.tree
+    → IsAheadOver found.geometry file found.space first_tags.deep (guide_at guides first_tags.deep) holds.tree.c1x holds.tree.c2 found.ahead
+    → BeginsIn runs log holds.tree file
+begins_in found guides file runs log whole roles holds runs_are log_are opens guided over =
     let t = holds.tree in
     record {
-      are_of = opens t log.a.entries file holds.holds holds.catalogue (λ n has. (holds.c1_tag n).1 has) (λ n has. (holds.c1x_tag n).1 has) (λ n has. (holds.c2_tag n).1 has) guided;
+      are_of = opens t log.a.entries file holds.holds holds.catalogue (λ n has. (holds.c1_tag n).1 has) (λ n has. (holds.c1x_tag n).1 has)
+          (λ n has. (holds.c2_tag n).1 has) guided over;
       log_of = subst (IsLogOf t) (sym log_are)
           (log_is found t holds.catalogue roles (rest_whole (replayed t.lane_a) found.a whole holds.table_a) holds.table_b holds.end_a holds.end_b);
       fits = subst (λ (s : Sizes). FitsSizes s t) (sym (ap (λ (r : RunsState). r.sizes) runs_are)) holds.fits;

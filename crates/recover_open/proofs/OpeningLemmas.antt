@@ -36,7 +36,8 @@ looked h1 = grind (arith, common_steps, nat_tests)
 pub reads_inside : {old new : DiskState} (result : Result Found Unreadable)
     → IfOk result (λ found. OnlyReads (file_length found.geometry) (reading_calls found.geometry) old new)
     → (IsErr result → HasLooked reading_calls old new)
-    → IfOk result (λ found. IsTrue old.tells_bytes → length old.bytes ≡ file_length found.geometry) → IfOk result (λ found. IsFound found old.is_honest old.bytes) → ReadsInside old new
+    → IfOk result (λ found. IsTrue old.tells_bytes → length old.bytes ≡ file_length found.geometry) → IfOk result
+    (λ found. IsFound found new.is_honest new.bytes) → ReadsInside old new
 reads_inside result h1 h2 h3 h4 = grind (arith, common_steps, nat_tests)
 
 -- a call, and then some

@@ -1,7 +1,7 @@
 -- What was begun with may be settled, and what that leads to.
 use Rattle.std.proofs.lemmas.Bool.Decides.{nat_tests}
 use Rattle.std.proofs.lemmas.Grind.{common_steps}
-use Rattle.std.specs.Prelude.{◌≡◌, ℕ, ◌+◌, ◌≤◌, Bool, IsTrue, List, [], length, Result, Ok, Err, IfOk, IfErr}
+use Rattle.std.specs.Prelude.{◌≡◌, ℕ, ◌+◌, ◌≤◌, IsTrue, List, [], length, Result, Ok, Err, IfOk, IfErr}
 use Rattle.std.proofs.Common.{◌∙◌, refl, ap, sym, subst, arith}
 use Rattle.std.proofs.lemmas.List.{nil_from_length}
 use Rattle.blsm_model.specs.declared.key.Key.{Key}
@@ -42,9 +42,9 @@ use Rattle.recover_open.specs.declared.beginning.Begun.{Begun}
 use Rattle.recover_open.specs.Opening.{BeginsIn, IsReady, StandsEmpty, TellsSettled, tables_of, weight_found, weight_of_tree}
 use Rattle.recover_open.proofs.TreeLemmas.{spares_fault, why_fault}
 
-pub may_settle : (runs : RunsState) (log : LogState) (d : DiskState) → HasBegun runs log → ((honest : Bool) (file : List ℕ) → AreRunning honest file runs)
+pub may_settle : (runs : RunsState) (log : LogState) (d : DiskState) → HasBegun runs log → AreRunning d.is_honest d.bytes runs
     → (IsTrue d.tells_bytes → length d.bytes ≡ file_length runs.sizes) → MaySettle runs log d
-may_settle runs log d begun running long = record { running = running d.is_honest d.bytes; long = long; begun = begun }
+may_settle runs log d begun running long = record { running = running; long = long; begun = begun }
 
 -- the slots of a file are its own
 same_slots : (file : List ℕ) → AreSameSlots file file

@@ -8,7 +8,7 @@ ghost use Rattle.blsm_model.specs.declared.row.Value.{Value};
 ghost use Rattle.record_delta.specs.Entries.{entries_weight};
 ghost use Rattle.tree_log.specs.Log.{listed_in_a};
 ghost use Rattle.tree_reading.specs.Reading.{HoldsFound, IsFound};
-ghost use Rattle.tree_runs.specs.Runs.{AreGuides, AreRunning, first_tags, opened};
+ghost use Rattle.tree_runs.specs.Runs.{AreGuides, AreRunning, first_tags, opened_from};
 ghost use Rattle.tree_settling.specs.Counting.{CountsQuanta, most_merges, quanta_bound, settling_due, settling_least};
 ghost use Rattle.tree_settling.specs.Settling.{
   HasBegun,
@@ -40,15 +40,15 @@ pub(crate) struct Begun {
     pub(crate) settled: Settled,
 }
 
-// Begins with what was found. A deep merge runs where C1' has pages.
+// Begins with what was found. A deep merge runs where C1' has pages, behind what was finished of it, where that is named.
 fn begin(found: Found, room: MergeRoom) -> Begun
     requires found { (honest : Bool) × (file : List ℕ) × IsFound found honest file }
     requires guides { AreGuides found.geometry first_tags found.guides }
-    ensures runs { result.runs ≡ opened found.geometry found.catalogue found.space found.guides }
+    ensures runs { result.runs ≡ opened_from found.geometry found.catalogue found.space found.guides found.ahead }
     ensures log { result.log ≡ record { a = found.a; b = found.b; lanes = found.lanes } }
     ensures bound { result.settled.bound ≡ quanta_bound result.runs.sizes (settling_due result.runs result.log) }
     ensures numbers { HasBegun result.runs result.log }
-    ensures running { (honest : Bool) (file : List ℕ) → AreRunning honest file result.runs }
+    ensures running { (honest : Bool) (file : List ℕ) → IsFound found honest file → AreRunning honest file result.runs }
     ensures lists { (file : List ℕ) → (holds : HoldsFound found file) → BeginsIn result.runs result.log holds.tree file }
 {
     let Found {
@@ -59,12 +59,14 @@ fn begin(found: Found, room: MergeRoom) -> Begun
         b,
         lanes,
         guides,
+        ahead,
         ..
     } = found;
-    let runs = Runs::open(&geometry, catalogue, space, room, guides);
+    let version = catalogue.version;
+    let runs = Runs::open(&geometry, catalogue, space, room, guides, ahead);
     let log = LoggedTables::open(a, b, lanes);
     let settled = Settled {
-        version: catalogue.version,
+        version,
         quanta: 0,
         bound: most_quanta(&runs, &log),
     };
@@ -111,7 +113,7 @@ pub(crate) fn settle_found<D: Disk>(
     found: Found,
     room: MergeRoom,
 ) -> Result<Begun, Unreadable>
-    requires found { (honest : Bool) × (file : List ℕ) × IsFound found honest file }
+    requires found { IsFound found (D.state disk.old).is_honest (D.state disk.old).bytes }
     requires guides { AreGuides found.geometry first_tags found.guides }
     requires length { IsTrue (D.state disk.old).tells_bytes → length (D.state disk.old).bytes ≡ file_length found.geometry }
     ensures ready { IfOk result (λ begun. IsReady found.geometry found.catalogue.version begun.runs begun.log (D.state disk.new)) }

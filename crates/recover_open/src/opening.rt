@@ -1,5 +1,5 @@
 //! A store on a disk becomes a core.
-ghost use Rattle.std.specs.Prelude.{◌≡◌, ◌≤◌, ◌+◌, [], ℕ, Bool, List, length, replicate, sum, None, Some, Err, IsTrue, IfOk, IfErr, OnOk};
+ghost use Rattle.std.specs.Prelude.{◌≡◌, ◌≤◌, ◌+◌, [], ℕ, List, length, replicate, sum, None, Some, Err, IsTrue, IfOk, IfErr, OnOk};
 ghost use Rattle.disk_trait.specs.Disk.{TellsFaultsBy, Only};
 ghost use Rattle.disk_trait.specs.Moments.{LeavesOnly, LeavesOnlyOnceSynced};
 ghost use Rattle.blsm_model.specs.Format.{callers, most_entries, most_rows_asked};
@@ -43,7 +43,7 @@ use tree_runs::{MergeRoom, Runs};
 
 // Syncs and reads, with filters and fences. What an earlier run left to a crash is settled before a byte of it counts.
 fn read_synced<D: Disk>(alloc: Global, disk: &mut D) -> Result<Found, Unreadable>
-    ensures found { IfOk result (λ found. (honest : Bool) × (file : List ℕ) × IsFound found honest file) }
+    ensures found { IfOk result (λ found. IsFound found (D.state disk.new).is_honest (D.state disk.new).bytes) }
     ensures holds { IsTrue (D.state disk.old).is_honest → IfOk result (λ found. HoldsFound found (D.state disk.old).bytes) }
     ensures refused { IsTrue (D.state disk.old).is_honest → IfErr result (λ why. IsWhy why (D.state disk.old).bytes) }
     ensures length { IfOk result (λ found. IsTrue (D.state disk.old).tells_bytes → length (D.state disk.new).bytes ≡ file_length found.geometry) }
@@ -126,7 +126,8 @@ pub struct NotOpened<D: Drop> {
 }
 
 /// Opens the store on a disk as a core with these rooms for the callers. It syncs first, reads the store, each page once, whose keys it notes in
-/// the filters and fences of its components, and settles it by its merges: then C1' and both tables are empty, and the history has no entry.
+/// the filters and fences of its components, and settles it by its merges: then C1' and both tables are empty, and the history has no entry. A deep
+/// merge of which the catalogue names finished pages goes on behind them; beside these it reads C1' and C2 once more, up to their greatest key.
 ///
 /// `NotAStore`, `Damaged` and `Worn` come as `read_tree` tells them, `Fault` just where the disk's count of faults rose, and `NoMemory` where memory
 /// was refused, also that for tables, filters, fences and the history, whose size is known once the geometry is read: so a damage comes before it.

@@ -1,7 +1,7 @@
 -- What a cursor keeps as it goes on.
 use Rattle.std.proofs.lemmas.Bool.Decides.{nat_tests}
 use Rattle.std.proofs.lemmas.Grind.{common_steps}
-use Rattle.std.proofs.Common.{◌≡◌, ◌≢◌, ◌↔◌, Bool, true, false, ℕ, suc, ◌+◌, ◌-◌, ◌<◌, ◌≤◌, List, [], ◌∷◌, ◌++◌, length, take, drop, Option, Some, None, refl, ap, sym, subst, ◌∙◌, append_assoc, length-append, arith}
+use Rattle.std.proofs.Common.{◌≡◌, ◌≢◌, ◌↔◌, Bool, true, false, ℕ, zero, suc, ◌+◌, ◌-◌, ◌*◌, ◌<◌, ◌≤◌, List, [], ◌∷◌, ◌++◌, length, take, drop, Option, Some, None, refl, ap, sym, subst, ◌∙◌, append_assoc, length-append, arith}
 use Rattle.std.specs.Prelude.{replicate, IsTrue, IsSome}
 use Rattle.std.specs.List.{between, AllByRecursion}
 use Rattle.std.specs.List.Sorted.{IsStrictlySortedBy}
@@ -14,7 +14,7 @@ use Rattle.std.proofs.lemmas.List.Edits.{between_none, length-between}
 use Rattle.std.proofs.lemmas.List.Elements.{All-nil, All-head, All-tail, Contains-append_right}
 use Rattle.std.proofs.lemmas.List.Sums.{sum_by-cons}
 use Rattle.std.proofs.lemmas.Slice.{between_is}
-use Rattle.blsm_model.specs.Format.{page_length}
+use Rattle.blsm_model.specs.Format.{least_full, page_length}
 use Rattle.blsm_model.specs.declared.component.Component.{Component}
 use Rattle.blsm_model.specs.declared.key.Key.{Key}
 use Rattle.blsm_model.specs.Keys.{key_cmp}
@@ -450,6 +450,24 @@ rise_head (Some h) es fs rise = rise_front (h ∷ es) fs rise
 follows : (ps : List RunPage) (pages : ℕ) → suc (length ps) ≡ pages → IsSome (first_number ps None) ↔ (1 < pages)
 follows ps pages h1 = grind (arith, common_steps, nat_tests)
 
+-- pages that are chained fill all but the last of them
+chained_full : (sizes : Sizes) (file : List ℕ) (ps : List RunPage) → AreChained sizes ps None file → least_full * (length ps - 1) ≤ entries_weight (entries_of ps)
+chained_full sizes file [] chained = omega arith
+chained_full sizes file (p ∷ []) chained = omega arith
+chained_full sizes file (p ∷ q ∷ ps) chained =
+    let full = chained.1.content.head.full refl in
+    omega (arith, full, weight_is_length p.entries, weight_join p.entries (entries_of (q ∷ ps)), chained_full sizes file (q ∷ ps) chained.2)
+
+-- so has what is left behind a page that was taken, and before it
+pub left_enough : (old : CursorState) (next : Option ℕ) (entries : Entries) → AreInNumber old next (length entries) (entries_weight entries)
+    → (1 < old.pages → least_full ≤ entries_weight entries) → 0 < old.pages → least_full * (old.pages - 1) ≤ old.weight
+left_enough old next entries numbers full more = by old.pages refl
+  where
+    by : (n : ℕ) → old.pages ≡ n → least_full * (old.pages - 1) ≤ old.weight
+    by zero is = absurd (omega (arith, more, is))
+    by (suc zero) is = omega (arith, is)
+    by (suc (suc n)) is = omega (arith, is, numbers.enough (numbers.follows.1 (omega (arith, is))), full (omega (arith, is)))
+
 -- a cursor at a page's end, with pages ahead: its next page goes on, and has the first of what is ahead
 pub record OnNext (sizes : Sizes) (old : CursorState) (rest : List (Key × Rec)) (coming : List RunPage) (file : List ℕ) : Type 0 where
   pub next : Option ℕ
@@ -472,6 +490,8 @@ on_next sizes old rest file (p ∷ ps) first chained rest_is rise pages_is entri
       omega (arith, entries_is, count, ap (length {A = Key × Rec}) (last one)),
       omega (arith, weight_is, weighs, ap entries_weight (last one)),
     ) in
+    let enough : IsSome next → entries_weight p.entries + least_full * (old.pages - 2) ≤ old.weight =
+    λ some. omega (arith, chained_full sizes file ps chained.2, pages_is, weight_is, weighs) in
     record {
       next = next;
       entries = p.entries;
@@ -480,7 +500,7 @@ on_next sizes old rest file (p ∷ ps) first chained rest_is rise pages_is entri
         valid = valid;
         goes_on = record {
           rise = rise_head old.head p.entries (entries_of ps) (subst (λ (l : Entries). AreRising (from_head old.head l)) rest_is rise);
-          numbers = record { follows = follows ps old.pages pages_is; few = omega (arith, entries_is, count); light = omega (arith, weight_is, weighs); all = all };
+          numbers = record { follows = follows ps old.pages pages_is; few = omega (arith, entries_is, count); light = omega (arith, weight_is, weighs); all = all; enough = enough };
         };
       };
       ahead = record {

@@ -1,5 +1,5 @@
 -- A page that goes on behind a cursor, and pages that don't.
-use Rattle.std.proofs.Common.{ℕ, ◌<◌, [], ◌∷◌, Option, Some, None, refl, ap, codes, lit≤, arith}
+use Rattle.std.proofs.Common.{ℕ, ◌<◌, ◌≤◌, [], ◌∷◌, Option, Some, None, refl, ap, codes, lit≤, arith}
 use Rattle.std.specs.List.Sorted.{IsStrictlySortedBy}
 use Rattle.std.specs.Ordering.{is_lt}
 use Rattle.std.proofs.lemmas.Bool.{false≢true}
@@ -21,14 +21,14 @@ goes_on : PageGoesOn (at_last None 17) None (base_x ∷ [])
 unfolding at_last base_x IsStrictlySortedBy
 goes_on = record {
   rise = (tt, tt);
-  numbers = record { follows = (λ some. absurd (false≢true some), λ more. absurd (omega (arith, more))); few = lit≤ tt; light = lit≤ tt; all = λ one. (refl, refl) };
+  numbers = record { follows = (λ some. absurd (false≢true some), λ more. absurd (omega (arith, more))); few = lit≤ tt; light = lit≤ tt; all = λ one. (refl, refl); enough = λ some. absurd (false≢true some) };
 }
 
 from_w : PageGoesOn (at_last (Some (codes "w", Tomb)) 17) None (base_x ∷ [])
 unfolding at_last base_x IsStrictlySortedBy
 from_w = record {
   rise = ((refl, tt), (tt, tt));
-  numbers = record { follows = (λ some. absurd (false≢true some), λ more. absurd (omega (arith, more))); few = lit≤ tt; light = lit≤ tt; all = λ one. (refl, refl) };
+  numbers = record { follows = (λ some. absurd (false≢true some), λ more. absurd (omega (arith, more))); few = lit≤ tt; light = lit≤ tt; all = λ one. (refl, refl); enough = λ some. absurd (false≢true some) };
 }
 
 -- but not from x itself
@@ -45,3 +45,8 @@ with_next goes = let more : 1 < 1 = goes.numbers.follows.0 refl in omega (arith,
 too_light : PageGoesOn (at_last None 18) None (base_x ∷ []) → ⊥
 unfolding at_last base_x
 too_light goes = let whole = goes.numbers.all refl in omega (arith, whole.1)
+
+-- nor, with three pages left, where it leaves less than the second one must weigh
+too_little : PageGoesOn (record (at_last None 3593) { pages = 3 }) (Some 8) (base_x ∷ []) → ⊥
+unfolding at_last base_x
+too_little goes = let enough : 3594 ≤ 3593 = goes.numbers.enough refl in omega (arith, enough)

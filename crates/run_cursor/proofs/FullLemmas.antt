@@ -8,7 +8,7 @@ use Rattle.blsm_model.specs.declared.key.Key.{Key}
 use Rattle.record_delta.specs.declared.record.Rec.{Rec}
 use Rattle.page_file.specs.Entry.{entry_bytes}
 use Rattle.entry_codec.proofs.SpellingLemmas.{length-spelling}
-use Rattle.run_cursor.specs.Cursor.{CursorState, IsStepped, AreFull, started}
+use Rattle.run_cursor.specs.Cursor.{CursorState, IsStepped, AreFull, PartGoesOn, started}
 
 pub full_start : (run : Component) → AreFull run (started run)
 full_start run = record { within = omega arith; more = λ some. omega arith; last = λ none. omega (arith, none) }
@@ -25,3 +25,15 @@ pub step_some : (old new : CursorState) (head : Key × Rec) → IsStepped old ne
 step_some old new head s none =
     let least = s.right.key_least in
     absurd (omega (arith, least, ap (length {A = ℕ}) (sym none ∙ s.behind_is), length-append (entry_bytes head) new.behind, length-spelling head.0 head.1))
+
+-- what is left falls by as much as what stands behind the head
+pub step_falls : (old new : CursorState) (head : Key × Rec) → IsStepped old new head → old.weight + length new.behind ≡ new.weight + length old.behind
+step_falls old new head s =
+    omega (arith, s.weight_is, ap (length {A = ℕ}) s.behind_is, length-append (entry_bytes head) new.behind, length-spelling head.0 head.1)
+
+pub part_stepped : (old new : CursorState) (head : Key × Rec) → IsStepped old new head → PartGoesOn old new
+part_stepped old new head s = record {
+  enough = λ none some. absurd (step_some old new head s none);
+  begins = λ none some. absurd (step_some old new head s none);
+  stays = λ part rests on. omega (arith, on, step_falls old new head s);
+}

@@ -11,7 +11,7 @@ use Rattle.blsm_model.specs.Geometry.{page_count}
 use Rattle.record_delta.specs.declared.record.Rec.{Rec}
 use Rattle.record_delta.specs.Records.{weight}
 use Rattle.page_file.specs.Entry.{IsPageEntry, entry_bytes, entries_bytes, AreEntries, AreRising}
-use Rattle.page_file.specs.Page.{page_number, IsPageOf}
+use Rattle.page_file.specs.Page.{page_number, most_used, IsPageOf}
 use Rattle.page_file.specs.File.{page_at}
 use Rattle.page_file.specs.Component.{RunPage, numbers_of, entries_of, first_number, AreChained}
 use Rattle.record_delta.specs.Entries.{entries_weight, Entries}
@@ -58,12 +58,13 @@ IsKept head page at end next pages entries weight_left = (at ≤ end) × (end �
 -- ---- on a page's end
 
 -- The numbers of a page are those of the component's next one: it has a next page where it isn't the last one, and no more entries
--- and weight than are left; the last one has just that.
+-- and weight than are left; the last one has just that, and one before it leaves weight enough to fill all pages behind it but the last.
 pub record AreInNumber (cursor : CursorState) (next : Option ℕ) (count weight : ℕ) : Type 0 where
   pub follows : IsSome next ↔ (1 < cursor.pages)
   pub few : count ≤ cursor.entries
   pub light : weight ≤ cursor.weight
   pub all : cursor.pages ≡ 1 → (count ≡ cursor.entries) × (weight ≡ cursor.weight)
+  pub enough : IsSome next → weight + least_full * (cursor.pages - 2) ≤ cursor.weight
 
 -- a page with these entries and this next page goes on behind the cursor: its keys rise over the page's end, and its numbers are right
 pub record PageGoesOn (cursor : CursorState) (next : Option ℕ) (entries : Entries) : Type 0 where
@@ -106,6 +107,17 @@ Rises (Some old) None = ⊤
 Rises None new = ⊤
 
 -- ---- what the pages weigh
+
+-- what weighs so much from the page of the cursor's head on, has that page before what is left
+abbrev pub IsOnPage : ℕ → CursorState → Type 0
+IsOnPage weight cursor = weight + length cursor.behind ≤ cursor.weight + most_used
+
+-- On any disk, by the numbers: where a page was due, what was left weighs enough to fill all pages that were left but the last, and begins with
+-- the page on which the cursor is now. Where none was due the cursor is on the page on which it was.
+pub record PartGoesOn (old new : CursorState) : Type 0 where
+  pub enough : old.behind ≡ [] → 0 < old.pages → least_full * (old.pages - 1) ≤ old.weight
+  pub begins : old.behind ≡ [] → 0 < old.pages → IsOnPage old.weight new
+  pub stays : (part : ℕ) → (old.behind ≡ [] → old.pages ≡ 0) → IsOnPage part old → IsOnPage part new
 
 -- On any disk: of the component's pages that were read, each but its last one weighs least_full at least; what isn't given of them stands
 -- behind the head.

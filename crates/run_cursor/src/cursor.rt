@@ -1,5 +1,5 @@
 //! A cursor over a component.
-ghost use Rattle.std.specs.Prelude.{◌≡◌, ◌≢◌, ◌↔◌, ◌+◌, ◌<◌, ◌≤◌, ◌++◌, [], ℕ, List, Option, Ok, Err, length, IsTrue, IsErr, OnOk, Some, IfSome, IfNone, option_map};
+ghost use Rattle.std.specs.Prelude.{◌≡◌, ◌≢◌, ◌↔◌, ◌+◌, ◌-◌, ◌*◌, ◌<◌, ◌≤◌, ◌++◌, [], ℕ, List, Option, Ok, Err, length, IsTrue, IsErr, OnOk, Some, IfSome, IfNone, option_map};
 ghost use Rattle.blsm_model.specs.declared.component.Component.{Component};
 ghost use Rattle.blsm_model.specs.declared.key.Key.{Key};
 ghost use Rattle.blsm_model.specs.Sizes.{Sizes};
@@ -12,18 +12,18 @@ ghost use Rattle.page_file.specs.Entry.{entries_bytes, AreEntries, AreRising};
 ghost use Rattle.blsm_model.specs.Components.{no_page};
 ghost use Rattle.blsm_model.specs.Format.{page_length, least_full};
 ghost use Rattle.std.specs.List.{between};
-ghost use Rattle.page_file.specs.Page.{IsPageOf};
+ghost use Rattle.page_file.specs.Page.{IsPageOf, most_used};
 ghost use Rattle.blsm_model.specs.Components.{empty_component};
 ghost use Rattle.page_file.specs.File.{Reads};
 ghost use Rattle.page_file.specs.Component.{numbers_of, HasList};
-ghost use Rattle.run_cursor.specs.Cursor.{started, from_head, HasAhead, IsAdvanced, AreInNumber, PageGoesOn, GoesOnAt, IsStepped, IsDamageAt, Rises, AreFull, turned};
+ghost use Rattle.run_cursor.specs.Cursor.{started, from_head, HasAhead, IsAdvanced, AreInNumber, PageGoesOn, GoesOnAt, IsStepped, IsDamageAt, Rises, AreFull, PartGoesOn, turned};
 ghost use Rattle.run_cursor.specs.Given.{HasGiven, HasGivenMore};
 ghost use Rattle.run_cursor.specs.Part.{BeginsNext};
 
 use blsm_model::{Component, Geometry, Key};
 use disk_trait::Disk;
 use entry_codec::{decode, peek_key, read_over};
-use page_file::{Broken, PAGE_HEAD_LEN, PAGE_LEN, PageHead, number_of, read_page};
+use page_file::{Broken, LEAST_FULL, PAGE_HEAD_LEN, PAGE_LEN, PageHead, number_of, read_page};
 use record_delta::{Rec, Stream};
 use std::marker::Model;
 
@@ -185,16 +185,27 @@ impl Cursor {
         }
     }
 
+    // Whether what is left behind a page fills all pages that are left but the last.
+    fn leaves_enough(&self, used: u16) -> bool
+        requires { 1 < self.now.pages }
+        ensures { IsTrue result ↔ (used + least_full * (self.now.pages - 2) ≤ self.now.weight) }
+    {
+        u64::from(used) + u64::from(LEAST_FULL) * u64::from(self.pages - 2) <= self.weight
+    }
+
     // Whether the numbers of a page are those of the next one.
     fn is_in_number(&self, page: PageHead) -> bool
         requires { 0 < self.now.pages }
         ensures { IsTrue result ↔ AreInNumber self.now page.next page.count page.used }
     {
         let entries = u64::from(page.count);
-        let weight = u64::from(page.used);
         match page.next {
-            None => self.pages == 1 && entries == self.entries && weight == self.weight,
-            Some(_) => self.pages > 1 && entries <= self.entries && weight <= self.weight,
+            None => {
+                self.pages == 1 && entries == self.entries && u64::from(page.used) == self.weight
+            }
+            Some(_) => {
+                self.pages > 1 && entries <= self.entries && self.leaves_enough(page.used)
+            }
         }
     }
 
@@ -221,6 +232,7 @@ impl Cursor {
         ensures damaged { (n : ℕ) → result ≡ Err (Broken.Damaged n) → IsTrue (D.state disk.old).tells_bytes
             → IsDamageAt geo.now self.old n (D.state disk.new).bytes }
         ensures full { OnOk result (0 < self.new.pages → least_full ≤ length self.new.behind) }
+        ensures fits { OnOk result (length self.new.behind ≤ most_used) }
         ensures reads { Reads (file_length geo.now) 1 result (D.state disk.old) (D.state disk.new) }
     {
         let n = self.next;
@@ -244,8 +256,9 @@ impl Cursor {
     ///
     /// `Damaged` names the page that was to be read next: it is answered exactly where that isn't a valid page of the store, has a next
     /// page though it is the last one by the component's number or none though it isn't, has a first key that isn't above the
-    /// head's, or has more entries or weight than are left by the component's numbers, or, as the last page, fewer. A page that
-    /// is met again is such a one, since its keys don't rise. `Fault` comes only where the disk's count of faults rose.
+    /// head's, or has more entries or weight than are left by the component's numbers, or, as the last page, fewer, or leaves too
+    /// little weight to fill the pages behind it but the last. A page that is met again is such a one, since its keys don't rise.
+    /// `Fault` comes only where the disk's count of faults rose.
     ///
     /// A clause says what it tells of a list, one what of any pages, and the others are numbers by which callers count: entries, weight, pages and calls.
     pub fn advance<D: Disk>(&mut self, disk: &mut D, geo: &Geometry) -> Result<(), Broken>
@@ -272,6 +285,8 @@ impl Cursor {
         ensures ended { OnOk result (IfNone self.new.head ((self.old.weight ≡ 0) × (self.new.entries ≡ 0) × (self.new.weight ≡ 0) × (self.new.pages ≡ 0))) }
 
         ensures full { (run : Component) → AreFull run self.old → OnOk result (AreFull run self.new) }
+
+        ensures part { OnOk result (PartGoesOn self.old self.new) }
 
         // A page less is left where one was due, and as many as before where none was.
         ensures turns { OnOk result (self.old.behind ≡ [] → 0 < self.old.pages → self.old.pages ≡ self.new.pages + 1) }

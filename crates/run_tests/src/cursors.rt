@@ -373,7 +373,7 @@ fn damages() -> [Damage; 20] {
             0,
         ),
         numbers(Component { pages: 2, ..THREE }, 2, 7),
-        numbers(Component { pages: 4, ..THREE }, 9, 14),
+        numbers(Component { pages: 4, ..THREE }, 5, 0),
         // A first page that the store doesn't have, and one that is zeros.
         numbers(
             Component {

@@ -10,25 +10,26 @@ use Rattle.page_space.specs.Space.{SpaceState}
 use Rattle.run_cursor.specs.Cursor.{CursorState, started as cursor_started}
 use Rattle.run_writer.specs.Writer.{WriterState, started as writer_started}
 use Rattle.merge_ends.specs.Input.{left_in}
-use Rattle.merge_ends.specs.Merge.{MergeState, Covers as MergeCovers, IsMerging}
+use Rattle.merge_ends.specs.Merge.{MergeState, Rest, Covers as MergeCovers, IsMerging}
 use Rattle.merge_ends.specs.Progress.{Progress}
 
 -- the run that is written, the cursor over C1, the greatest key that was taken, the one up to which all is on closed pages of the run,
--- and how much was left of C1 above that one
+-- how much was left of C1 above that one, and where C1 goes on
 pub record SnowState : Type 0 where
   pub writer : WriterState
   pub c1 : CursorState
   pub at : Option Key
   pub closed : Option Key
   pub left : ℕ
+  pub rest : Rest
 
 -- a pass is a merge of table A, which is lent at each call
 abbrev pub merge_of : SnowState → MergeState
-merge_of snow = record { writer = snow.writer; older = snow.c1; at = snow.at; closed = snow.closed; left = snow.left }
+merge_of snow = record { writer = snow.writer; older = snow.c1; at = snow.at; closed = snow.closed; left = snow.left; rest = snow.rest }
 
 -- a pass over C1 that has taken nothing
 abbrev pub started : ℕ → Component → SnowState
-started role c1 = record { writer = writer_started role; c1 = cursor_started c1; at = None; closed = None; left = 0 }
+started role c1 = record { writer = writer_started role; c1 = cursor_started c1; at = None; closed = None; left = 0; rest = record { here = c1; behind = c1 } }
 
 -- where it stands by its numbers, between table A and C1
 abbrev pub progress_of_pass : SnowState → Entries → Progress

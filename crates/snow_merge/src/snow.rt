@@ -51,7 +51,7 @@ impl Model for Snow {
 
     ghost Value = { SnowState };
 
-    ghost view = { λ s. record { writer = s.merge.writer; c1 = s.merge.older; at = s.merge.at; closed = s.merge.closed; left = s.merge.left } };
+    ghost view = { λ s. record { writer = s.merge.writer; c1 = s.merge.older; at = s.merge.at; closed = s.merge.closed; left = s.merge.left; rest = s.merge.rest } };
 }
 
 // Table A as the newer input.
@@ -245,6 +245,14 @@ impl Snow {
         ensures { result ≡ self.now.left }
     {
         self.merge.left()
+    }
+
+    /// C1 from the page on that had the head of its cursor when that key was told: what it has above the key is there. Where no page is closed it is
+    /// all of C1.
+    pub fn behind(&self) -> Component
+        ensures { result ≡ self.now.rest.behind }
+    {
+        self.merge.behind()
     }
 
     /// Whether table A, as it is now, and C1 are wholly taken. A record that comes into the table ahead of the cursor makes it false again.

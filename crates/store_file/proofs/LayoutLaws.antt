@@ -9,7 +9,7 @@ use Rattle.disk_trait.proofs.RegionLemmas.{part_apart, same_no_longer}
 use Rattle.gated_write.specs.Gated.{open_byte}
 use Rattle.blsm_model.specs.Sizes.{Sizes, IsGeometry}
 use Rattle.blsm_model.specs.Geometry.{file_length}
-use Rattle.catalog_swap.specs.Slots.{odd_slot, even_slot, slot_length}
+use Rattle.catalog_swap.specs.Slots.{odd_slot, even_slot, plain_length}
 use Rattle.store_file.specs.Layout.{superblock_text, superblock, superblock_length, IsStoreOf, HasFirstSlots}
 
 same32 : (n m : ℕ) → n < 2 ^ 32 → m < 2 ^ 32 → to_be_bytes w32 n ≡ to_be_bytes w32 m → n ≡ m
@@ -54,9 +54,9 @@ store_apart {region} {old} {new} sizes inside same store =
     (omega (arith, same.no_shorter, same_no_longer (file_length sizes) (λ i here. (inside i here).1) same, store.long)) store
 
 -- where both slots say the same
-pub slots_same : (old new : List ℕ) → part new odd_slot slot_length ≡ part old odd_slot slot_length → part new even_slot slot_length ≡ part old even_slot slot_length → HasFirstSlots old → HasFirstSlots new
+pub slots_same : (old new : List ℕ) → part new odd_slot plain_length ≡ part old odd_slot plain_length → part new even_slot plain_length ≡ part old even_slot plain_length → HasFirstSlots old → HasFirstSlots new
 slots_same old new odd even slots = record { odd = odd ∙ slots.odd; even = even ∙ slots.even }
 
 -- so after a change apart from both
-pub slots_apart : {region : Region} {old new : List ℕ} → AreApart region (span odd_slot slot_length) → AreApart region (span even_slot slot_length) → IsSameOutside region old new → HasFirstSlots old → HasFirstSlots new
-slots_apart {region} {old} {new} odd even same slots = slots_same old new (part_apart odd_slot slot_length odd same) (part_apart even_slot slot_length even same) slots
+pub slots_apart : {region : Region} {old new : List ℕ} → AreApart region (span odd_slot plain_length) → AreApart region (span even_slot plain_length) → IsSameOutside region old new → HasFirstSlots old → HasFirstSlots new
+slots_apart {region} {old} {new} odd even same slots = slots_same old new (part_apart odd_slot plain_length odd same) (part_apart even_slot plain_length even same) slots

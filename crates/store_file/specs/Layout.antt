@@ -4,7 +4,7 @@ use Rattle.std.specs.Int.{w16, w32, to_be_bytes}
 use Rattle.disk_trait.specs.Disk.{part}
 use Rattle.gated_write.specs.Gated.{open_byte}
 use Rattle.gated_log.specs.Lane.{HasEntries}
-use Rattle.catalog_swap.specs.Slots.{odd_slot, even_slot, slot_length}
+use Rattle.catalog_swap.specs.Slots.{odd_slot, even_slot, plain_length}
 use Rattle.catalog_swap.specs.Text.{slot_text, first_catalog}
 use Rattle.blsm_model.specs.Sizes.{Sizes, IsGeometry}
 use Rattle.blsm_model.specs.Geometry.{file_length}
@@ -43,8 +43,8 @@ zeros n = replicate n 0
 
 -- the slots are as at making: the first catalogue in that of the odd versions, and nothing in the other
 pub record HasFirstSlots (file : List ℕ) : Type 0 where
-  pub odd : part file odd_slot slot_length ≡ slot_text first_catalog
-  pub even : part file even_slot slot_length ≡ zeros slot_length
+  pub odd : part file odd_slot plain_length ≡ slot_text first_catalog
+  pub even : part file even_slot plain_length ≡ zeros plain_length
 
 -- a store that was just made: no lane has an entry
 pub record IsMade (sizes : Sizes) (file : List ℕ) : Type 0 where
@@ -55,4 +55,4 @@ pub record IsMade (sizes : Sizes) (file : List ℕ) : Type 0 where
 -- The file that making writes, with this gate: zeros, but for the superblock and the first catalogue.
 unfoldable pub first_file : ℕ → Sizes → List ℕ
 first_file gate sizes =
-    superblock gate sizes ++ zeros (odd_slot - superblock_length) ++ slot_text first_catalog ++ zeros (file_length sizes - (odd_slot + slot_length))
+    superblock gate sizes ++ zeros (odd_slot - superblock_length) ++ slot_text first_catalog ++ zeros (file_length sizes - (odd_slot + plain_length))

@@ -3,8 +3,8 @@
 //! | At | Length | What |
 //! |---|---|---|
 //! | 0 | 27 | superblock |
-//! | 512 | 85 | catalogue slot of the odd versions |
-//! | 1,024 | 85 | catalogue slot of the even versions |
+//! | 512 | 187 | catalogue slot of the odd versions |
+//! | 1,024 | 187 | catalogue slot of the even versions |
 //! | 4,096 | 3 times 4 halves | the lanes of the log |
 //! | behind them | 4,096 each | the pages |
 //!
@@ -14,7 +14,7 @@ ghost use Rattle.std.specs.Prelude.{◌≡◌};
 ghost use Rattle.store_file.specs.Layout.{superblock_text, superblock};
 
 use blsm_model::Geometry;
-use catalog_swap::SLOT_LEN;
+use catalog_swap::PLAIN_LEN;
 use gated_log::HEAD_LEN;
 
 /// How many bytes a block has: what stands before the lanes, and each page.
@@ -39,7 +39,7 @@ const FORMAT: u16 = 1;
 
 /// The catalogue of a store that was just made: its gate open, version 1, lanes 0, 1 and 2, three components without pages, and
 /// the flag 0.
-pub const FIRST_CATALOGUE: [u8; SLOT_LEN] = [
+pub const FIRST_CATALOGUE: [u8; PLAIN_LEN] = [
     1, 0, 0, 0, 0, 0, 0, 0, 1, 0, 1, 2, 0xff, 0xff, 0xff, 0xff, 0, 0, 0, 0, 0, 0, 0, 0, 0, 0, 0, 0,
     0, 0, 0, 0, 0, 0, 0, 0, 0xff, 0xff, 0xff, 0xff, 0, 0, 0, 0, 0, 0, 0, 0, 0, 0, 0, 0, 0, 0, 0, 0,
     0, 0, 0, 0, 0xff, 0xff, 0xff, 0xff, 0, 0, 0, 0, 0, 0, 0, 0, 0, 0, 0, 0, 0, 0, 0, 0, 0, 0, 0, 0,

@@ -6,7 +6,7 @@ ghost use Rattle.disk_trait.specs.Reads.{OnlyReads};
 ghost use Rattle.gated_write.specs.Gated.{open_byte};
 ghost use Rattle.blsm_model.specs.Sizes.{Sizes, IsGeometry};
 ghost use Rattle.blsm_model.specs.Geometry.{file_length};
-ghost use Rattle.catalog_swap.specs.Slots.{odd_slot, even_slot, slot_length};
+ghost use Rattle.catalog_swap.specs.Slots.{odd_slot, even_slot, plain_length};
 ghost use Rattle.store_file.specs.Layout.{superblock, superblock_length, IsStoreOf, HasFirstSlots};
 ghost use Rattle.store_file.specs.Reading.{TellsGeometry};
 
@@ -99,6 +99,6 @@ pub fn one_geometry()
     ensures same { (a b : Sizes) (file : List ℕ) → IsStoreOf a file → IsStoreOf b file → a ≡ b }
     ensures kept { (sizes : Sizes) (old new : List ℕ) → part new 0 superblock_length ≡ part old 0 superblock_length
         → length new ≡ length old → IsStoreOf sizes old → IsStoreOf sizes new }
-    ensures slots { (old new : List ℕ) → part new odd_slot slot_length ≡ part old odd_slot slot_length
-        → part new even_slot slot_length ≡ part old even_slot slot_length → HasFirstSlots old → HasFirstSlots new }
+    ensures slots { (old new : List ℕ) → part new odd_slot plain_length ≡ part old odd_slot plain_length
+        → part new even_slot plain_length ≡ part old even_slot plain_length → HasFirstSlots old → HasFirstSlots new }
 {}

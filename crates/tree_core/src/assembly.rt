@@ -66,12 +66,9 @@ impl<D: Disk + Drop> Core<D> {
             (opened parts.runs.sizes (entries_of tree.c1) (entries_of tree.c2) (catalogue_of parts.runs.catalogue) (D.state parts.disk).faults parts.annals.room) }
     {
         let now = parts.runs.catalogue();
+        let charge = now.c1.weight + now.c2.weight;
         let gears = Gears::new(&parts.runs.geometry());
-        let book = SeatBook::open(
-            parts.annals,
-            now.c1.weight + now.c2.weight,
-            parts.disk.faults(),
-        );
+        let book = SeatBook::open(parts.annals, charge, parts.disk.faults());
         Core {
             disk: parts.disk,
             held: Held {

@@ -1,5 +1,6 @@
 -- The tree of a store that was just made, the map of a tree that has a record of one key in each of its lists, and what is no tree.
-use Rattle.std.proofs.Common.{◌≡◌, ℕ, ◌+◌, ◌<◌, List, [], ◌∷◌, take, refl, ap, sym, codes, arith}
+use Rattle.std.proofs.Common.{◌≡◌, ℕ, ◌+◌, ◌<◌, List, [], ◌∷◌, false, take, refl, ap, sym, subst, codes, arith}
+use Rattle.std.specs.Prelude.{nat_eq}
 use Rattle.std.specs.List.{IsDistinct}
 use Rattle.std.proofs.lemmas.Bool.{false≢true}
 use Rattle.gated_write.specs.Gated.{open_byte}
@@ -10,10 +11,12 @@ use Rattle.record_delta.specs.declared.record.Rec.{Rec}
 use Rattle.record_delta.specs.declared.record.Rec.TheVariants.{Base, Delta, Tomb}
 use Rattle.record_delta.specs.Entries.{Entries, entries_weight, replayed}
 use Rattle.page_file.specs.Component.{RunPage, entries_of}
+use Rattle.catalog_swap.specs.declared.catalog.Progress.{Progress}
 use Rattle.catalog_swap.specs.Text.{first_catalog}
 use Rattle.store_file.specs.Layout.{first_file}
 use Rattle.store_file.proofs.LayoutLemmas.{first_file_made}
-use Rattle.tree_file.specs.Tree.{Tree, HoldsTree, FitsSizes, ReadsAsMap, first_tree, map_of_tree}
+use Rattle.tree_file.specs.Output.{IsOutputOf}
+use Rattle.tree_file.specs.Tree.{Tree, IsNamed, HoldsTree, FitsSizes, ReadsAsMap, first_tree, map_of_tree}
 use Rattle.tree_file.specs.Places.{with_components, with_pass}
 use Rattle.tree_file.proofs.OneTree.{one_tree, first_holds, first_map}
 
@@ -54,6 +57,7 @@ five = record {
   c1 = page 0 (added 100) ∷ [];
   c1x = page 1 (added 10) ∷ [];
   c2 = page 2 ((k, Base (record { count = 1; text = codes "old" })) ∷ []) ∷ [];
+  output = [];
   lane_a = (k, Delta (record { count = 1000; text = [] })) ∷ (k, Delta (record { count = 1000; text = [] })) ∷ [];
   lane_b = added 30000;
 }
@@ -77,7 +81,7 @@ deep_swapped : map_of_tree (with_components first_catalog five.c1 [] (page 3 ((k
 deep_swapped = refl
 
 -- That of the pass puts lane A's table and C1 together and turns the lanes: the map stays. If lane A stayed its counts would count twice.
-pass_swapped : map_of_tree (with_pass first_catalog (page 4 (added 2100) ∷ []) five.c1x five.c2 five) ≡ map_of_tree five
+pass_swapped : map_of_tree (with_pass first_catalog (page 4 (added 2100) ∷ []) five.c1x five.c2 [] five) ≡ map_of_tree five
 pass_swapped = refl
 
 lane_counted_twice : map_of_tree (with_components first_catalog (page 4 (added 2100) ∷ []) five.c1x five.c2 five) ≡ (k, record { count = 34111; text = codes "old" }) ∷ []
@@ -100,6 +104,17 @@ delta_below = record first_tree { c2 = page 7 (added 1) ∷ [] }
 no_delta_below : (sizes : Sizes) (file : List ℕ) → HoldsTree sizes delta_below file → ⊥
 unfolding delta_below
 no_delta_below sizes file holds = holds.bases.0
+
+-- ---- what is no progress: all of the fold, and a next page that is C1's
+no_whole_output : (sizes : Sizes) (progress : Progress) (file : List ℕ) → IsOutputOf sizes progress [] [] [] file → ⊥
+no_whole_output sizes progress file is = is.more refl
+
+one_page : Tree
+one_page = record first_tree { c1 = page 7 (added 1) ∷ [] }
+
+no_next_of_c1 : (sizes : Sizes) (progress : Progress) (file : List ℕ) → progress.next ≡ 7 → IsNamed sizes progress one_page file → ⊥
+unfolding one_page IsDistinct
+no_next_of_c1 sizes progress file is named = false≢true (sym (subst (λ (n : ℕ). nat_eq 7 n ≡ false) is named.apart.0.0))
 
 -- ---- what doesn't fit: a C1 that weighs as much as its mark, and a front of lane B that passes the high mark over the whole of lane A
 no_full_c1 : (sizes : Sizes) (tree : Tree) → entries_weight (entries_of tree.c1) ≡ c1_mark sizes → FitsSizes sizes tree → ⊥

@@ -1,10 +1,10 @@
 -- A tree stays in its file where bytes change beside it.
-use Rattle.std.specs.Prelude.{◌≢◌, ◌⊎◌, ℕ, ◌+◌, ◌<◌, ◌≤◌, List, ◌++◌}
+use Rattle.std.specs.Prelude.{◌≡◌, ◌≢◌, ◌⊎◌, ℕ, ◌+◌, ◌<◌, ◌≤◌, List, [], ◌++◌, Option, Some, None}
 use Rattle.std.proofs.lemmas.Grind.{common_steps}
 use Rattle.std.proofs.lemmas.Bool.Decides.{nat_tests}
 use Rattle.std.specs.List.{Contains}
 use Rattle.std.proofs.Common.{inl, inr, ⊎_elim, sym, subst, arith}
-use Rattle.std.proofs.lemmas.List.Elements.{Contains-append_left, Contains-append_right}
+use Rattle.std.proofs.lemmas.List.Elements.{Contains-append_left, Contains-append_right, Contains-append_cases}
 use Rattle.disk_trait.specs.Region.{Region, span, IsWithin, AreApart, IsSameOutside}
 use Rattle.disk_trait.proofs.RegionLemmas.{part_apart}
 use Rattle.blsm_model.specs.Format.{page_length}
@@ -15,15 +15,16 @@ use Rattle.record_delta.specs.Entries.{Entries}
 use Rattle.page_file.specs.File.{page_start, page_region, pages_region, AreSamePages}
 use Rattle.page_file.specs.Component.{numbers_of}
 use Rattle.page_file.proofs.PageLemmas.{others_apart, before_apart}
-use Rattle.page_file.proofs.ComponentLemmas.{component_kept}
+use Rattle.page_file.proofs.ComponentLemmas.{component_kept, run_kept}
 use Rattle.gated_log.specs.Lane.{HasEntries, lane_region}
 use Rattle.gated_log.proofs.LaneLaws.{entries_apart, lanes_apart}
 use Rattle.gated_log.proofs.LaneLemmas.{region_inside}
+use Rattle.catalog_swap.specs.declared.catalog.Progress.{Progress}
 use Rattle.catalog_swap.specs.Slots.{slot_of, slot_length, IsNewest}
 use Rattle.catalog_swap.proofs.FileLemmas.{newest_same, slots_apart}
 use Rattle.store_file.specs.Layout.{IsStoreOf, superblock_length}
 use Rattle.store_file.proofs.LayoutLaws.{store_apart}
-use Rattle.tree_file.specs.Tree.{Tree, HoldsTree, live_pages}
+use Rattle.tree_file.specs.Tree.{Tree, HasProgress, HoldsTree, kept_pages, live_pages}
 use Rattle.tree_file.specs.Places.{ReadsNext}
 use Rattle.tree_file.proofs.Terms.{IsBesideBody, IsBeside, body_region}
 
@@ -38,7 +39,7 @@ pub record HasBody (sizes : Sizes) (tree : Tree) (file : List ℕ) : Type 0 wher
 pub body_of : {sizes : Sizes} {tree : Tree} {file : List ℕ} → HoldsTree sizes tree file → HasBody sizes tree file
 body_of holds = record {
   store = holds.store;
-  reads = record { c1 = holds.c1; c1x = holds.c1x; c2 = holds.c2; apart = holds.apart; bases = holds.bases };
+  reads = record { c1 = holds.c1; c1x = holds.c1x; c2 = holds.c2; apart = holds.apart; bases = holds.bases; progress = holds.progress };
   lane_a = holds.lane_a;
   lane_b = holds.lane_b;
 }
@@ -53,6 +54,7 @@ body_holds body newest = record {
   c2 = body.reads.c2;
   apart = body.reads.apart;
   bases = body.reads.bases;
+  progress = body.reads.progress;
   lane_a = body.lane_a;
   lane_b = body.lane_b;
 }
@@ -63,21 +65,41 @@ pages_beside : {region : Region} {old new : List ℕ} (sizes : Sizes) (numbers a
     → IsSameOutside region old new → AreSamePages sizes numbers old new
 pages_beside sizes numbers all among apart same n has = part_apart (page_start sizes n) page_length (λ i here page. apart i here (n, among n has, page)) same
 
+-- what its catalogue names of a deep merge, too
+progress_beside : (sizes : Sizes) (progress : Option Progress) (tree : Tree) (old new : List ℕ) → AreSamePages sizes (numbers_of tree.output) old new
+    → HasProgress sizes progress tree old → HasProgress sizes progress tree new
+progress_beside sizes None tree old new same has = has
+progress_beside sizes (Some progress) tree old new same has =
+    let is = has.output in
+    record {
+      output = record {
+        reads = run_kept sizes progress.output tree.output (Some progress.next) old new same is.reads;
+        entries_are = is.entries_are;
+        z_is = is.z_is;
+        more = is.more;
+      };
+      apart = has.apart;
+    }
+
 -- The components of the next tree read still where bytes change apart from its pages.
-pub reads_next_beside : {region : Region} {old new : List ℕ} (sizes : Sizes) (next : Tree) → AreApart region (pages_region sizes (live_pages next)) → IsSameOutside region old new
+pub reads_next_beside : {region : Region} {old new : List ℕ} (sizes : Sizes) (next : Tree) → AreApart region (pages_region sizes (kept_pages next)) → IsSameOutside region old new
     → ReadsNext sizes next old → ReadsNext sizes next new
 reads_next_beside {region} {old} {new} sizes next apart same reads =
     let one = numbers_of next.c1 in
     let two = numbers_of next.c1x in
     let three = numbers_of next.c2 in
+    let four = numbers_of next.output in
     record {
-      c1 = component_kept sizes next.catalogue.c1 next.c1 old new (pages_beside sizes one (live_pages next) (λ n has. Contains-append_left (one ++ two) three n (Contains-append_left one two n has)) apart same) reads.c1;
+      c1 = component_kept sizes next.catalogue.c1 next.c1 old new
+          (pages_beside sizes one (kept_pages next) (λ n has. Contains-append_left (live_pages next) four n (Contains-append_left (one ++ two) three n (Contains-append_left one two n has))) apart same) reads.c1;
       c1x = component_kept sizes next.catalogue.c1x next.c1x old new
-          (pages_beside sizes two (live_pages next) (λ n has. Contains-append_left (one ++ two) three n (Contains-append_right one two n has)) apart same) reads.c1x;
+          (pages_beside sizes two (kept_pages next) (λ n has. Contains-append_left (live_pages next) four n (Contains-append_left (one ++ two) three n (Contains-append_right one two n has))) apart same) reads.c1x;
       c2 = component_kept sizes next.catalogue.c2 next.c2 old new
-          (pages_beside sizes three (live_pages next) (Contains-append_right (one ++ two) three) apart same) reads.c2;
+          (pages_beside sizes three (kept_pages next) (λ n has. Contains-append_left (live_pages next) four n (Contains-append_right (one ++ two) three n has)) apart same) reads.c2;
       apart = reads.apart;
       bases = reads.bases;
+      progress = progress_beside sizes next.catalogue.progress next old new
+          (pages_beside sizes four (kept_pages next) (Contains-append_right (live_pages next) four) apart same) reads.progress;
     }
 
 store_beside : {region : Region} {old new : List ℕ} (sizes : Sizes) → AreApart region (span 0 superblock_length) → ((i : ℕ) → region i → i < file_length sizes) → IsSameOutside region old new
@@ -116,7 +138,7 @@ pub beside_both : {one other : Region} {sizes : Sizes} {tree : Tree} → IsBesid
 beside_both one other = record { apart = λ i. ⊎_elim (one.apart i) (other.apart i); inside = λ i. ⊎_elim (one.inside i) (other.inside i) }
 
 apart_body : {region : Region} (sizes : Sizes) (tree : Tree) → AreApart region (span 0 superblock_length) → AreApart region (lane_region sizes (a_of tree.catalogue.lanes))
-    → AreApart region (lane_region sizes (b_of tree.catalogue.lanes)) → AreApart region (pages_region sizes (live_pages tree)) → AreApart region (body_region sizes tree)
+    → AreApart region (lane_region sizes (b_of tree.catalogue.lanes)) → AreApart region (pages_region sizes (kept_pages tree)) → AreApart region (body_region sizes tree)
 apart_body sizes tree front a b pages i here = ⊎_elim (front i here) (⊎_elim (a i here) (⊎_elim (b i here) (pages i here)))
 
 -- a lane is behind the slots, and before the pages
@@ -139,7 +161,7 @@ lane_inside sizes lane below i here = omega (arith, region_inside sizes lane bel
 pub head_beside : (sizes : Sizes) (tree : Tree) (at n : ℕ) → superblock_length ≤ at → at + n ≤ 4096 → IsBesideBody sizes tree (span at n)
 head_beside sizes tree at n begins ends = record {
   apart = apart_body sizes tree (λ i here there. omega (arith, begins, here.0, there.1)) (lane_front sizes (a_of tree.catalogue.lanes) at n ends)
-      (lane_front sizes (b_of tree.catalogue.lanes) at n ends) (pages_after sizes at n (live_pages tree) (omega (arith, ends)));
+      (lane_front sizes (b_of tree.catalogue.lanes) at n ends) (pages_after sizes at n (kept_pages tree) (omega (arith, ends)));
   inside = λ i here. omega (arith, ends, here.1);
 }
 
@@ -148,7 +170,7 @@ pub lane_beside : (sizes : Sizes) (tree : Tree) (lane : ℕ) → lane < 3 → la
 lane_beside sizes tree lane below not_a not_b = record {
   body = record {
     apart = apart_body sizes tree (λ i here there. omega (arith, here.0, there.1)) (lanes_apart sizes lane (a_of tree.catalogue.lanes) not_a)
-        (lanes_apart sizes lane (b_of tree.catalogue.lanes) not_b) (lane_pages sizes lane (live_pages tree) below);
+        (lanes_apart sizes lane (b_of tree.catalogue.lanes) not_b) (lane_pages sizes lane (kept_pages tree) below);
     inside = lane_inside sizes lane below;
   };
   slots = lane_slots sizes lane;
@@ -156,8 +178,8 @@ lane_beside sizes tree lane below not_a not_b = record {
 
 -- pages that aren't the tree's: those of a run that is being written, and free ones
 pub pages_are_beside : (sizes : Sizes) (tree : Tree) (numbers : List ℕ) → AreRoles tree.catalogue.lanes → ((n : ℕ) → Contains numbers n → Contains (live_pages tree) n → ⊥)
-    → ((n : ℕ) → Contains numbers n → n < page_count sizes) → IsBeside sizes tree (pages_region sizes numbers)
-pages_are_beside sizes tree numbers roles others below = record {
+    → ((n : ℕ) → Contains numbers n → Contains (numbers_of tree.output) n → ⊥) → ((n : ℕ) → Contains numbers n → n < page_count sizes) → IsBeside sizes tree (pages_region sizes numbers)
+pages_are_beside sizes tree numbers roles others others_too below = record {
   body = record {
     apart = apart_body sizes tree (front 0 superblock_length (omega arith)) (lane (a_of tree.catalogue.lanes) roles.a_below) (lane (b_of tree.catalogue.lanes) roles.b_below) pages;
     inside = λ i here. page_inside here.0 (below here.0 here.1) i here.2;
@@ -171,8 +193,11 @@ pages_are_beside sizes tree numbers roles others below = record {
     lane : (k : ℕ) → k < 3 → AreApart (pages_region sizes numbers) (lane_region sizes k)
     lane k below_3 i here there = lane_pages sizes k numbers below_3 i there here
 
-    pages : AreApart (pages_region sizes numbers) (pages_region sizes (live_pages tree))
-    pages i here there = others_apart sizes here.0 there.0 (λ same. others here.0 here.1 (subst (Contains (live_pages tree)) (sym same) there.1)) i here.2 there.2
+    none_kept : (n : ℕ) → Contains numbers n → Contains (kept_pages tree) n → ⊥
+    none_kept n has kept = ⊎_elim (others n has) (others_too n has) (Contains-append_cases (live_pages tree) (numbers_of tree.output) n kept)
+
+    pages : AreApart (pages_region sizes numbers) (pages_region sizes (kept_pages tree))
+    pages i here there = others_apart sizes here.0 there.0 (λ same. none_kept here.0 here.1 (subst (Contains (kept_pages tree)) (sym same) there.1)) i here.2 there.2
 
     page_inside : (n : ℕ) → n < page_count sizes → (i : ℕ) → page_region sizes n i → i < file_length sizes
     page_inside n lt i here = omega (arith, lt, here.1)
@@ -206,6 +231,12 @@ pub has_entries : (role : Role) {sizes : Sizes} {tree : Tree} {file : List ℕ} 
 has_entries as_a holds = holds.lane_a
 has_entries as_b holds = holds.lane_b
 
+-- the lanes don't count in what is named of a deep merge
+progress_over : (sizes : Sizes) (progress : Option Progress) (tree : Tree) (es fs : Entries) (file : List ℕ) → HasProgress sizes progress tree file
+    → HasProgress sizes progress (record tree { lane_a = es; lane_b = fs }) file
+progress_over sizes None tree es fs file has = has
+progress_over sizes (Some progress) tree es fs file has = record { output = has.output; apart = has.apart }
+
 -- bytes of one lane changed, and both lanes have these entries
 lanes_changed : {old new : List ℕ} (sizes : Sizes) (tree : Tree) (lane : ℕ) (es fs : Entries) → lane < 3 → HoldsTree sizes tree old → IsSameOutside (lane_region sizes lane) old new
     → HasEntries sizes (a_of tree.catalogue.lanes) es new → HasEntries sizes (b_of tree.catalogue.lanes) fs new → HoldsTree sizes (record tree { lane_a = es; lane_b = fs }) new
@@ -214,14 +245,21 @@ lanes_changed sizes tree lane es fs below holds same a b =
     body_holds
     (record {
       store = store_beside sizes (λ i here there. omega (arith, here.0, there.1)) (lane_inside sizes lane below) same body.store;
-      reads = components (reads_next_beside sizes tree (lane_pages sizes lane (live_pages tree) below) same body.reads);
+      reads = components (reads_next_beside sizes tree (lane_pages sizes lane (kept_pages tree) below) same body.reads);
       lane_a = a;
       lane_b = b;
     })
     (newest_same (slots_apart (lane_slots sizes lane) same) holds.newest)
   where
     components : {file : List ℕ} → ReadsNext sizes tree file → ReadsNext sizes (record tree { lane_a = es; lane_b = fs }) file
-    components reads = record { c1 = reads.c1; c1x = reads.c1x; c2 = reads.c2; apart = reads.apart; bases = reads.bases }
+    components {file} reads = record {
+      c1 = reads.c1;
+      c1x = reads.c1x;
+      c2 = reads.c2;
+      apart = reads.apart;
+      bases = reads.bases;
+      progress = progress_over sizes tree.catalogue.progress tree es fs file reads.progress;
+    }
 
 -- Where bytes of one lane alone change, and it has other entries then, the tree has these.
 pub entries_changed : (role : Role) {old new : List ℕ} (sizes : Sizes) (tree : Tree) (entries : Entries) → HoldsTree sizes tree old → IsSameOutside (lane_region sizes (lane_of role tree)) old new
@@ -242,5 +280,5 @@ same_entries as_b holds = holds
 
 -- pages that aren't the tree's, in a file that holds it
 pub other_pages : (sizes : Sizes) (tree : Tree) (numbers : List ℕ) (old new : List ℕ) → HoldsTree sizes tree old → ((n : ℕ) → Contains numbers n → Contains (live_pages tree) n → ⊥)
-    → ((n : ℕ) → Contains numbers n → n < page_count sizes) → IsSameOutside (pages_region sizes numbers) old new → HoldsTree sizes tree new
-other_pages sizes tree numbers old new holds others below = holds_beside sizes tree holds (pages_are_beside sizes tree numbers (roles_of holds) others below)
+    → ((n : ℕ) → Contains numbers n → Contains (numbers_of tree.output) n → ⊥) → ((n : ℕ) → Contains numbers n → n < page_count sizes) → IsSameOutside (pages_region sizes numbers) old new → HoldsTree sizes tree new
+other_pages sizes tree numbers old new holds others others_too below = holds_beside sizes tree holds (pages_are_beside sizes tree numbers (roles_of holds) others others_too below)

@@ -1,7 +1,7 @@
 -- The next tree's components read in the file where a run, on pages that aren't the tree's, takes the place of what it was made of.
-use Rattle.std.specs.Prelude.{◌≡◌, ℕ, List, [], ◌∷◌, ◌++◌, zero, suc, false, nat_eq, refl}
+use Rattle.std.specs.Prelude.{◌≡◌, ℕ, List, [], ◌∷◌, ◌++◌, zero, suc, false, nat_eq, refl, Option, None}
 use Rattle.std.specs.List.{AllByRecursion, Contains, IsDistinct}
-use Rattle.std.proofs.Common.{⊎_elim, sym, subst, ◌∙◌, arith}
+use Rattle.std.proofs.Common.{⊎_elim, append_assoc, sym, subst, ◌∙◌, arith}
 use Rattle.std.proofs.lemmas.Bool.{false≢true, eq-eqb, ne_eqb}
 use Rattle.std.proofs.lemmas.List.Elements.{Contains-append_left, Contains-append_right, Contains-append_cases}
 use Rattle.blsm_model.specs.Sizes.{Sizes}
@@ -10,8 +10,9 @@ use Rattle.blsm_model.specs.declared.component.Component.{Component}
 use Rattle.record_delta.specs.Entries.{Entries}
 use Rattle.page_file.specs.Component.{RunPage, ReadsAs, entries_of, numbers_of}
 use Rattle.catalog_swap.specs.declared.catalog.Catalog.{Catalog}
+use Rattle.catalog_swap.specs.declared.catalog.Progress.{Progress}
 use Rattle.tree_machine.specs.Layers.{AreBases}
-use Rattle.tree_file.specs.Tree.{Tree, HoldsTree, live_pages}
+use Rattle.tree_file.specs.Tree.{Tree, HasProgress, HoldsTree, live_pages}
 use Rattle.tree_file.specs.Places.{ReadsNext}
 use Rattle.tree_file.proofs.OneTree.{no_pages, none_apart}
 
@@ -68,12 +69,17 @@ unfolding IsDistinct
 distinct_back [] ys distinct = distinct
 distinct_back (x ∷ xs) ys distinct = distinct_back xs ys distinct.1
 
-distinct_others : (xs ys : List ℕ) → IsDistinct nat_eq (xs ++ ys) → AreOthers xs ys
+pub distinct_others : (xs ys : List ℕ) → IsDistinct nat_eq (xs ++ ys) → AreOthers xs ys
 unfolding IsDistinct
 distinct_others [] ys distinct n has also = none_in n has
 distinct_others (x ∷ xs) ys distinct n (zero, within, is) also =
     false≢true (sym (all_has (λ y. nat_eq x y ≡ false) ys n (all_back (λ y. nat_eq x y ≡ false) xs ys distinct.0) also) ∙ eq-eqb x n is)
 distinct_others (x ∷ xs) ys distinct n (suc k, within, is) also = distinct_others xs ys distinct.1 n (k, omega (arith, within), is) also
+
+-- pages that aren't the components', and the one behind them
+pub kept_apart : (live output : List ℕ) (n : ℕ) → IsDistinct nat_eq live → IsDistinct nat_eq (output ++ n ∷ []) → AreOthers live (output ++ n ∷ [])
+    → IsDistinct nat_eq ((live ++ output) ++ n ∷ [])
+kept_apart live output n one other others = subst (IsDistinct nat_eq) (sym (append_assoc live output (n ∷ []))) (distinct_both live (output ++ n ∷ []) one other others)
 
 -- ---- the next tree
 
@@ -109,6 +115,10 @@ three_distinct one two three are =
     distinct_both (one ++ two) three (distinct_both one two are.front are.middle are.front_middle) are.back
     (λ n has also. ⊎_elim (λ first. are.front_back n first also) (λ second. are.middle_back n second also) (Contains-append_cases one two n has))
 
+-- its catalogue names no deep merge's progress
+pub none_named : (sizes : Sizes) (next : Tree) (file : List ℕ) → next.catalogue.progress ≡ None → next.output ≡ [] → HasProgress sizes next.catalogue.progress next file
+none_named sizes next file none output = subst (λ (p : Option Progress). HasProgress sizes p next file) (sym none) output
+
 module _ (sizes : Sizes) (tree : Tree) (file : List ℕ) (holds : HoldsTree sizes tree file) where
   lived : AreThree (numbers_of tree.c1) (numbers_of tree.c1x) (numbers_of tree.c2)
   lived = three_of (numbers_of tree.c1) (numbers_of tree.c1x) (numbers_of tree.c2) holds.apart
@@ -123,52 +133,62 @@ module _ (sizes : Sizes) (tree : Tree) (file : List ℕ) (holds : HoldsTree size
   live_c2 n has = Contains-append_right (numbers_of tree.c1 ++ numbers_of tree.c1x) (numbers_of tree.c2) n has
 
   -- the pass's run becomes C1
-  pub next_of_pass : (next : Catalog) (a b : Entries) (component : Component) (run : List RunPage) → IsRunBeside sizes tree component run file
+  pub live_of_pass : (component : Component) (run : List RunPage) → IsRunBeside sizes tree component run file
+      → IsDistinct nat_eq (numbers_of run ++ numbers_of tree.c1x ++ numbers_of tree.c2)
+  live_of_pass component run is =
+      three_distinct (numbers_of run) (numbers_of tree.c1x) (numbers_of tree.c2) (record {
+        front = is.reads.apart;
+        middle = lived.middle;
+        back = lived.back;
+        front_middle = λ n has also. is.others n has (live_c1x n also);
+        front_back = λ n has also. is.others n has (live_c2 n also);
+        middle_back = lived.middle_back;
+      })
+
+  -- beside what a deep merge has finished, if that is named
+  pub next_of_pass : (next : Catalog) (a b : Entries) (component : Component) (run output : List RunPage) → IsRunBeside sizes tree component run file
       → next.c1 ≡ component → next.c1x ≡ tree.catalogue.c1x → next.c2 ≡ tree.catalogue.c2
-      → ReadsNext sizes (record { catalogue = next; c1 = run; c1x = tree.c1x; c2 = tree.c2; lane_a = a; lane_b = b }) file
-  next_of_pass next a b component run is c1 c1x c2 = record {
+      → HasProgress sizes next.progress (record { catalogue = next; c1 = run; c1x = tree.c1x; c2 = tree.c2; output = output; lane_a = a; lane_b = b }) file
+      → ReadsNext sizes (record { catalogue = next; c1 = run; c1x = tree.c1x; c2 = tree.c2; output = output; lane_a = a; lane_b = b }) file
+  next_of_pass next a b component run output is c1 c1x c2 progress = record {
     c1 = subst (λ (c : Component). ReadsAs sizes c run file) (sym c1) is.reads;
     c1x = subst (λ (c : Component). ReadsAs sizes c tree.c1x file) (sym c1x) holds.c1x;
     c2 = subst (λ (c : Component). ReadsAs sizes c tree.c2 file) (sym c2) holds.c2;
-    apart = three_distinct (numbers_of run) (numbers_of tree.c1x) (numbers_of tree.c2) (record {
-      front = is.reads.apart;
-      middle = lived.middle;
-      back = lived.back;
-      front_middle = λ n has also. is.others n has (live_c1x n also);
-      front_back = λ n has also. is.others n has (live_c2 n also);
-      middle_back = lived.middle_back;
-    });
+    apart = live_of_pass component run is;
     bases = holds.bases;
+    progress = progress;
   }
 
   -- or, where C1' is empty, C1', and C1 is empty
   pub next_of_rotated_pass : (next : Catalog) (a b : Entries) (component : Component) (run : List RunPage) → IsRunBeside sizes tree component run file
-      → next.c1 ≡ empty_component → next.c1x ≡ component → next.c2 ≡ tree.catalogue.c2
-      → ReadsNext sizes (record { catalogue = next; c1 = []; c1x = run; c2 = tree.c2; lane_a = a; lane_b = b }) file
-  next_of_rotated_pass next a b component run is c1 c1x c2 = record {
+      → next.c1 ≡ empty_component → next.c1x ≡ component → next.c2 ≡ tree.catalogue.c2 → next.progress ≡ None
+      → ReadsNext sizes (record { catalogue = next; c1 = []; c1x = run; c2 = tree.c2; output = []; lane_a = a; lane_b = b }) file
+  next_of_rotated_pass next a b component run is c1 c1x c2 none = record {
     c1 = subst (λ (c : Component). ReadsAs sizes c [] file) (sym c1) (no_pages sizes file);
     c1x = subst (λ (c : Component). ReadsAs sizes c run file) (sym c1x) is.reads;
     c2 = subst (λ (c : Component). ReadsAs sizes c tree.c2 file) (sym c2) holds.c2;
     apart = distinct_both (numbers_of run) (numbers_of tree.c2) is.reads.apart lived.back (λ n has also. is.others n has (live_c2 n also));
     bases = holds.bases;
+    progress = none_named sizes (record { catalogue = next; c1 = []; c1x = run; c2 = tree.c2; output = []; lane_a = a; lane_b = b }) file none refl;
   }
 
   -- C1 becomes C1' by itself
-  pub next_of_rotation : (next : Catalog) (a b : Entries) → next.c1 ≡ empty_component → next.c1x ≡ tree.catalogue.c1 → next.c2 ≡ tree.catalogue.c2
-      → ReadsNext sizes (record { catalogue = next; c1 = []; c1x = tree.c1; c2 = tree.c2; lane_a = a; lane_b = b }) file
-  next_of_rotation next a b c1 c1x c2 = record {
+  pub next_of_rotation : (next : Catalog) (a b : Entries) → next.c1 ≡ empty_component → next.c1x ≡ tree.catalogue.c1 → next.c2 ≡ tree.catalogue.c2 → next.progress ≡ None
+      → ReadsNext sizes (record { catalogue = next; c1 = []; c1x = tree.c1; c2 = tree.c2; output = []; lane_a = a; lane_b = b }) file
+  next_of_rotation next a b c1 c1x c2 none = record {
     c1 = subst (λ (c : Component). ReadsAs sizes c [] file) (sym c1) (no_pages sizes file);
     c1x = subst (λ (c : Component). ReadsAs sizes c tree.c1 file) (sym c1x) holds.c1;
     c2 = subst (λ (c : Component). ReadsAs sizes c tree.c2 file) (sym c2) holds.c2;
     apart = distinct_both (numbers_of tree.c1) (numbers_of tree.c2) lived.front lived.back lived.front_back;
     bases = holds.bases;
+    progress = none_named sizes (record { catalogue = next; c1 = []; c1x = tree.c1; c2 = tree.c2; output = []; lane_a = a; lane_b = b }) file none refl;
   }
 
   -- the deep merge's run becomes C2, and C1' is empty
   pub next_of_deep : (next : Catalog) (a b : Entries) (component : Component) (run : List RunPage) → IsRunBeside sizes tree component run file → AreBases (entries_of run)
-      → next.c1 ≡ tree.catalogue.c1 → next.c1x ≡ empty_component → next.c2 ≡ component
-      → ReadsNext sizes (record { catalogue = next; c1 = tree.c1; c1x = []; c2 = run; lane_a = a; lane_b = b }) file
-  next_of_deep next a b component run is bases c1 c1x c2 = record {
+      → next.c1 ≡ tree.catalogue.c1 → next.c1x ≡ empty_component → next.c2 ≡ component → next.progress ≡ None
+      → ReadsNext sizes (record { catalogue = next; c1 = tree.c1; c1x = []; c2 = run; output = []; lane_a = a; lane_b = b }) file
+  next_of_deep next a b component run is bases c1 c1x c2 none = record {
     c1 = subst (λ (c : Component). ReadsAs sizes c tree.c1 file) (sym c1) holds.c1;
     c1x = subst (λ (c : Component). ReadsAs sizes c [] file) (sym c1x) (no_pages sizes file);
     c2 = subst (λ (c : Component). ReadsAs sizes c run file) (sym c2) is.reads;
@@ -181,4 +201,5 @@ module _ (sizes : Sizes) (tree : Tree) (file : List ℕ) (holds : HoldsTree size
       middle_back = λ n has also. none_in n has;
     });
     bases = bases;
+    progress = none_named sizes (record { catalogue = next; c1 = tree.c1; c1x = []; c2 = run; output = []; lane_a = a; lane_b = b }) file none refl;
   }

@@ -24,7 +24,7 @@ use Rattle.catalog_swap.specs.declared.catalog.Catalog.{Catalog}
 use Rattle.catalog_swap.specs.Slots.{AreSameSlots, slot_of, other_slot, slot_length, IsNewest}
 use Rattle.catalog_swap.specs.Swap.{spare_start, prepared, IsSettled, IsPrepared, IsReady, IsNext, IsEither}
 use Rattle.catalog_swap.proofs.FileLemmas.{settled_only, settled_apart, settled_each, ready_prepared}
-use Rattle.tree_file.specs.Tree.{Tree, HoldsTree, live_pages}
+use Rattle.tree_file.specs.Tree.{Tree, HoldsTree, kept_pages}
 use Rattle.tree_file.specs.Places.{HoldsEither, StandsOn, StandsOnEither, Becomes, ReadsNext, KeepsRoles, TurnsRoles, appended_a, appended_b}
 use Rattle.tree_file.proofs.HoldsLemmas.{HasBody, body_holds, body_beside, holds_beside_body, holds_beside, beside_within, beside_both, head_beside, lane_beside, lane_pages, lane_slots, pages_after, reads_next_beside, roles_of, Role, as_a, as_b, lane_of, entries_in, with_entries, has_entries, entries_changed, same_entries}
 use Rattle.tree_file.proofs.Terms.{IsBesideBody, IsBeside, Stays}
@@ -172,9 +172,9 @@ reads_next_prepared sizes now next some roles run honest =
     reads_next_beside sizes next
     (λ i here there.
     ⊎_elim
-    (λ gate. pages_after sizes (other_slot now.version) 1 (live_pages next) (omega arith) i gate there)
+    (λ gate. pages_after sizes (other_slot now.version) 1 (kept_pages next) (omega arith) i gate there)
     (λ (gate : span (spare_start sizes now) 1 i).
-    lane_pages sizes (spare_of now.lanes) (live_pages next) roles.spare_below i (gate.0, omega (arith, some, gate.1)) there)
+    lane_pages sizes (spare_of now.lanes) (kept_pages next) roles.spare_below i (gate.0, omega (arith, some, gate.1)) there)
     here)
     (run.bytes honest)
 

@@ -10,16 +10,16 @@ use Rattle.page_file.specs.File.{pages_region}
 use Rattle.gated_log.specs.Lane.{lane_region}
 use Rattle.catalog_swap.specs.Slots.{slot_of, slot_length}
 use Rattle.store_file.specs.Layout.{superblock_length}
-use Rattle.tree_file.specs.Tree.{Tree, HoldsTree, live_pages}
+use Rattle.tree_file.specs.Tree.{Tree, HoldsTree, kept_pages}
 use Rattle.tree_file.specs.Places.{StandsOn}
 
--- what opening reads of the tree, but for the slots: the superblock, both lanes, and the pages of the components
+-- what opening reads of the tree, but for the slots: the superblock, both lanes, and the pages of the components and of the deep merge's progress
 abbrev pub body_region : Sizes → Tree → Region
 body_region sizes tree =
     λ i. span 0 superblock_length i
     ⊎ (lane_region sizes (a_of tree.catalogue.lanes) i
     ⊎ (lane_region sizes (b_of tree.catalogue.lanes) i
-    ⊎ pages_region sizes (live_pages tree) i))
+    ⊎ pages_region sizes (kept_pages tree) i))
 
 -- a region of the file in which bytes may change and the tree's body stays
 pub record IsBesideBody (sizes : Sizes) (tree : Tree) (region : Region) : Type 0 where

@@ -11,7 +11,7 @@ use Rattle.page_file.specs.Component.{RunPage, ReadsAs, entries_of}
 use Rattle.catalog_swap.specs.declared.catalog.Catalog.{Catalog}
 use Rattle.catalog_swap.specs.Swap.{IsSettled}
 use Rattle.tree_machine.specs.Layers.{AreBases}
-use Rattle.tree_file.specs.Tree.{Tree, HoldsTree, live_pages}
+use Rattle.tree_file.specs.Tree.{Tree, HasProgress, HoldsTree, live_pages}
 
 -- with one entry more in lane A, or in lane B
 abbrev pub appended_a : Key × Rec → Tree → Tree
@@ -20,13 +20,14 @@ appended_a entry tree = record tree { lane_a = tree.lane_a ++ entry ∷ [] }
 abbrev pub appended_b : Key × Rec → Tree → Tree
 appended_b entry tree = record tree { lane_b = tree.lane_b ++ entry ∷ [] }
 
--- the tree of another catalogue, which has other components on these pages and the same lanes
+-- the tree of another catalogue, which has other components on these pages, names no deep merge's progress, and has the same lanes
 abbrev pub with_components : Catalog → (c1 c1x c2 : List RunPage) → Tree → Tree
-with_components next c1 c1x c2 tree = record { catalogue = next; c1 = c1; c1x = c1x; c2 = c2; lane_a = tree.lane_a; lane_b = tree.lane_b }
+with_components next c1 c1x c2 tree = record { catalogue = next; c1 = c1; c1x = c1x; c2 = c2; output = []; lane_a = tree.lane_a; lane_b = tree.lane_b }
 
--- or whose lanes are turned, too: lane B is lane A then, and the spare lane, which is empty, lane B
-abbrev pub with_pass : Catalog → (c1 c1x c2 : List RunPage) → Tree → Tree
-with_pass next c1 c1x c2 tree = record { catalogue = next; c1 = c1; c1x = c1x; c2 = c2; lane_a = tree.lane_b; lane_b = [] }
+-- or that of one which may name what a deep merge has finished, on these pages, and whose lanes are turned: lane B is lane A then, and the spare
+-- lane, which is empty, lane B
+abbrev pub with_pass : Catalog → (c1 c1x c2 output : List RunPage) → Tree → Tree
+with_pass next c1 c1x c2 output tree = record { catalogue = next; c1 = c1; c1x = c1x; c2 = c2; output = output; lane_a = tree.lane_b; lane_b = [] }
 
 -- The lanes' roles stay, or they turn.
 abbrev pub KeepsRoles : Catalog → Catalog → Type 0
@@ -50,13 +51,15 @@ pub record StandsOnEither (sizes : Sizes) (one other : Tree) (d : DiskState) : T
   pub reads : HoldsEither sizes one other d.bytes
   pub each : (c : List ℕ) → d.images c → HoldsEither sizes one other c
 
--- In this file the next tree's components read on its pages, none of which is in two of them, and C2 has bases only.
+-- In this file the next tree's components read on its pages, none of which is in two of them, C2 has bases only, and its finished pages are what
+-- its catalogue names.
 pub record ReadsNext (sizes : Sizes) (next : Tree) (file : List ℕ) : Type 0 where
   pub c1 : ReadsAs sizes next.catalogue.c1 next.c1 file
   pub c1x : ReadsAs sizes next.catalogue.c1x next.c1x file
   pub c2 : ReadsAs sizes next.catalogue.c2 next.c2 file
   pub apart : IsDistinct nat_eq (live_pages next)
   pub bases : AreBases (entries_of next.c2)
+  pub progress : HasProgress sizes next.catalogue.progress next file
 
 -- One tree becomes another: at each moment, and now, there is the one or the other; once it is done, the other stands.
 pub record Becomes (sizes : Sizes) (one other : Tree) (done : Bool) (old new : DiskState) : Type 0 where

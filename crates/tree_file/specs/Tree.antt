@@ -1,5 +1,6 @@
--- What a store's file holds: a tree of three components on pages and two lanes of the log, which its newest catalogue names.
-use Rattle.std.specs.Prelude.{◌≡◌, ℕ, ◌+◌, ◌<◌, ◌≤◌, List, [], ◌++◌, nat_eq}
+-- What a store's file holds: a tree of three components on pages and two lanes of the log, which its newest catalogue names, and the finished
+-- pages of a deep merge, where it names these too.
+use Rattle.std.specs.Prelude.{◌≡◌, ℕ, ◌+◌, ◌<◌, ◌≤◌, List, [], ◌∷◌, ◌++◌, nat_eq, Option, Some, None}
 use Rattle.std.specs.List.{IsDistinct}
 use Rattle.blsm_model.specs.Sizes.{Sizes}
 use Rattle.blsm_model.specs.Geometry.{c1_mark, capacity}
@@ -11,24 +12,28 @@ use Rattle.record_delta.specs.Replays.{ReplaysWithin}
 use Rattle.page_file.specs.Component.{RunPage, ReadsAs, entries_of, numbers_of}
 use Rattle.gated_log.specs.Lane.{HasEntries}
 use Rattle.catalog_swap.specs.declared.catalog.Catalog.{Catalog}
+use Rattle.catalog_swap.specs.declared.catalog.Progress.{Progress}
 use Rattle.catalog_swap.specs.Slots.{IsNewest}
 use Rattle.catalog_swap.specs.Text.{first_catalog}
 use Rattle.store_file.specs.Layout.{IsStoreOf}
 use Rattle.tree_machine.specs.Lists.{Lists, map_in}
 use Rattle.tree_machine.specs.Layers.{AreBases}
+use Rattle.tree_file.specs.Output.{IsOutputOf}
 
--- The newest catalogue; the pages of C1, C1' and C2, each with its entries; and the entries of lanes A and B, as they were appended.
+-- The newest catalogue; the pages of C1, C1' and C2 and the finished ones of the deep merge that it names, each with its entries; and the entries
+-- of lanes A and B, as they were appended.
 pub record Tree : Type 0 where
   pub catalogue : Catalog
   pub c1 : List RunPage
   pub c1x : List RunPage
   pub c2 : List RunPage
+  pub output : List RunPage
   pub lane_a : Entries
   pub lane_b : Entries
 
 -- the tree of a store that was just made
 abbrev pub first_tree : Tree
-first_tree = record { catalogue = first_catalog; c1 = []; c1x = []; c2 = []; lane_a = []; lane_b = [] }
+first_tree = record { catalogue = first_catalog; c1 = []; c1x = []; c2 = []; output = []; lane_a = []; lane_b = [] }
 
 -- the lists that it has: each lane replays to its table
 abbrev pub lists_of : Tree → Lists
@@ -42,9 +47,23 @@ map_of_tree tree = map_in (lists_of tree)
 abbrev pub live_pages : Tree → List ℕ
 live_pages tree = numbers_of tree.c1 ++ numbers_of tree.c1x ++ numbers_of tree.c2
 
+-- those of the pages that must stay as they read: of these, and of the finished ones of the deep merge
+abbrev pub kept_pages : Tree → List ℕ
+kept_pages tree = live_pages tree ++ numbers_of tree.output
+
 -- how much its components weigh
 abbrev pub components_weight : Tree → ℕ
 components_weight tree = entries_weight (entries_of tree.c1) + entries_weight (entries_of tree.c1x) + entries_weight (entries_of tree.c2)
+
+-- In this file the tree's finished pages are what this progress of its deep merge says, and neither they nor the next page are in a component.
+pub record IsNamed (sizes : Sizes) (progress : Progress) (tree : Tree) (file : List ℕ) : Type 0 where
+  pub output : IsOutputOf sizes progress (entries_of tree.c1x) (entries_of tree.c2) tree.output file
+  pub apart : IsDistinct nat_eq (kept_pages tree ++ progress.next ∷ [])
+
+-- Where no progress is named, the tree has no finished pages.
+abbrev pub HasProgress : Sizes → Option Progress → Tree → List ℕ → Type 0
+HasProgress sizes None tree file = tree.output ≡ []
+HasProgress sizes (Some progress) tree file = IsNamed sizes progress tree file
 
 -- The file is a store of these sizes and holds this tree.
 pub record HoldsTree (sizes : Sizes) (tree : Tree) (file : List ℕ) : Type 0 where
@@ -56,6 +75,7 @@ pub record HoldsTree (sizes : Sizes) (tree : Tree) (file : List ℕ) : Type 0 wh
   -- no page is in two components, and C2 has bases only
   pub apart : IsDistinct nat_eq (live_pages tree)
   pub bases : AreBases (entries_of tree.c2)
+  pub progress : HasProgress sizes tree.catalogue.progress tree file
   pub lane_a : HasEntries sizes (a_of tree.catalogue.lanes) tree.lane_a file
   pub lane_b : HasEntries sizes (b_of tree.catalogue.lanes) tree.lane_b file
 

@@ -10,6 +10,7 @@ ghost use Rattle.blsm_model.specs.declared.row.Value.{Value};
 ghost use Rattle.record_delta.specs.declared.record.Rec.{Rec};
 ghost use Rattle.record_delta.specs.Entries.{AreSorted, entries_weight};
 ghost use Rattle.page_file.specs.File.{pages_region};
+ghost use Rattle.page_file.specs.Component.{numbers_of};
 ghost use Rattle.gated_log.specs.Lane.{HasEntries, lane_region};
 ghost use Rattle.store_file.specs.Layout.{IsMade};
 ghost use Rattle.tree_machine.specs.Layers.{AreLight};
@@ -48,7 +49,8 @@ pub fn a_tree_has_lists()
 /// A tree stays in a file where bytes change beside it alone. Where those of one lane change and it has other entries then, the tree has these.
 pub fn a_tree_stays()
     ensures pages { (sizes : Sizes) (tree : Tree) (numbers : List ℕ) (old new : List ℕ) → HoldsTree sizes tree old
-        → ((n : ℕ) → Contains numbers n → Contains (live_pages tree) n → ⊥) → ((n : ℕ) → Contains numbers n → n < page_count sizes)
+        → ((n : ℕ) → Contains numbers n → Contains (live_pages tree) n → ⊥) → ((n : ℕ) → Contains numbers n → Contains (numbers_of tree.output) n → ⊥)
+        → ((n : ℕ) → Contains numbers n → n < page_count sizes)
         → IsSameOutside (pages_region sizes numbers) old new → HoldsTree sizes tree new }
     ensures lane_a { (sizes : Sizes) (tree : Tree) (entry : Key × Rec) (old new : List ℕ) → HoldsTree sizes tree old
         → IsSameOutside (lane_region sizes (a_of tree.catalogue.lanes)) old new → HasEntries sizes (a_of tree.catalogue.lanes) (tree.lane_a ++ entry ∷ []) new

@@ -1,5 +1,5 @@
 -- A second walk over a component that didn't read: its pages' entries and weight are below all bounds, so it stops at the first damaged page.
-use Rattle.std.proofs.Common.{◌≡◌, ◌⊎◌, ℕ, zero, ◌+◌, ◌*◌, ◌^◌, ◌<◌, ◌≤◌, List, [], ◌∷◌, ◌++◌, length, ap, sym, subst, ◌∙◌, arith, inl, inr, ⊎_elim, Bool, Option, Some, None, Result, Ok, Err, append-nil, append_assoc, length-append}
+use Rattle.std.proofs.Common.{◌≡◌, ◌⊎◌, ℕ, zero, ◌+◌, ◌^◌, ◌<◌, ◌≤◌, List, [], ◌∷◌, ◌++◌, length, ap, sym, subst, ◌∙◌, arith, inl, inr, ⊎_elim, Bool, Option, Some, None, Result, Ok, Err, append-nil, append_assoc, length-append}
 use Rattle.std.proofs.lemmas.Grind.{common_steps}
 use Rattle.std.proofs.lemmas.Bool.Decides.{nat_tests}
 use Rattle.std.specs.Prelude.{nat_eq, IsSome, IsErr, IfErr}
@@ -13,34 +13,18 @@ use Rattle.blsm_model.specs.Geometry.{page_count}
 use Rattle.record_delta.specs.Entries.{Entries, entries_weight}
 use Rattle.page_file.specs.declared.file.Broken.{Broken}
 use Rattle.page_file.specs.declared.file.Broken.TheVariants.{Fault, Damaged}
-use Rattle.page_file.specs.Page.{page_number, most_used, IsPageOf}
+use Rattle.page_file.specs.Page.{page_number, IsPageOf}
 use Rattle.page_file.specs.Entry.{AreRising}
 use Rattle.page_file.specs.File.{page_at}
-use Rattle.page_file.specs.Component.{RunPage, ReadsAs, AreChained, entries_of, first_number, numbers_of}
-use Rattle.page_file.proofs.EntryLemmas.{few_entries}
-use Rattle.page_file.proofs.ComponentLemmas.{chain_join, entries_join, first_join, weight_is_length, weight_join}
+use Rattle.page_file.specs.Component.{RunPage, ReadsAs, AreChained, entries_of, numbers_of}
+use Rattle.page_file.proofs.ComponentLemmas.{chain_join, entries_join, first_join, weight_join}
 use Rattle.page_space.specs.Space.{SpaceState}
 use Rattle.tree_reading.specs.Pages.{AreAllowed, BeginsWith, GoesOnBehind, IsDamagedPage}
 use Rattle.tree_reading.specs.Walk.{GoesOnWithin, IsStoppedAt, TellsBroken, TellsPages, TellsStop}
-use Rattle.tree_reading.proofs.PagesLemmas.{distinct_back, no_stopped_page, single}
-use Rattle.tree_reading.proofs.WalkLemmas.{allowed_join, distinct_push, numbers_push, same_or_not}
+use Rattle.output_reading.proofs.PagesLemmas.{chain_holds, distinct_back, distinct_push, numbers_push, page_holds, same_or_not}
+use Rattle.tree_reading.proofs.PagesLemmas.{no_stopped_page, single}
+use Rattle.tree_reading.proofs.WalkLemmas.{allowed_join}
 use Rattle.tree_reading.proofs.Terms.{unbounded}
-
--- ---- how much a component's pages can hold
-
-pub record HoldLittle (entries : Entries) (pages : ℕ) : Type 0 where
-  pub few : length entries ≤ most_used * pages
-  pub light : entries_weight entries ≤ most_used * pages
-
-page_holds : (pages : ℕ) (next : Option ℕ) (es : Entries) (bytes : List ℕ) → IsPageOf pages next es bytes → HoldLittle es 1
-page_holds pages next es bytes h1 = grind (arith, common_steps, nat_tests, few_entries, weight_is_length)
-
-chain_holds : (sizes : Sizes) (ps : List RunPage) (end : Option ℕ) (file : List ℕ) → AreChained sizes ps end file → HoldLittle (entries_of ps) (length ps)
-chain_holds sizes [] end file chained = record { few = omega arith; light = omega arith }
-chain_holds sizes (p ∷ ps) end file chained =
-    let one = page_holds (page_count sizes) (first_number ps end) p.entries _ chained.1 in
-    let more = chain_holds sizes ps end file chained.2 in
-    grind (arith, common_steps, nat_tests, length-append p.entries (entries_of ps), weight_join p.entries (entries_of ps))
 
 -- ---- a page that goes on
 

@@ -19,7 +19,7 @@ use Rattle.tree_reading.specs.Damage.{IsDamagedRun}
 use Rattle.tree_reading.specs.Pages.{IsDamagedPage}
 use Rattle.tree_runs.specs.Laws.{TakesFree}
 use Rattle.tree_reading.specs.Walk.{IsWalked, TellsPages}
-use Rattle.tree_reading.specs.Reading.{AreTagged, TellsComponents}
+use Rattle.tree_reading.specs.Reading.{AreTagged, AreWalked, TellsComponents}
 use Rattle.tree_reading.proofs.MapLemmas.{no_role_yet}
 
 -- ---- the tags
@@ -50,16 +50,22 @@ tag_is tag k old new last numbers h1 h2 h3 = grind (arith, common_steps, nat_tes
 pub tagged_of : (sizes : Sizes) (catalogue : Catalog) (first second third last : SpaceState) (file : List ℕ) → first ≡ unused (page_count sizes) → TakesFree 0 catalogue.c1.pages first second
     → TakesFree 1 catalogue.c1x.pages second third → TakesFree 2 catalogue.c2.pages third last → (c1 : IsWalked sizes catalogue.c1 false [] 0 first second file)
     → (c1x : IsWalked sizes catalogue.c1x false (numbers_of c1.pages) 1 second third file) → IsWalked sizes catalogue.c2 true (numbers_of c1.pages ++ numbers_of c1x.pages) 2 third last file
-    → AreTagged sizes catalogue last file
-tagged_of sizes catalogue first second third last file is one two three c1 c1x c2 = record {
-  c1 = c1.pages;
-  c1x = c1x.pages;
-  c2 = c2.pages;
-  components = record { c1_reads = c1.reads; c1x_reads = c1x.reads; c2_reads = c2.reads; apart = c2.takes.apart; bases = c2.allowed };
-  c1_tag = λ k. tag_is 0 k first second last (numbers_of c1.pages) (three.others 0 (λ e. omega (arith, e)) ∙ two.others 0 (λ e. omega (arith, e))) (no_role_yet (page_count sizes) 0 k first is) (c1.tags k);
-  c1x_tag = λ k. tag_is 1 k second third last (numbers_of c1x.pages) (three.others 1 (λ e. omega (arith, e))) (none_in_second (page_count sizes) 1 k first second is one (λ e. omega (arith, e))) (c1x.tags k);
-  c2_tag = λ k. tag_is 2 k third last last (numbers_of c2.pages) refl (none_in_third (page_count sizes) 2 k first second third is one two (λ e. omega (arith, e)) (λ e. omega (arith, e))) (c2.tags k);
-}
+    → AreWalked sizes catalogue last file
+tagged_of sizes catalogue first second third last file is one two three c1 c1x c2 = record { tagged = tagged; takes = c2.takes }
+  where
+    tagged : AreTagged sizes catalogue last file
+    tagged = record {
+      c1 = c1.pages;
+      c1x = c1x.pages;
+      c2 = c2.pages;
+      components = record { c1_reads = c1.reads; c1x_reads = c1x.reads; c2_reads = c2.reads; apart = c2.takes.apart; bases = c2.allowed };
+      c1_tag = λ k. tag_is 0 k first second last (numbers_of c1.pages) (three.others 0 (λ e. omega (arith, e)) ∙ two.others 0
+          (λ e. omega (arith, e))) (no_role_yet (page_count sizes) 0 k first is) (c1.tags k);
+      c1x_tag = λ k. tag_is 1 k second third last (numbers_of c1x.pages) (three.others 1 (λ e. omega (arith, e)))
+          (none_in_second (page_count sizes) 1 k first second is one (λ e. omega (arith, e))) (c1x.tags k);
+      c2_tag = λ k. tag_is 2 k third last last (numbers_of c2.pages) refl
+          (none_in_third (page_count sizes) 2 k first second third is one two (λ e. omega (arith, e)) (λ e. omega (arith, e))) (c2.tags k);
+    }
 
 -- ---- answers
 

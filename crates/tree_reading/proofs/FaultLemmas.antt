@@ -37,15 +37,15 @@ pub faults_none : {A E : Type 0} {old new : DiskState} {fault : E} (a : A) → n
 faults_none a still = record { stands = λ other. still; failed = λ wrong. absurd (cc) }
 
 -- what the pages' answer tells of the count of faults is told by the answer that is made of it
-pub faults_of_ok : {end most : ℕ} {r : Result (Unit {0}) Broken} {old new : DiskState} → r ≡ Ok tt → Reads end most r old new
-    → TellsFaultsBy {R = Result (Unit {0}) Unreadable} (Err Unreadable.Fault) (Ok tt) old new
+pub faults_of_ok : {A : Type 0} {end most : ℕ} {r : Result A Broken} {old new : DiskState} {a : A} → r ≡ Ok a → Reads end most r old new
+    → TellsFaultsBy {R = Result A Unreadable} (Err Unreadable.Fault) (Ok a) old new
 faults_of_ok h1 h2 = grind (arith, common_steps, nat_tests)
 
-pub faults_of_damage : {end most n : ℕ} {r : Result (Unit {0}) Broken} {old new : DiskState} (place : Place) → r ≡ Err (broken.Damaged n)
+pub faults_of_damage : {A : Type 0} {end most n : ℕ} {r : Result A Broken} {old new : DiskState} (place : Place) → r ≡ Err (broken.Damaged n)
     → Reads end most r old new
-    → TellsFaultsBy {R = Result (Unit {0}) Unreadable} (Err Unreadable.Fault) (Err (Unreadable.Damaged place)) old new
+    → TellsFaultsBy {R = Result A Unreadable} (Err Unreadable.Fault) (Err (Unreadable.Damaged place)) old new
 faults_of_damage place h1 h2 = grind (arith, common_steps, nat_tests)
 
-pub faults_of_fault : {end most : ℕ} {r : Result (Unit {0}) Broken} {old new : DiskState} → r ≡ Err broken.Fault → Reads end most r old new
-    → TellsFaultsBy {R = Result (Unit {0}) Unreadable} (Err Unreadable.Fault) (Err Unreadable.Fault) old new
+pub faults_of_fault : {A : Type 0} {end most : ℕ} {r : Result A Broken} {old new : DiskState} → r ≡ Err broken.Fault → Reads end most r old new
+    → TellsFaultsBy {R = Result A Unreadable} (Err Unreadable.Fault) (Err Unreadable.Fault) old new
 faults_of_fault h1 h2 = grind (arith, common_steps, nat_tests)

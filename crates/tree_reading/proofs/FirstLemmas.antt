@@ -1,5 +1,5 @@
 -- A file gives one reason at most not to be read.
-use Rattle.std.proofs.Common.{◌≡◌, ◌∙◌, ℕ, ◌<◌, ◌≤◌, List, [], ◌++◌, refl, ap, sym, subst, arith, true, false}
+use Rattle.std.proofs.Common.{◌≡◌, ◌∙◌, ℕ, ◌<◌, ◌≤◌, List, [], ◌++◌, Some, refl, ap, sym, subst, arith, true, false}
 use Rattle.std.proofs.lemmas.Grind.{common_steps}
 use Rattle.std.proofs.lemmas.Bool.Decides.{nat_tests}
 use Rattle.blsm_model.specs.Components.{no_page}
@@ -7,10 +7,11 @@ use Rattle.blsm_model.specs.Sizes.{Sizes}
 use Rattle.blsm_model.specs.Geometry.{page_count}
 use Rattle.blsm_model.specs.declared.key.Key.{Key}
 use Rattle.blsm_model.specs.declared.row.Value.{Value}
-use Rattle.page_file.specs.Component.{RunPage, numbers_of}
+use Rattle.page_file.specs.Component.{RunPage, entries_of, numbers_of}
 use Rattle.page_file.proofs.PageLemmas.{few_pages}
 use Rattle.page_file.proofs.ComponentLemmas.{one_component}
 use Rattle.catalog_swap.specs.declared.catalog.Catalog.{Catalog}
+use Rattle.catalog_swap.specs.declared.catalog.Progress.{Progress}
 use Rattle.catalog_swap.proofs.SlotLemmas.{one_newest}
 use Rattle.store_file.specs.Layout.{IsStoreOf}
 use Rattle.store_file.proofs.LayoutLaws.{only_sizes}
@@ -19,11 +20,29 @@ use Rattle.tree_reading.specs.declared.found.Place.{Place}
 use Rattle.tree_reading.specs.declared.found.Place.TheVariants.{Slots, Lane, Page}
 use Rattle.tree_reading.specs.declared.found.Unreadable.{Unreadable}
 use Rattle.tree_reading.specs.Pages.{IsDamagedPage}
-use Rattle.tree_reading.specs.Damage.{HasCatalogue, IsDamagedLog, IsDamagedRun, IsFirstDamage, most_version, in_c1, in_c1x, in_c2, in_a, in_b}
+use Rattle.tree_reading.specs.Damage.{
+  HasCatalogue,
+  HasComponents,
+  IsDamagedLog,
+  IsDamagedPart,
+  IsDamagedRun,
+  IsFirstDamage,
+  most_version,
+  in_c1,
+  in_c1x,
+  in_c2,
+  in_component,
+  in_output,
+  in_a,
+  in_b,
+}
 use Rattle.tree_reading.specs.First.{IsOfFile}
 use Rattle.tree_reading.specs.Reading.{IsWhy, IsWorn}
-use Rattle.tree_reading.proofs.DamageLemmas.{no_damage, slots_fine, c1_fine, c1x_fine, run_fine, a_fine}
-use Rattle.tree_reading.proofs.PagesLemmas.{distinct_front, one_damaged_page}
+use Rattle.tree_reading.proofs.DamageLemmas.{no_damage, slots_fine, c1_fine, c1x_fine, part_fine, run_fine, a_fine}
+use Rattle.output_reading.specs.Output.{IsDeparted}
+use Rattle.output_reading.proofs.PagesLemmas.{distinct_front}
+use Rattle.output_reading.proofs.RightLemmas.{one_departs}
+use Rattle.tree_reading.proofs.PagesLemmas.{one_damaged_page}
 
 -- ---- the catalogue
 
@@ -68,6 +87,36 @@ one_run sizes catalogue n m file few (in_c2 c1 c1x reads reads_x d) (in_c2 other
     (subst (λ (l : List RunPage). IsDamagedPage sizes catalogue.c2 true (numbers_of other ++ numbers_of l) n file) (one_component sizes catalogue.c1x c1x other_x file few reads_x reads_x')
     (subst (λ (l : List RunPage). IsDamagedPage sizes catalogue.c2 true (numbers_of l ++ numbers_of c1x) n file) (one_component sizes catalogue.c1 c1 other file few reads reads') d)) e
 
+-- ---- the finished pages that are named
+
+one_output : (sizes : Sizes) (catalogue : Catalog) (progress : Progress) (c1 c1x c2 d1 d1x d2 : List RunPage) (n m : ℕ) (file : List ℕ) → page_count
+    sizes ≤ no_page
+    → HasComponents sizes catalogue c1 c1x c2 file → HasComponents sizes catalogue d1 d1x d2 file
+    → IsDeparted sizes progress (entries_of c1x) (entries_of c2) (numbers_of c1 ++ numbers_of c1x ++ numbers_of c2) n file
+    → IsDeparted sizes progress (entries_of d1x) (entries_of d2) (numbers_of d1 ++ numbers_of d1x ++ numbers_of d2) m file → n ≡ m
+one_output sizes catalogue progress c1 c1x c2 d1 d1x d2 n m file few has had d e =
+    let Departs = λ (l1 l1x l2 : List RunPage). IsDeparted sizes progress (entries_of l1x) (entries_of l2)
+    (numbers_of l1 ++ numbers_of l1x ++ numbers_of l2) n file in
+    one_departs sizes progress (entries_of d1x) (entries_of d2) (numbers_of d1 ++ numbers_of d1x ++ numbers_of d2) file few n m
+    (subst (λ (l : List RunPage). Departs d1 d1x l) (one_component sizes catalogue.c2 c2 d2 file few has.c2_reads had.c2_reads)
+    (subst (λ (l : List RunPage). Departs d1 l c2) (one_component sizes catalogue.c1x c1x d1x file few has.c1x_reads had.c1x_reads)
+    (subst (λ (l : List RunPage). Departs l c1x c2) (one_component sizes catalogue.c1 c1 d1 file few has.c1_reads had.c1_reads) d))) e
+
+some_same : (p q : Progress) → Some p ≡ Some q → p ≡ q
+some_same p q is = cc
+
+one_part : (sizes : Sizes) (catalogue : Catalog) (n m : ℕ) (file : List ℕ) → page_count sizes ≤ no_page → IsDamagedPart sizes catalogue n file →
+    IsDamagedPart sizes catalogue m file → n ≡ m
+one_part sizes catalogue n m file few (in_component d) (in_component e) = one_run sizes catalogue n m file few d e
+one_part sizes catalogue n m file few (in_component d) (in_output c1 c1x c2 has progress is e) = absurd
+    (run_fine sizes catalogue c1 c1x c2 n file few has d)
+one_part sizes catalogue n m file few (in_output c1 c1x c2 has progress is d) (in_component e) = absurd
+    (run_fine sizes catalogue c1 c1x c2 m file few has e)
+one_part sizes catalogue n m file few (in_output c1 c1x c2 has p is d) (in_output d1 d1x d2 had q is' e) =
+    one_output sizes catalogue q c1 c1x c2 d1 d1x d2 n m file few has had
+    (subst (λ (r : Progress). IsDeparted sizes r (entries_of c1x) (entries_of c2) (numbers_of c1 ++ numbers_of c1x ++ numbers_of c2) n file)
+    (some_same p q (sym is ∙ is')) d) e
+
 -- ---- the lanes
 
 one_log : (sizes : Sizes) (catalogue : Catalog) (n m : ℕ) (file : List ℕ) → IsDamagedLog sizes catalogue n file → IsDamagedLog sizes catalogue m file → n ≡ m
@@ -80,7 +129,8 @@ one_log sizes catalogue n m file (in_b is entries has within d) (in_b is' entrie
 
 page_or_lane : (sizes : Sizes) (n m : ℕ) (file : List ℕ) → IsFirstDamage sizes (Page n) file → IsFirstDamage sizes (Lane m) file → ⊥
 page_or_lane sizes n m file d e =
-    run_fine sizes e.0 e.3 e.4 e.5 n file (few_pages sizes e.1.store.geometry) e.6 (subst (λ (c : Catalog). IsDamagedRun sizes c n file) (same_catalogue sizes d.0 e.0 file d.1 e.1) d.3)
+    part_fine sizes e.0 e.3 e.4 e.5 e.7 n file (few_pages sizes e.1.store.geometry) e.6 e.8
+    (subst (λ (c : Catalog). IsDamagedPart sizes c n file) (same_catalogue sizes d.0 e.0 file d.1 e.1) d.3)
 
 pub one_place : (sizes : Sizes) (one other : Place) (file : List ℕ) → IsFirstDamage sizes one file → IsFirstDamage sizes other file → one ≡ other
 one_place sizes Slots Slots file d e = refl
@@ -90,12 +140,12 @@ one_place sizes (Page n) Slots file d e = absurd (slots_fine sizes d.0 file d.1 
 one_place sizes (Lane n) Slots file d e = absurd (slots_fine sizes d.0 file d.1 e.1)
 one_place sizes (Page n) (Page m) file d e =
     ap Page
-    (one_run sizes e.0 n m file (few_pages sizes e.1.store.geometry)
-    (subst (λ (c : Catalog). IsDamagedRun sizes c n file) (same_catalogue sizes d.0 e.0 file d.1 e.1) d.3) e.3)
+    (one_part sizes e.0 n m file (few_pages sizes e.1.store.geometry)
+    (subst (λ (c : Catalog). IsDamagedPart sizes c n file) (same_catalogue sizes d.0 e.0 file d.1 e.1) d.3) e.3)
 one_place sizes (Page n) (Lane m) file d e = absurd (page_or_lane sizes n m file d e)
 one_place sizes (Lane n) (Page m) file d e = absurd (page_or_lane sizes m n file e d)
 one_place sizes (Lane n) (Lane m) file d e =
-    ap Lane (one_log sizes e.0 n m file (subst (λ (c : Catalog). IsDamagedLog sizes c n file) (same_catalogue sizes d.0 e.0 file d.1 e.1) d.7) e.7)
+    ap Lane (one_log sizes e.0 n m file (subst (λ (c : Catalog). IsDamagedLog sizes c n file) (same_catalogue sizes d.0 e.0 file d.1 e.1) d.9) e.9)
 
 -- ---- a file that reads as a map
 

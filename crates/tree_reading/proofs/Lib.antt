@@ -2,6 +2,7 @@ pub mod Terms
 mod LaneLemmas
 mod CallsLemmas
 mod PagesLemmas
+mod NamedLemmas
 mod DamageLemmas
 mod WalkLemmas
 mod NoteLemmas

@@ -6,7 +6,8 @@ use Rattle.std.specs.Prelude.{replicate, slice_index_or}
 use Rattle.std.specs.List.{IsDistinct}
 use Rattle.page_space.specs.PageSet.{Members, IsIn, none_of}
 use Rattle.page_space.specs.Space.{HasRole, IsFree, IsPinnedBy, KeepsOtherRoles, SpaceState, pages_with, role_count, seat_count, unused}
-use Rattle.tree_reading.specs.Walk.{ChangesOnly, TakesUp}
+use Rattle.output_reading.specs.Walk.{TakesUp}
+use Rattle.tree_reading.specs.Walk.{ChangesOnly}
 
 pub none_has : (pages k : ℕ) → IsIn (none_of pages) k → ⊥
 none_has pages k has = grind (arith, common_steps, nat_tests)

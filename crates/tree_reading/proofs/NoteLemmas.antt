@@ -56,21 +56,10 @@ use Rattle.tree_runs.specs.Noting.{HasSameRoom, KeepsRooms, Notes, fence_at}
 use Rattle.tree_runs.specs.Runs.{GuideState, IsFilled, IsReserved, guide_at}
 use Rattle.tree_runs.proofs.GuideLemmas.{reserved_still}
 use Rattle.tree_reading.specs.Walk.{IsClear, IsGuideAt, StartsAt}
-use Rattle.tree_reading.proofs.PagesLemmas.{rise_front, same_pages}
-use Rattle.tree_reading.proofs.WalkLemmas.{last_push, none_here, pages_stay, pages_turn, same_or_not, still}
+use Rattle.output_reading.proofs.PagesLemmas.{last_push, pages_stay, pages_turn, rise_front, same_or_not, same_pages, still}
+use Rattle.tree_reading.proofs.WalkLemmas.{none_here}
 
 -- ---- room
-
-pub rooms_none : (tag : ℕ) (guides : List GuideState) → KeepsRooms tag guides guides
-rooms_none tag guides = record { many = refl; others = λ other differs. refl; bits = refl; fences = refl }
-
-pub rooms_then : {tag : ℕ} {old mid new : List GuideState} → KeepsRooms tag old mid → KeepsRooms tag mid new → KeepsRooms tag old new
-rooms_then one two = record {
-  many = two.many ∙ one.many;
-  others = λ other differs. two.others other differs ∙ one.others other differs;
-  bits = two.bits ∙ one.bits;
-  fences = two.fences ∙ one.fences;
-}
 
 pub same_room : {tag : ℕ} {old new : List GuideState} → KeepsRooms tag old new → HasSameRoom old new
 same_room {tag} {old} {new} keeps = record {

@@ -1,76 +1,26 @@
 -- Chains of pages from one first page, and where one is damaged.
-use Rattle.std.proofs.Common.{◌≡◌, ◌⊎◌, ◌↔◌, ℕ, ◌+◌, ◌<◌, ◌≤◌, List, [], ◌∷◌, ◌++◌, length, refl, ap, sym, subst, ◌∙◌, arith, inl, inr, ⊎_elim, Bool, true, false, Option, Some, None, append-nil, append_assoc, length-append}
+use Rattle.std.proofs.Common.{◌≡◌, ◌↔◌, ℕ, ◌+◌, ◌*◌, ◌-◌, ◌<◌, ◌≤◌, List, [], ◌∷◌, ◌++◌, length, refl, ap, sym, subst, ◌∙◌, arith, inl, inr, ⊎_elim, Bool, true, false, Option, Some, None, append_assoc, length-append}
 use Rattle.std.proofs.lemmas.Grind.{common_steps}
 use Rattle.std.proofs.lemmas.Bool.Decides.{nat_tests}
 use Rattle.std.specs.Prelude.{nat_eq, IsSome}
-use Rattle.std.specs.List.{AllByRecursion, Contains, IsDistinct}
-use Rattle.std.specs.declared.cmp.Ordering.TheVariants.{Less}
-use Rattle.std.specs.List.Sorted.{IsStrictlySortedBy}
-use Rattle.std.proofs.lemmas.Bool.{eqb-false}
+use Rattle.std.specs.List.{Contains, IsDistinct}
 use Rattle.std.proofs.lemmas.List.{map-append, nil_from_length}
-use Rattle.std.proofs.lemmas.List.Elements.{Contains-append_cases}
 use Rattle.blsm_model.specs.declared.component.Component.{Component}
-use Rattle.blsm_model.specs.declared.key.Key.{Key}
 use Rattle.blsm_model.specs.Components.{no_page}
-use Rattle.blsm_model.specs.Keys.{key_cmp}
+use Rattle.blsm_model.specs.Format.{least_full}
 use Rattle.blsm_model.specs.Sizes.{Sizes}
 use Rattle.blsm_model.specs.Geometry.{page_count}
 use Rattle.record_delta.specs.Entries.{Entries, entries_weight}
-use Rattle.page_file.specs.Entry.{AreRising, keys_of}
-use Rattle.page_file.specs.Page.{page_number, IsPageOf}
-use Rattle.page_file.specs.File.{page_at}
+use Rattle.page_file.specs.Entry.{AreRising}
+use Rattle.page_file.specs.Page.{page_number}
 use Rattle.page_file.specs.Component.{RunPage, ReadsAs, AreChained, entries_of, first_number, numbers_of}
-use Rattle.page_file.proofs.PageLemmas.{page_same}
-use Rattle.page_file.proofs.ComponentLemmas.{chain_split, entries_join, weight_join}
+use Rattle.page_file.proofs.ComponentLemmas.{chain_split, entries_join, weight_is_length, weight_join}
+use Rattle.output_reading.proofs.PagesLemmas.{front_of_chain, rise_front}
+use Rattle.output_reading.proofs.RightLemmas.{before_differs}
 use Rattle.tree_reading.specs.Pages.{AreAllowed, GoesOnBehind, IsDamagedPage}
 use Rattle.tree_reading.specs.Walk.{IsStoppedAt}
 
--- ---- two chains from one first page
-
--- the one goes on where the other ends
-pub record IsBehind (ps : List RunPage) (end : Option ℕ) (qs : List RunPage) (other : Option ℕ) : Type 0 where
-  pub rest : List RunPage
-  pub parts : qs ≡ ps ++ rest
-  pub on : page_number (first_number rest other) ≡ page_number end
-
-pub front_of_chain : (sizes : Sizes) (ps qs : List RunPage) (end other : Option ℕ) (file : List ℕ) → page_count sizes ≤ no_page → AreChained sizes ps end file → AreChained sizes qs other file
-    → page_number (first_number ps end) ≡ page_number (first_number qs other) → IsBehind ps end qs other ⊎ IsBehind qs other ps end
-front_of_chain sizes [] qs end other file few c d first = inl (record { rest = qs; parts = refl; on = sym first })
-front_of_chain sizes (p ∷ ps) [] end other file few c d first = inr (record { rest = p ∷ ps; parts = refl; on = first })
-front_of_chain sizes (p ∷ ps) (q ∷ qs) end other file few c d first =
-    let there = subst (λ (n : ℕ). IsPageOf (page_count sizes) (first_number qs other) q.entries (page_at sizes n file)) (sym first) d.1 in
-    let here = page_same (page_count sizes) (first_number ps end) (first_number qs other) p.entries q.entries (page_at sizes p.number file) few c.1 there in
-    let same : p ≡ q = λ i. record { number = first i; entries = here.1 i } in
-    elim (front_of_chain sizes ps qs end other file few c.2 d.2 (ap page_number here.0)) [
-      | inl more ↦ inl (record { rest = more.rest; parts = (λ i. sym same i ∷ more.parts i); on = more.on })
-      | inr more ↦ inr (record { rest = more.rest; parts = (λ i. same i ∷ more.parts i); on = more.on })
-    ]
-
--- and they are the same, where they are as long
-pub same_pages : (sizes : Sizes) (ps qs : List RunPage) (end other : Option ℕ) (file : List ℕ) → page_count sizes ≤ no_page → AreChained sizes ps end file → AreChained sizes qs other file
-    → page_number (first_number ps end) ≡ page_number (first_number qs other) → length ps ≡ length qs → ps ≡ qs
-same_pages sizes ps qs end other file few c d first long =
-    elim (front_of_chain sizes ps qs end other file few c d first) [
-      | inl b ↦ sym (b.parts ∙ none_behind ps b.rest (ap (λ (l : List RunPage). length l) (sym b.parts) ∙ sym long))
-      | inr b ↦ b.parts ∙ none_behind qs b.rest (ap (λ (l : List RunPage). length l) (sym b.parts) ∙ long)
-    ]
-  where
-    none_behind : (xs rest : List RunPage) → length (xs ++ rest) ≡ length xs → xs ++ rest ≡ xs
-    none_behind xs rest is = ap (λ (l : List RunPage). xs ++ l) (nil_from_length rest (omega (arith, is, length-append xs rest))) ∙ append-nil xs
-
-pub is_some : (end : Option ℕ) (n : ℕ) → page_number end ≡ n → n < no_page → end ≡ Some n
-is_some end n h1 h2 = grind (arith, common_steps, nat_tests)
-
 -- ---- parts of a list
-
-pub rise_front : (es fs : Entries) → AreRising (es ++ fs) → AreRising es
-unfolding IsStrictlySortedBy
-rise_front [] fs rise = tt
-rise_front (e ∷ es) fs rise = (front es rise.0, rise_front es fs rise.1)
-  where
-    front : (xs : Entries) → AllByRecursion (λ (k : Key). key_cmp e.0 k ≡ Less) (keys_of (xs ++ fs)) → AllByRecursion (λ (k : Key). key_cmp e.0 k ≡ Less) (keys_of xs)
-    front [] all = tt
-    front (x ∷ xs) all = (all.0, front xs all.1)
 
 pub allowed_front : (only : Bool) (es fs : Entries) → AreAllowed only (es ++ fs) → AreAllowed only es
 allowed_front false es fs all = tt
@@ -87,33 +37,6 @@ allowed_back true (e ∷ es) fs all = allowed_back true es fs all.1
 pub single : (y x : ℕ) → Contains (y ∷ []) x → y ≡ x
 single y x h1 = grind (arith, common_steps, nat_tests)
 
-pub distinct_behind : (xs : List ℕ) (y : ℕ) (ys : List ℕ) → IsDistinct nat_eq (xs ++ y ∷ ys) → Contains xs y → ⊥
-unfolding IsDistinct
-distinct_behind [] y ys apart (k, lt, is) = omega (arith, lt)
-distinct_behind (x ∷ xs) y ys apart has =
-    elim (Contains-append_cases (x ∷ []) xs y has) [
-      | inl one ↦ differs xs apart.0 (single x y one)
-      | inr more ↦ distinct_behind xs y ys apart.1 more
-    ]
-  where
-    differs : (zs : List ℕ) → AllByRecursion (λ (z : ℕ). nat_eq x z ≡ false) (zs ++ y ∷ ys) → x ≡ y → ⊥
-    differs [] all same = eqb-false x y all.0 same
-    differs (z ∷ zs) all same = differs zs all.1 same
-
-pub distinct_front : (xs ys : List ℕ) → IsDistinct nat_eq (xs ++ ys) → IsDistinct nat_eq xs
-unfolding IsDistinct
-distinct_front [] ys apart = tt
-distinct_front (x ∷ xs) ys apart = (front xs apart.0, distinct_front xs ys apart.1)
-  where
-    front : (zs : List ℕ) → AllByRecursion (λ (z : ℕ). nat_eq x z ≡ false) (zs ++ ys) → AllByRecursion (λ (z : ℕ). nat_eq x z ≡ false) zs
-    front [] all = tt
-    front (z ∷ zs) all = (all.0, front zs all.1)
-
-pub distinct_back : (xs ys : List ℕ) → IsDistinct nat_eq (xs ++ ys) → IsDistinct nat_eq ys
-unfolding IsDistinct
-distinct_back [] ys apart = apart
-distinct_back (x ∷ xs) ys apart = distinct_back xs ys apart.1
-
 -- ---- a page that others are read behind
 
 -- it goes on behind those before it, and isn't met earlier
@@ -125,7 +48,7 @@ goes_behind sizes run only earlier n ps rest qs p end file parts number chained 
     let joined : entries_of qs ≡ entries_of ps ++ (p.entries ++ entries_of rest) = ap entries_of parts ∙ entries_join ps (p ∷ rest) in
     let here = (chain_split sizes ps (p ∷ rest) end file (subst (λ (l : List RunPage). AreChained sizes l end file) parts chained)).1 in
     subst (λ k. (Contains (earlier ++ numbers_of ps) k → ⊥) × GoesOnBehind sizes run only ps k (first_number rest end) p.entries file) number (
-      distinct_behind (earlier ++ numbers_of ps) p.number (numbers_of rest)
+      before_differs (earlier ++ numbers_of ps) p.number (numbers_of rest)
           (subst (λ (l : List ℕ). IsDistinct nat_eq l)
           (ap (λ (l : List ℕ). earlier ++ l) (ap numbers_of parts ∙ map-append (λ (q : RunPage). q.number) ps (p ∷ rest)) ∙ sym (append_assoc earlier (numbers_of ps) (numbers_of (p ∷ rest)))) apart),
       record {
@@ -146,6 +69,14 @@ some_first ps h1 = grind (arith, common_steps, nat_tests)
 first_some : (ps : List RunPage) → 0 < length ps → IsSome (first_number ps None)
 first_some ps h1 = grind (arith, common_steps, nat_tests)
 
+-- pages of a component fill all but the last of them
+chained_full : (sizes : Sizes) (file : List ℕ) (ps : List RunPage) → AreChained sizes ps None file → least_full * (length ps - 1) ≤ entries_weight (entries_of ps)
+chained_full sizes file [] chained = omega arith
+chained_full sizes file (p ∷ []) chained = omega arith
+chained_full sizes file (p ∷ q ∷ ps) chained =
+    let full = chained.1.content.head.full refl in
+    omega (arith, full, weight_is_length p.entries, weight_join p.entries (entries_of (q ∷ ps)), chained_full sizes file (q ∷ ps) chained.2)
+
 pub no_stopped_page : (sizes : Sizes) (run : Component) (only : Bool) (earlier : List ℕ) (n : ℕ) (qs : List RunPage) (file : List ℕ) → page_count sizes ≤ no_page → ReadsAs sizes run qs file
     → IsDistinct nat_eq (earlier ++ numbers_of qs) → AreAllowed only (entries_of qs) → IsStoppedAt sizes run only earlier n file → ⊥
 no_stopped_page sizes run only earlier n qs file few reads apart allowed d =
@@ -159,6 +90,7 @@ no_stopped_page sizes run only earlier n qs file few reads apart allowed d =
     behind (p ∷ rest) parts on =
         let joined : entries_of qs ≡ entries_of d.pages ++ (p.entries ++ entries_of rest) = ap entries_of parts ∙ entries_join d.pages (p ∷ rest) in
         let many : length qs ≡ length d.pages + (1 + length rest) = omega (arith, ap (λ (l : List RunPage). length l) parts, length-append d.pages (p ∷ rest)) in
+        let back = (chain_split sizes d.pages (p ∷ rest) None file (subst (λ (l : List RunPage). AreChained sizes l None file) parts reads.chained)).1 in
         let counts : length (entries_of qs) ≡ length (entries_of d.pages) + (length p.entries + length (entries_of rest)) =
         ap (λ (l : Entries). length l) joined ∙ length-append (entries_of d.pages) (p.entries ++ entries_of rest) ∙ ap (λ k. length (entries_of d.pages) + k) (length-append p.entries (entries_of rest)) in
         let weighs : entries_weight (entries_of qs) ≡ entries_weight (entries_of d.pages) + (entries_weight p.entries + entries_weight (entries_of rest)) =
@@ -168,7 +100,12 @@ no_stopped_page sizes run only earlier n qs file few reads apart allowed d =
         (λ last.
         let bare : rest ≡ [] = nil_from_length rest (omega (arith, last, many, reads.pages_is)) in
         (omega (arith, counts, reads.entries_is, ap (λ (l : List RunPage). length (entries_of l)) bare), omega (arith, weighs, reads.weight_is, ap (λ (l : List RunPage). entries_weight (entries_of l)) bare))) in
-        ⊎_elim here.0 (λ none. none _ _ (record { goes_on = here.1; few = omega (arith, counts, reads.entries_is); light = omega (arith, weighs, reads.weight_is) })) d.stopped
+        ⊎_elim here.0 (λ none. none _ _ (record {
+          goes_on = here.1;
+          few = omega (arith, counts, reads.entries_is);
+          light = omega (arith, weighs, reads.weight_is);
+          enough = λ some. omega (arith, chained_full sizes file rest back.2, many, weighs, reads.pages_is, reads.weight_is);
+        })) d.stopped
 
 pub no_damaged_page : (sizes : Sizes) (run : Component) (only : Bool) (earlier : List ℕ) (n : ℕ) (qs : List RunPage) (file : List ℕ) → page_count sizes ≤ no_page → ReadsAs sizes run qs file
     → IsDistinct nat_eq (earlier ++ numbers_of qs) → AreAllowed only (entries_of qs) → IsDamagedPage sizes run only earlier n file → ⊥

@@ -15,11 +15,21 @@ use Rattle.tree_runs.specs.Runs.{AreGuides, GuideState, IsReserved, first_tags, 
 use Rattle.tree_runs.proofs.GuideLemmas.{reserved_less}
 use Rattle.tree_reading.specs.declared.found.Found.{Found}
 use Rattle.tree_reading.specs.declared.lane.LaneEnd.{LaneEnd}
-use Rattle.tree_reading.specs.declared.lanes.Ends.{Ends}
-use Rattle.tree_reading.specs.declared.found.Unreadable.{Unreadable}
 use Rattle.tree_reading.specs.Damage.{FitsMarks, HasCatalogue, catalogue_weight}
-use Rattle.tree_reading.specs.Reading.{AreReplayed, AreTagged, GuidesTree, HasLooked, HoldsFound, IsFound, at_superblock, calls_of_reading, within}
+use Rattle.tree_reading.specs.Reading.{
+  AreReplayed,
+  GuidesTree,
+  HasLooked,
+  HoldsFound,
+  IsFound,
+  IsReadAs,
+  at_superblock,
+  calls_of_pages,
+  calls_of_reading,
+  within,
+}
 use Rattle.tree_reading.proofs.LanesLemmas.{within_room}
+use Rattle.tree_reading.proofs.NamedLemmas.{ahead_in, progress_of}
 
 -- what holds at all is so of each value of Ok
 pub on_any_ok : {A E : Type 0} {P : Type 0} (r : Result A E) → P → IfOk r (λ a. P)
@@ -39,8 +49,10 @@ min_below n a b below = grind (arith, below)
 
 -- on an honest disk it is a tree that fits
 pub fits_found : (found : Found) (honest : Bool) (file : List ℕ) → IsTrue honest → IsFound found honest file → HasCatalogue found.geometry found.catalogue file
-    → AreTagged found.geometry found.catalogue found.space file → GuidesTree found.geometry found.catalogue found.guides file → HoldsFound found file
-fits_found found honest file sure is has tagged guided =
+    → IsReadAs found.geometry found.catalogue found.space found.guides found.ahead file → GuidesTree found.geometry found.catalogue found.guides file
+    → HoldsFound found file
+fits_found found honest file sure is has read guided =
+    let tagged = read.tagged in
     let r = is.replayed in
     let high = high_mark found.geometry in
     let left = capacity found.geometry - catalogue_weight found.catalogue in
@@ -50,7 +62,16 @@ fits_found found honest file sure is has tagged guided =
     let below_a : (n : ℕ) → (entries_weight (replayed (take n r.lane_a)) ≤ high) × (entries_weight (replayed (take n r.lane_a)) ≤ left) = λ n. min_below _ high left (r.a_is.within n) in
     let below_b : (n : ℕ) → (entries_weight (replayed r.lane_a) + entries_weight (replayed (take n r.lane_b)) ≤ high) × (entries_weight (replayed r.lane_a) + entries_weight (replayed (take n r.lane_b)) ≤ left) =
     λ n. min_below _ high left (together (min high left) _ _ light (r.b_is.within n)) in
-    let tree : Tree = record { catalogue = found.catalogue; c1 = tagged.c1; c1x = tagged.c1x; c2 = tagged.c2; lane_a = r.lane_a; lane_b = r.lane_b }
+    let tree : Tree = record {
+      catalogue = found.catalogue;
+      c1 = tagged.c1;
+      c1x = tagged.c1x;
+      c2 = tagged.c2;
+      output = read.output;
+      lane_a
+          = r.lane_a;
+      lane_b = r.lane_b;
+    }
     in
     record {
       tree = tree;
@@ -62,6 +83,7 @@ fits_found found honest file sure is has tagged guided =
         c2 = parts.c2_reads;
         apart = parts.apart;
         bases = parts.bases;
+        progress = progress_of found.geometry tree found.catalogue.progress file read.named;
         lane_a = r.has_a sure;
         lane_b = r.has_b sure;
       };
@@ -86,6 +108,7 @@ fits_found found honest file sure is has tagged guided =
       records_a = r.a_is.records_is;
       records_b = r.b_is.records_is;
       guided = λ are. guided are tree parts.c1_reads parts.c1x_reads parts.c2_reads;
+      over = read.over;
     }
   where
     together : (room a b : ℕ) → a ≤ room → b ≤ room - a → a + b ≤ room
@@ -102,6 +125,25 @@ pub replayed_in : (sizes : Sizes) (catalogue : Catalog) (a b : Entries) (end_a e
     → (IsTrue was → IsTrue honest) → (IsTrue was → bytes ≡ file) → AreReplayed sizes catalogue a b end_a end_b was file
 replayed_in sizes catalogue a b end_a end_b honest was bytes file h1 h2 h3 = grind (arith, common_steps, nat_tests)
 
+-- and all that was found
+pub found_in : (found : Found) (honest was : Bool) (bytes file : List ℕ) → (IsTrue was → IsTrue honest) → (IsTrue was → bytes ≡ file)
+    → IsFound found honest bytes → IsFound found was file
+found_in found honest was bytes file on same is = record {
+  head = is.head;
+  tags = is.tags;
+  sizes = is.sizes;
+  roles = is.roles;
+  replayed = replayed_in found.geometry found.catalogue found.a.entries found.b.entries _ _ honest was bytes file is.replayed on same;
+  reserved_a = is.reserved_a;
+  reserved_b = is.reserved_b;
+  whole_a = is.whole_a;
+  whole_b = is.whole_b;
+  ahead = is.ahead;
+  stands = λ are. ahead_in found.geometry honest was bytes file found.space first_tags.deep (guide_at found.guides first_tags.deep) found.ahead on
+      same
+      (is.stands are);
+}
+
 -- filters and fences that were reserved have room for what the catalogue has
 pub rooms_reserved : {E : Type 0} (sizes : Sizes) (catalogue : Catalog) → FitsMarks sizes catalogue → (r : Result (List GuideState) E)
     → IfOk r (AreGuides sizes first_tags)
@@ -110,13 +152,11 @@ rooms_reserved sizes catalogue fits (Ok guides) are c1x = record {
   c1 = λ below. reserved_less (omega (arith, fits.mark)) are.c1;
   c1x = λ below. c1x;
   c2 = λ below. reserved_less (omega (arith, fits.full)) are.c2;
+  deep = λ below. reserved_less (omega (arith, fits.full)) are.deep;
 }
 rooms_reserved sizes catalogue fits (Err e) are c1x = tt
 
 -- the calls of the lanes behind those of the pages
-pub calls_on : (r : Result Ends Unreadable) (catalogue : Catalog) (old mid new : ℕ) → mid ≤ old +
-    (catalogue.c1.pages + catalogue.c1x.pages + catalogue.c2.pages)
-    → IfOk r (λ ends. new ≤ mid + ((ends.a.records + 1) + (ends.b.records + 1))) → IfOk r
-    (λ ends. new + 4 ≤ old + calls_of_reading catalogue ends.a.records ends.b.records)
-calls_on (Ok ends) catalogue old mid new few more = omega (arith, few, more)
-calls_on (Err why) catalogue old mid new few more = tt
+pub calls_on : (catalogue : Catalog) (a b old mid new : ℕ) → mid ≤ old + calls_of_pages catalogue → new ≤ mid + ((a + 1) + (b + 1))
+    → new + 4 ≤ old + calls_of_reading catalogue a b
+calls_on catalogue a b old mid new few more = omega (arith, few, more)

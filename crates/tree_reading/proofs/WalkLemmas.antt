@@ -3,12 +3,10 @@ use Rattle.std.proofs.Common.{◌≡◌, ◌⊎◌, ◌≢◌, ◌↔◌, ℕ, �
 use Rattle.std.proofs.lemmas.Grind.{common_steps}
 use Rattle.std.proofs.lemmas.Bool.Decides.{nat_tests}
 use Rattle.std.specs.Prelude.{nat_eq, IsSome, IfSome, IfNone}
-use Rattle.std.specs.List.{Contains, IsDistinct, last_or, list_any}
+use Rattle.std.specs.List.{Contains, IsDistinct, last_or}
 use Rattle.std.specs.List.Sorted.{IsStrictlySortedBy}
-use Rattle.std.proofs.lemmas.Map.Keys.{IsDistinct-push}
-use Rattle.std.proofs.lemmas.Cmp.{nat_eq_equiv}
-use Rattle.std.proofs.lemmas.List.{map-append, nil_from_length}
-use Rattle.std.proofs.lemmas.List.Elements.{Contains-append_left, Contains-append_right, Contains-push, Contains-push_cases}
+use Rattle.std.proofs.lemmas.List.{nil_from_length}
+use Rattle.std.proofs.lemmas.List.Elements.{Contains-append_left, Contains-push, Contains-push_cases}
 use Rattle.blsm_model.specs.declared.component.Component.{Component}
 use Rattle.blsm_model.specs.declared.key.Key.{Key}
 use Rattle.blsm_model.specs.Components.{empty_component, no_page}
@@ -32,60 +30,25 @@ use Rattle.run_cursor.proofs.CursorLemmas.{none_in_none}
 use Rattle.tree_runs.specs.Laws.{TakesFree}
 use Rattle.tree_runs.specs.Runs.{IsFilled}
 use Rattle.tree_reading.specs.Pages.{AreAllowed, BeginsWith}
-use Rattle.tree_reading.specs.Walk.{Enters, GoesOnWithin, ChangesOnly, IsEntered, IsRefused, IsStoppedAt, IsWalked, TakesUp, TellsStop, due, not_free, nowhere, on}
-use Rattle.tree_reading.proofs.PagesLemmas.{front_of_chain, same_pages, is_some, allowed_back, allowed_front, distinct_front, rise_front}
-
--- ---- the pages that a cursor has read
-
--- none of them is empty, so the one that has the head is the last
-pub pages_stay : (sizes : Sizes) (run : Component) (old new : CursorState) (given more : Entries) (file : List ℕ) → page_count sizes ≤ no_page
-    → (g : HasGiven sizes run old given file) → (h : HasGiven sizes run new more file) → new.pages ≡ old.pages → h.pages ≡ g.pages
-pages_stay sizes run old new given more file h1 g h h2 = grind (arith, common_steps, nat_tests, same_pages)
-
--- where a page less is left, the next one was read
-pub record HasTurned (old : CursorState) (before after : List RunPage) : Type 0 where
-  pub page : RunPage
-  pub pages_are : after ≡ before ++ page ∷ []
-  pub number_is : page.number ≡ old.next
-
-pub pages_turn : (sizes : Sizes) (run : Component) (old new : CursorState) (given more : Entries) (file : List ℕ) → page_count sizes ≤ no_page
-    → (g : HasGiven sizes run old given file) → (h : HasGiven sizes run new more file) → old.pages ≡ new.pages + 1 → HasTurned old g.pages h.pages
-pages_turn sizes run old new given more file few g h less =
-    elim (front_of_chain sizes g.pages h.pages g.end h.end file few g.chained h.chained (g.first_is ∙ sym h.first_is)) [
-      | inl b ↦ one b.rest b.parts b.on
-      | inr b ↦ absurd (omega (arith, g.pages_is, h.pages_is, less, ap (λ (l : List RunPage). length l) b.parts, length-append h.pages b.rest))
-    ]
-  where
-    one : (rest : List RunPage) → h.pages ≡ g.pages ++ rest → page_number (first_number rest h.end) ≡ page_number g.end → HasTurned old g.pages h.pages
-    one [] parts first = absurd (omega (arith, g.pages_is, h.pages_is, less, ap (λ (l : List RunPage). length l) parts, length-append {A = RunPage} g.pages []))
-    one (p ∷ []) parts first = record { page = p; pages_are = parts; number_is = first ∙ g.end_is }
-    one (p ∷ q ∷ rest) parts first = absurd (omega (arith, g.pages_is, h.pages_is, less, ap (λ (l : List RunPage). length l) parts, length-append g.pages (p ∷ q ∷ rest)))
+use Rattle.output_reading.specs.Walk.{TakesUp}
+use Rattle.tree_reading.specs.Walk.{
+  Enters,
+  GoesOnWithin,
+  ChangesOnly,
+  IsEntered,
+  IsRefused,
+  IsStoppedAt,
+  IsWalked,
+  TellsStop,
+  due,
+  not_free,
+  nowhere,
+  on,
+}
+use Rattle.output_reading.proofs.PagesLemmas.{same_pages, is_some, distinct_front, last_push, numbers_push, pages_stay, pages_turn, rise_front, still, takes_push}
+use Rattle.tree_reading.proofs.PagesLemmas.{allowed_back, allowed_front}
 
 -- ---- what is taken up
-
--- a number and one that isn't it
-pub same_or_not : (a b : ℕ) → (a ≡ b) ⊎ (a ≢ b)
-same_or_not a b = grind (arith, common_steps, nat_tests)
-
-pub distinct_push : (xs : List ℕ) (y : ℕ) → IsDistinct nat_eq xs → (Contains xs y → ⊥) → IsDistinct nat_eq (xs ++ y ∷ [])
-distinct_push xs y apart not = IsDistinct-push nat_eq_equiv xs y apart (not_any xs not)
-  where
-    not_any : (zs : List ℕ) → (Contains zs y → ⊥) → list_any (nat_eq y) zs ≡ false
-    not_any [] none = refl
-    not_any (z ∷ zs) none = grind (arith, common_steps, nat_tests, not_any zs (λ has. none (Contains-append_right (z ∷ []) zs y has)))
-
-pub takes_push : (numbers : List ℕ) (role n : ℕ) (old new : SpaceState) → TakesUp numbers old → IsFree old n → Claims role n old new → TakesUp (numbers ++ n ∷ []) new
-takes_push numbers role n old new takes free claims = record {
-  apart = distinct_push numbers n takes.apart (λ has. takes.each n has free);
-  each = λ k has now. grind (arith, common_steps, nat_tests, Contains-push_cases numbers n k has, takes.each k, claims.free k);
-  others = λ k below.
-      elim (same_or_not k n) [
-        | inl same ↦ inr (subst (Contains (numbers ++ n ∷ [])) (sym same) (Contains-push numbers n))
-        | inr other ↦
-            ⊎_elim (λ before. inl ((claims.free k).1 (before, other))) (λ has. inr (Contains-append_left numbers (n ∷ []) k has))
-            (takes.others k (subst (λ m. k < m) claims.pages below))
-      ];
-}
 
 -- What was taken up so far: the earlier pages and these, of which the last is the page that the cursor is at.
 pub record ArePagesTaken (earlier : List ℕ) (role : ℕ) (old : SpaceState) (pages : List RunPage) (page : ℕ) (space : SpaceState) : Type 0 where
@@ -102,13 +65,6 @@ pub record HasWalked (sizes : Sizes) (run : Component) (only : Bool) (earlier : 
 
 pub taken_start : (earlier : List ℕ) (role page : ℕ) (space : SpaceState) → TakesUp earlier space → ArePagesTaken earlier role space [] page space
 taken_start earlier role page space h1 = grind (arith, common_steps, nat_tests)
-
-pub last_push : (o : Option RunPage) (ps : List RunPage) (p : RunPage) → last_or o (ps ++ p ∷ []) ≡ Some p
-last_push o [] p = refl
-last_push o (q ∷ ps) p = last_push (Some q) ps p
-
-pub numbers_push : (ps : List RunPage) (p : RunPage) → numbers_of (ps ++ p ∷ []) ≡ numbers_of ps ++ p.number ∷ []
-numbers_push ps p = map-append (λ (q : RunPage). q.number) ps (p ∷ [])
 
 taken_turned : (earlier : List ℕ) (role page n : ℕ) (old space now : SpaceState) (ps qs : List RunPage) (p : RunPage) → ArePagesTaken earlier role old ps page space → qs ≡ ps ++ p ∷ [] → p.number ≡ n
     → IsFree space n → Claims role n space now → ArePagesTaken earlier role old qs n now
@@ -127,9 +83,6 @@ taken_turned earlier role page n old space now ps qs p was parts number free cla
   where
     numbers : numbers_of qs ≡ numbers_of ps ++ n ∷ []
     numbers = ap numbers_of parts ∙ numbers_push ps p ∙ ap (λ k. numbers_of ps ++ k ∷ []) number
-
-pub still : (behind : List ℕ) (old new : ℕ) → (behind ≡ [] → old ≡ 0) → (behind ≢ [] → new ≡ old) → new ≤ old → new ≡ old
-still behind old new h1 h2 h3 = grind (arith, common_steps, nat_tests)
 
 -- one advance of the cursor, after its next page was entered
 pub taken_on : (sizes : Sizes) (run : Component) (earlier : List ℕ) (role page n : ℕ) (first space now : SpaceState) (old new : CursorState) (given more : Entries) (file : List ℕ) → page_count sizes ≤ no_page
@@ -185,6 +138,7 @@ goes_at sizes run only cursor given file next es g none more within =
           follows = (λ some. omega (arith, go.follows.0 some, g.pages_is), λ lt. go.follows.1 (omega (arith, lt, g.pages_is)));
           few = omega (arith, within.few, g.entries_is, long);
           light = omega (arith, within.light, g.weight_is, weighs);
+          enough = λ some. omega (arith, within.enough some, g.pages_is, g.weight_is, weighs);
           all = λ last. let all = go.all (omega (arith, last, g.pages_is)) in (omega (arith, all.0, g.entries_is, long), omega (arith, all.1, g.weight_is, weighs));
         };
       };

@@ -1,5 +1,5 @@
 -- The first place of a store's file that isn't of the written form.
-use Rattle.std.specs.Prelude.{◌≡◌, ℕ, ◌+◌, ◌-◌, ◌^◌, ◌<◌, ◌≤◌, List, [], ◌++◌, min, nat_eq, true, false}
+use Rattle.std.specs.Prelude.{◌≡◌, ℕ, ◌+◌, ◌-◌, ◌^◌, ◌<◌, ◌≤◌, List, [], ◌∷◌, ◌++◌, Option, Some, None, min, nat_eq, true, false}
 use Rattle.std.specs.List.{IsDistinct}
 use Rattle.blsm_model.specs.Sizes.{Sizes}
 use Rattle.blsm_model.specs.Geometry.{c1_mark, capacity, high_mark}
@@ -8,9 +8,12 @@ use Rattle.record_delta.specs.Entries.{Entries, entries_weight, replayed}
 use Rattle.page_file.specs.Component.{RunPage, ReadsAs, entries_of, numbers_of}
 use Rattle.gated_log.specs.Lane.{HasEntries}
 use Rattle.catalog_swap.specs.declared.catalog.Catalog.{Catalog}
+use Rattle.catalog_swap.specs.declared.catalog.Progress.{Progress}
 use Rattle.catalog_swap.specs.Slots.{IsNewest, IsDamagedSlots}
 use Rattle.store_file.specs.Layout.{IsStoreOf}
+use Rattle.tree_file.specs.Output.{IsOutputOf}
 use Rattle.tree_machine.specs.Layers.{AreBases}
+use Rattle.output_reading.specs.Output.{IsDeparted}
 use Rattle.tree_reading.specs.declared.found.Place.{Place}
 use Rattle.tree_reading.specs.declared.found.Place.TheVariants.{Slots, Lane, Page}
 use Rattle.tree_reading.specs.Lane.{IsDamagedLane, StaysWithin}
@@ -43,6 +46,13 @@ pub record HasComponents (sizes : Sizes) (catalogue : Catalog) (c1 c1x c2 : List
   pub apart : IsDistinct nat_eq (numbers_of c1 ++ numbers_of c1x ++ numbers_of c2)
   pub bases : AreBases (entries_of c2)
 
+-- The finished pages that are named of a deep merge of C1' and C2 are these, and neither they nor the next page are in a component; or none are.
+abbrev pub HasOutput : Sizes → Option Progress → (c1 c1x c2 output : List RunPage) → List ℕ → Type 0
+HasOutput sizes None c1 c1x c2 output file = output ≡ []
+HasOutput sizes (Some progress) c1 c1x c2 output file =
+    IsOutputOf sizes progress (entries_of c1x) (entries_of c2) output file
+    × IsDistinct nat_eq (numbers_of c1 ++ numbers_of c1x ++ numbers_of c2 ++ numbers_of output ++ progress.next ∷ [])
+
 -- how much table A may weigh, and how much table B beside it
 abbrev pub room_for_a : Sizes → ℕ → ℕ
 room_for_a sizes components = min (high_mark sizes) (capacity sizes - components)
@@ -62,6 +72,13 @@ pub data IsDamagedRun (sizes : Sizes) (catalogue : Catalog) (n : ℕ) (file : Li
   in_c2 : (c1 c1x : List RunPage) → ReadsAs sizes catalogue.c1 c1 file → ReadsAs sizes catalogue.c1x c1x file
       → IsDamagedPage sizes catalogue.c2 true (numbers_of c1 ++ numbers_of c1x) n file → IsDamagedRun sizes catalogue n file
 
+-- And where all components read, this is the first of the finished pages that are named that departs from what they are of.
+pub data IsDamagedPart (sizes : Sizes) (catalogue : Catalog) (n : ℕ) (file : List ℕ) : Type 0 where
+  in_component : IsDamagedRun sizes catalogue n file → IsDamagedPart sizes catalogue n file
+  in_output : (c1 c1x c2 : List RunPage) → HasComponents sizes catalogue c1 c1x c2 file → (progress : Progress) → catalogue.progress ≡ Some progress
+      → IsDeparted sizes progress (entries_of c1x) (entries_of c2) (numbers_of c1 ++ numbers_of c1x ++ numbers_of c2) n file
+      → IsDamagedPart sizes catalogue n file
+
 -- the first lane that doesn't replay is this
 pub data IsDamagedLog (sizes : Sizes) (catalogue : Catalog) (lane : ℕ) (file : List ℕ) : Type 0 where
   in_a : lane ≡ a_of catalogue.lanes → IsDamagedLane sizes lane (room_for_a sizes (catalogue_weight catalogue)) file → IsDamagedLog sizes catalogue lane file
@@ -71,7 +88,9 @@ pub data IsDamagedLog (sizes : Sizes) (catalogue : Catalog) (lane : ℕ) (file :
 -- Of the store in this file this is the first place that isn't of the written form.
 abbrev pub IsFirstDamage : Sizes → Place → List ℕ → Type 0
 IsFirstDamage sizes Slots file = IsStoreOf sizes file × AreDamagedSlots sizes file
-IsFirstDamage sizes (Page n) file = (catalogue : Catalog) × HasCatalogue sizes catalogue file × (catalogue.version ≤ most_version) × IsDamagedRun sizes catalogue n file
+IsFirstDamage sizes (Page n) file = (catalogue : Catalog) × HasCatalogue sizes catalogue file × (catalogue.version ≤ most_version) × IsDamagedPart
+    sizes catalogue n file
 IsFirstDamage sizes (Lane n) file =
     (catalogue : Catalog) × HasCatalogue sizes catalogue file × (catalogue.version ≤ most_version)
-    × (c1 : List RunPage) × (c1x : List RunPage) × (c2 : List RunPage) × HasComponents sizes catalogue c1 c1x c2 file × IsDamagedLog sizes catalogue n file
+    × (c1 : List RunPage) × (c1x : List RunPage) × (c2 : List RunPage) × HasComponents sizes catalogue c1 c1x c2 file
+    × (output : List RunPage) × HasOutput sizes catalogue.progress c1 c1x c2 output file × IsDamagedLog sizes catalogue n file

@@ -1,7 +1,8 @@
 -- What a walk over a component's pages does to the free-page map, and what it tells.
-use Rattle.std.specs.Prelude.{◌≡◌, ◌↔◌, ◌⊎◌, ℕ, ◌+◌, ◌-◌, ◌<◌, ◌≤◌, Bool, List, [], ◌++◌, length, nat_eq, Option, Some, None, Result, Ok, Err, ⊤}
-use Rattle.std.specs.List.{Contains, IsDistinct}
+use Rattle.std.specs.Prelude.{◌≡◌, ◌↔◌, ◌⊎◌, ℕ, ◌+◌, ◌-◌, ◌*◌, ◌<◌, ◌≤◌, IsSome, Bool, List, [], ◌++◌, length, Option, Some, None, Result, Ok, Err, ⊤}
+use Rattle.std.specs.List.{Contains}
 use Rattle.blsm_model.specs.declared.component.Component.{Component}
+use Rattle.blsm_model.specs.Format.{least_full}
 use Rattle.blsm_model.specs.Sizes.{Sizes}
 use Rattle.record_delta.specs.Entries.{Entries, entries_weight}
 use Rattle.page_file.specs.declared.file.Broken.{Broken}
@@ -13,13 +14,8 @@ use Rattle.bloom_bits.specs.Guides.{Guide}
 use Rattle.run_cursor.specs.Cursor.{CursorState}
 use Rattle.tree_runs.specs.declared.guides.PageStart.{PageStart}
 use Rattle.tree_runs.specs.Runs.{GuideState, guide_at}
+use Rattle.output_reading.specs.Walk.{TakesUp}
 use Rattle.tree_reading.specs.Pages.{AreAllowed, BeginsWith, GoesOnBehind, IsDamagedPage}
-
--- none of these pages is free, each other page is, and they are apart
-pub record TakesUp (numbers : List ℕ) (space : SpaceState) : Type 0 where
-  pub apart : IsDistinct nat_eq numbers
-  pub each : (k : ℕ) → Contains numbers k → IsFree space k → ⊥
-  pub others : (k : ℕ) → k < space.pages → IsFree space k ⊎ Contains numbers k
 
 -- The cursor reads a page next, which was free and has the tag now; or none, and it stays at its page.
 pub data IsEntered (cursor : CursorState) (page role n : ℕ) (old new : SpaceState) : Type 0 where
@@ -50,13 +46,16 @@ pub record IsWalked (sizes : Sizes) (run : Component) (bases_only : Bool) (earli
   pub takes : TakesUp (earlier ++ numbers_of pages) new
   pub tags : (k : ℕ) → HasRole new role k ↔ (HasRole old role k ⊎ Contains (numbers_of pages) k)
 
--- the page goes on, and with it entries and weight are no more than the component has
+-- The page goes on, and with it entries and weight are no more than the component has; where it isn't the last one, weight is left to fill all pages
+-- behind it but the last.
 pub record GoesOnWithin (sizes : Sizes) (run : Component) (bases_only : Bool) (pages : List RunPage) (n : ℕ) (next : Option ℕ) (entries : Entries) (file : List ℕ) : Type 0 where
   pub goes_on : GoesOnBehind sizes run bases_only pages n next entries file
   pub few : length (entries_of pages) + length entries ≤ run.entries
   pub light : entries_weight (entries_of pages) + entries_weight entries ≤ run.weight
+  pub enough : IsSome next → entries_weight (entries_of pages) + entries_weight entries + least_full * (run.pages - (length pages + 2)) ≤ run.weight
 
--- Where a walk stops that counts them down: at the damaged page, or before it, at the first one with which they are more than that.
+-- Where a walk stops that counts them down: at the damaged page, or before it, at the first one with which they are more than that, or leave too
+-- little for the pages behind.
 pub record IsStoppedAt (sizes : Sizes) (run : Component) (bases_only : Bool) (earlier : List ℕ) (n : ℕ) (file : List ℕ) : Type 0 where
   pub pages : List RunPage
   pub begins : BeginsWith sizes run bases_only earlier pages n file

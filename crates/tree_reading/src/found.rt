@@ -6,7 +6,7 @@ use gated_log::Lanes;
 use mem_table::Table;
 use page_space::Space;
 use thiserror::Error;
-use tree_runs::GuideRoom;
+use tree_runs::{GuideRoom, Resumable};
 
 /// A part of a store's file.
 #[derive(Clone, Copy, PartialEq, Eq, Debug)]
@@ -45,7 +45,7 @@ pub struct Found {
     pub geometry: Geometry,
     /// The newest catalogue.
     pub catalogue: Catalog,
-    /// The pages of C1, C1' and C2 have the tags 0, 1 and 2; all others are free.
+    /// The pages of C1, C1' and C2 have the tags 0, 1 and 2, and those of a deep merge that is taken up the tag 4; all others are free.
     pub space: Space,
     /// The tables that lanes A and B replay to, each with room for the high mark and one entry more.
     pub a: Table,
@@ -54,6 +54,8 @@ pub struct Found {
     /// How many records the lanes have.
     pub records_a: u64,
     pub records_b: u64,
-    /// The filters and the fences of C1, C1' and C2, which have the tags 0, 1 and 2, or none.
+    /// The filters and the fences of C1, C1' and C2, which have the tags 0, 1 and 2, and of a deep merge that is taken up, or none.
     pub guides: GuideRoom,
+    /// With what the deep merge goes on that the catalogue names, if it names one.
+    pub ahead: Option<Resumable>,
 }

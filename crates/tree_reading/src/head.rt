@@ -18,7 +18,7 @@ use store_file::{StoreBroken, read_geometry};
 const MOST_VERSION: u64 = 1 << 62;
 
 /// The superblock, the length, the slots and the version.
-#[derive(Clone, Copy, PartialEq, Eq, Debug)]
+#[derive(PartialEq, Eq, Debug, Drop)]
 pub struct Head {
     /// The geometry.
     pub geometry: Geometry,

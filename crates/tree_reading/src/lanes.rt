@@ -6,7 +6,7 @@ ghost use Rattle.blsm_model.specs.Format.{most_weight};
 ghost use Rattle.blsm_model.specs.Geometry.{file_length, high_mark};
 ghost use Rattle.mem_table.specs.Tables.{IsWhole};
 ghost use Rattle.page_file.specs.Component.{RunPage};
-ghost use Rattle.tree_reading.specs.Damage.{HasCatalogue, HasComponents, IsDamagedLog, catalogue_weight, room_for_a};
+ghost use Rattle.tree_reading.specs.Damage.{HasCatalogue, HasComponents, HasOutput, IsDamagedLog, catalogue_weight, room_for_a};
 ghost use Rattle.tree_reading.specs.Lane.{lane_calls};
 ghost use Rattle.tree_reading.specs.Reading.{AreReplayed, IsHead, IsWhy};
 
@@ -87,9 +87,10 @@ pub(crate) fn read_lanes<D: Disk>(
     requires length { IsTrue (D.state disk.old).tells_bytes → length (D.state disk.old).bytes ≡ file_length head.now.geometry }
     ensures replayed { IfOk result (λ ends. AreReplayed head.now.geometry head.now.catalogue a.new.entries b.new.entries ends.a ends.b
         (D.state disk.old).is_honest (D.state disk.old).bytes) }
-    ensures refused { (c1 c1x c2 : List RunPage) → IsTrue (D.state disk.old).is_honest
+    ensures refused { (c1 c1x c2 output : List RunPage) → IsTrue (D.state disk.old).is_honest
         → HasCatalogue head.now.geometry head.now.catalogue (D.state disk.old).bytes
         → HasComponents head.now.geometry head.now.catalogue c1 c1x c2 (D.state disk.old).bytes
+        → HasOutput head.now.geometry head.now.catalogue.progress c1 c1x c2 output (D.state disk.old).bytes
         → IfErr result (λ why. IsWhy why (D.state disk.old).bytes) }
     ensures reserved_a { a.new.reserved ≡ a.old.reserved }
     ensures reserved_b { b.new.reserved ≡ b.old.reserved }

@@ -9,7 +9,8 @@ ghost use Rattle.tree_runs.specs.Laws.{TakesFree};
 ghost use Rattle.tree_runs.specs.Noting.{KeepsRooms};
 ghost use Rattle.tree_runs.specs.Runs.{IsFilled, IsReserved, guide_at};
 ghost use Rattle.tree_reading.specs.Pages.{AreAllowed};
-ghost use Rattle.tree_reading.specs.Walk.{ChangesOnly, Enters, IsClear, IsGuideAt, IsStoppedAt, StartsAt, TakesUp, TellsBroken, TellsPages};
+ghost use Rattle.output_reading.specs.Walk.{TakesUp};
+ghost use Rattle.tree_reading.specs.Walk.{ChangesOnly, Enters, IsClear, IsGuideAt, IsStoppedAt, StartsAt, TellsBroken, TellsPages};
 ghost use Rattle.tree_reading.specs.Walk.{TellsStop};
 
 use blsm_model::{Component, Geometry, Key};
@@ -61,7 +62,8 @@ fn is_allowed(entry: &(Key, Rec), bases_only: bool) -> bool
 // filter and the fences of that tag, if there are any.
 //
 // `Damaged` names the first page that isn't free, isn't a valid page, or doesn't go on as the component's order and numbers say; so it may be
-// a page before the last one, with which entries or weight come to more than the component has.
+// a page before the last one, with which entries or weight come to more than the component has, or which leaves too little weight to fill the
+// pages behind it.
 fn walk_within<D: Disk>(
     disk: &mut D,
     geo: &Geometry,

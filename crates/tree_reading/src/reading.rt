@@ -1,5 +1,5 @@
 //! The order in which a store's file is read.
-ghost use Rattle.std.specs.Prelude.{◌≡◌, ◌≤◌, ◌<◌, ◌+◌, ◌*◌, [], length, Err, IsTrue, IfOk, IfErr, IsErr};
+ghost use Rattle.std.specs.Prelude.{◌≡◌, ◌≤◌, ◌<◌, ◌+◌, ◌*◌, [], length, Err, IsTrue, IfOk, IfErr, IsErr, OnOk};
 ghost use Rattle.disk_trait.specs.Disk.{TellsFaultsBy};
 ghost use Rattle.disk_trait.specs.Reads.{OnlyReads};
 ghost use Rattle.blsm_model.specs.Format.{most_weight};
@@ -8,11 +8,12 @@ ghost use Rattle.blsm_model.specs.Lanes.{a_of, b_of, region_length};
 ghost use Rattle.page_space.specs.Space.{IsSpace, unused};
 ghost use Rattle.mem_table.specs.Tables.{IsWhole, empty_table};
 ghost use Rattle.gated_log.specs.Lanes.{end_of};
+ghost use Rattle.tree_runs.specs.Ahead.{IsAhead, IsAheadOn};
 ghost use Rattle.tree_runs.specs.Noting.{AreRooms, HasSameRoom};
-ghost use Rattle.tree_runs.specs.Runs.{AreGuides, AreRead, first_tags};
+ghost use Rattle.tree_runs.specs.Runs.{AreGuides, AreRead, first_tags, guide_at};
 ghost use Rattle.tree_reading.specs.Damage.{HasCatalogue};
 ghost use Rattle.tree_reading.specs.Lane.{lane_calls};
-ghost use Rattle.tree_reading.specs.Reading.{AreReplayed, AreTagged, GuidesTree, HasLooked, HoldsFound, IsFound, IsHead, IsWhy};
+ghost use Rattle.tree_reading.specs.Reading.{AreReplayed, GuidesTree, HasLooked, HoldsFound, IsFound, IsHead, IsReadAs, IsWhy};
 ghost use Rattle.tree_reading.specs.Reading.{calls_of_reading, reading_calls};
 
 use crate::components::read_components;
@@ -26,7 +27,7 @@ use mem_table::Table;
 use page_space::Space;
 use refusal::NoMemory;
 use std::alloc::Global;
-use tree_runs::GuideRoom;
+use tree_runs::{GuideRoom, Resumable};
 
 /// What a store is read for.
 #[derive(Clone, Copy, PartialEq, Eq, Debug)]
@@ -81,8 +82,15 @@ fn reserve(alloc: Global, head: &Head, purpose: Purpose) -> Result<Room, NoMemor
     })
 }
 
-// Reads what stands behind the head: the components, and then the lanes.
-fn read_parts<D: Disk>(disk: &mut D, head: &Head, room: &mut Room) -> Result<Ends, Unreadable>
+// What stands behind the head: the ends of the lanes, and with what a deep merge goes on that is named.
+#[derive(Debug, Drop)]
+struct Parts {
+    ends: Ends,
+    ahead: Option<Resumable>,
+}
+
+// Reads what stands behind the head: the components, what is named of a deep merge, and then the lanes.
+fn read_parts<D: Disk>(disk: &mut D, head: &Head, room: &mut Room) -> Result<Parts, Unreadable>
     requires right { IsHead head.now.geometry head.now.catalogue }
     requires unused { room.old.space ≡ unused (page_count head.now.geometry) }
     requires shape { IsSpace room.old.space }
@@ -90,26 +98,31 @@ fn read_parts<D: Disk>(disk: &mut D, head: &Head, room: &mut Room) -> Result<End
     requires empty_a { room.old.a ≡ empty_table (high_mark head.now.geometry + most_weight) }
     requires empty_b { room.old.b ≡ empty_table (high_mark head.now.geometry + most_weight) }
     requires length { IsTrue (D.state disk.old).tells_bytes → length (D.state disk.old).bytes ≡ file_length head.now.geometry }
-    ensures tags { IfOk result (λ ends. AreRead head.now.geometry head.now.catalogue room.new.space) }
-    ensures tagged { IsTrue (D.state disk.old).is_honest
-        → IfOk result (λ ends. AreTagged head.now.geometry head.now.catalogue room.new.space (D.state disk.old).bytes) }
-    ensures replayed { IfOk result (λ ends. AreReplayed head.now.geometry head.now.catalogue room.new.a.entries room.new.b.entries ends.a ends.b
-        (D.state disk.old).is_honest (D.state disk.old).bytes) }
+    ensures tags { OnOk result (AreRead head.now.geometry head.now.catalogue room.new.space) }
+    ensures ahead { IfOk result (λ parts. IsAhead first_tags.deep head.now.catalogue.progress
+        (head.now.catalogue.c1x.weight + head.now.catalogue.c2.weight) parts.ahead) }
+    ensures stands { first_tags.deep < length room.old.guides → IfOk result (λ parts. IsAheadOn head.now.geometry (D.state disk.old).is_honest
+        (D.state disk.old).bytes room.new.space first_tags.deep (guide_at room.new.guides first_tags.deep) parts.ahead) }
+    ensures read { IsTrue (D.state disk.old).is_honest
+        → IfOk result (λ parts. IsReadAs head.now.geometry head.now.catalogue room.new.space room.new.guides parts.ahead (D.state disk.old).bytes) }
+    ensures replayed { IfOk result (λ parts. AreReplayed head.now.geometry head.now.catalogue room.new.a.entries room.new.b.entries parts.ends.a
+        parts.ends.b (D.state disk.old).is_honest (D.state disk.old).bytes) }
     ensures whole { IsWhole room.new.a × IsWhole room.new.b }
-    ensures reserved { IfOk result (λ ends. (room.new.a.reserved ≡ room.old.a.reserved) × (room.new.b.reserved ≡ room.old.b.reserved)) }
-    ensures guides { IfOk result (λ ends. HasSameRoom room.old.guides room.new.guides) }
+    ensures reserved { OnOk result ((room.new.a.reserved ≡ room.old.a.reserved) × (room.new.b.reserved ≡ room.old.b.reserved)) }
+    ensures guides { OnOk result (HasSameRoom room.old.guides room.new.guides) }
     ensures guided { IsTrue (D.state disk.old).is_honest
-        → IfOk result (λ ends. GuidesTree head.now.geometry head.now.catalogue room.new.guides (D.state disk.old).bytes) }
-    ensures calls { IfOk result (λ ends. (D.state disk.new).clock + 4
-        ≤ (D.state disk.old).clock + calls_of_reading head.now.catalogue ends.a.records ends.b.records) }
+        → OnOk result (GuidesTree head.now.geometry head.now.catalogue room.new.guides (D.state disk.old).bytes) }
+    ensures calls { IfOk result (λ parts. (D.state disk.new).clock + 4
+        ≤ (D.state disk.old).clock + calls_of_reading head.now.catalogue parts.ends.a.records parts.ends.b.records) }
     ensures refused { IsTrue (D.state disk.old).is_honest → HasCatalogue head.now.geometry head.now.catalogue (D.state disk.old).bytes
         → IfErr result (λ why. IsWhy why (D.state disk.old).bytes) }
     ensures faults { TellsFaultsBy (Err Unreadable.Fault) result (D.state disk.old) (D.state disk.new) }
-    ensures effect { OnlyReads (file_length head.now.geometry) (6 * page_count head.now.geometry + 2 * lane_calls head.now.geometry)
+    ensures effect { OnlyReads (file_length head.now.geometry) (9 * page_count head.now.geometry + 2 * lane_calls head.now.geometry)
         (D.state disk.old) (D.state disk.new) }
 {
-    read_components(disk, head, &mut room.space, &mut room.guides)?;
-    read_lanes(disk, head, &mut room.a, &mut room.b)
+    let ahead = read_components(disk, head, &mut room.space, &mut room.guides)?;
+    let ends = read_lanes(disk, head, &mut room.a, &mut room.b)?;
+    Ok(Parts { ends, ahead })
 }
 
 // The lanes that end at these places; nothing is known of the spare one, which is used from its start.
@@ -129,8 +142,9 @@ fn lanes_of(head: &Head, a: u64, b: u64) -> Lanes
     Lanes::resume(&head.geometry, roles, ends)
 }
 
-/// Reads the store on a disk: superblock and length, slots, version, pages of C1, C1' and C2, lane A, lane B, in this order. It writes
-/// nothing and calls no sync. To open the store it fills filters and fences of C1, C1' and C2 as it reads their pages.
+/// Reads the store on a disk: superblock and length, slots, version, pages of C1, C1' and C2, the finished pages that are named of a deep merge,
+/// lane A, lane B, in this order. It writes nothing and calls no sync. To open the store it fills filters and fences of C1, C1' and C2 as it reads
+/// their pages, and of the deep merge's run, which it hands on with what it goes on.
 ///
 /// `NotAStore`, `Damaged` and `Worn` come exactly where the file is no store, isn't of the written form, or has a version above 2^62;
 /// `Damaged` names the first such place. `Fault` comes only where the disk's count of faults rose.
@@ -139,7 +153,7 @@ pub fn read_tree<D: Disk>(
     disk: &mut D,
     purpose: Purpose,
 ) -> Result<Found, Unreadable>
-    ensures found { IfOk result (λ found. IsFound found (D.state disk.old).is_honest (D.state disk.old).bytes) }
+    ensures found { IfOk result (λ found. IsFound found (D.state disk.new).is_honest (D.state disk.new).bytes) }
     ensures holds { IsTrue (D.state disk.old).is_honest → IfOk result (λ found. HoldsFound found (D.state disk.old).bytes) }
     ensures refused { IsTrue (D.state disk.old).is_honest → IfErr result (λ why. IsWhy why (D.state disk.old).bytes) }
     ensures length { IfOk result (λ found. IsTrue (D.state disk.old).tells_bytes → length (D.state disk.old).bytes ≡ file_length found.geometry) }
@@ -154,7 +168,8 @@ pub fn read_tree<D: Disk>(
     let Ok(mut room) = reserve(alloc, &head, purpose) else {
         return Err(Unreadable::NoMemory);
     };
-    let ends = read_parts(disk, &head, &mut room)?;
+    let parts = read_parts(disk, &head, &mut room)?;
+    let Parts { ends, ahead } = parts;
     let lanes = lanes_of(&head, ends.a.place, ends.b.place);
     Ok(Found {
         geometry: head.geometry,
@@ -166,5 +181,6 @@ pub fn read_tree<D: Disk>(
         records_a: ends.a.records,
         records_b: ends.b.records,
         guides: room.guides,
+        ahead,
     })
 }

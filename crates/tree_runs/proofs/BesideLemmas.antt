@@ -17,7 +17,7 @@ use Rattle.tree_machine.proofs.QuantumLemmas.{weight_parts}
 use Rattle.tree_file.specs.Tree.{Tree, HoldsTree}
 use Rattle.tree_file.specs.Places.{appended_a, appended_b}
 use Rattle.tree_runs.specs.Runs.{GuideState, RunsState, guide_at, PassHasTag, DeepHasTag}
-use Rattle.tree_runs.specs.Holding.{AreOf, AreTagged, IsGuidedBy, IsPassOver, IsDeepOver, cursor_of_pass}
+use Rattle.tree_runs.specs.Holding.{AreFinished, AreOf, AreTagged, IsGuidedBy, IsPassOver, IsDeepOver, cursor_of_pass}
 use Rattle.tree_runs.specs.Laws.{used_region, IsBesideRuns, HeadIsBeside, RunsStay, ListsStay, EntriesJoin, EntriesWait, LeftGrows}
 use Rattle.tree_runs.proofs.KeptMerges.{KeepsRun, KeepsPages, pass_runs_still, deep_runs_still, pass_over_still, deep_over_still}
 
@@ -64,8 +64,8 @@ grown_over sizes file space guide (Some snow) a grown c1 same over = grown_merge
 -- over the tree's lists and this table, where the file holds a tree of the same components
 over_tree : (runs : RunsState) (tree next : Tree) (a grown : Entries) (old new : List ℕ) → IsBesideRuns runs old new
     → up_to (cursor_of_pass runs.pass) grown ≡ up_to (cursor_of_pass runs.pass) a → AreOf runs tree a old → HoldsTree runs.sizes next new
-    → next.catalogue ≡ tree.catalogue → next.c1 ≡ tree.c1 → next.c1x ≡ tree.c1x → next.c2 ≡ tree.c2 → AreOf runs next grown new
-over_tree runs tree next a grown old new same behind is holds catalogue c1 c1x c2 = record {
+    → next.catalogue ≡ tree.catalogue → next.c1 ≡ tree.c1 → next.c1x ≡ tree.c1x → next.c2 ≡ tree.c2 → next.output ≡ tree.output → AreOf runs next grown new
+over_tree runs tree next a grown old new same behind is holds catalogue c1 c1x c2 output = record {
   holds = holds;
   catalogue = catalogue ∙ is.catalogue;
   c1 = subst (λ (ps : List RunPage). AreTagged runs.space runs.tags.c1 ps) (sym c1) is.c1;
@@ -82,19 +82,20 @@ over_tree runs tree next a grown old new same behind is holds catalogue c1 c1x c
     c1x = subst (λ (ps : List RunPage). IsGuidedBy (guide_at runs.guides runs.tags.c1x) ps) (sym c1x) is.guided.c1x;
     c2 = subst (λ (ps : List RunPage). IsGuidedBy (guide_at runs.guides runs.tags.c2) ps) (sym c2) is.guided.c2;
   };
+  output = subst (λ (ps : List RunPage). AreFinished runs.space runs.deep ps) (sym output) is.output;
 }
 
 pub lists_stay : ListsStay
 lists_stay runs tree a old new same is holds =
-    over_tree runs tree tree a a old new same refl is holds refl refl refl refl
+    over_tree runs tree tree a a old new same refl is holds refl refl refl refl refl
 
 pub entries_join : EntriesJoin
 entries_join runs tree a old new key rec same is_ahead is holds =
-    over_tree runs tree (appended_a (key, rec) tree) a (with_record key rec a) old new same (grown_ahead (cursor_of_pass runs.pass) key rec a is_ahead) is holds refl refl refl refl
+    over_tree runs tree (appended_a (key, rec) tree) a (with_record key rec a) old new same (grown_ahead (cursor_of_pass runs.pass) key rec a is_ahead) is holds refl refl refl refl refl
 
 pub entries_wait : EntriesWait
 entries_wait runs tree a old new key rec same is holds =
-    over_tree runs tree (appended_b (key, rec) tree) a a old new same refl is holds refl refl refl refl
+    over_tree runs tree (appended_b (key, rec) tree) a a old new same refl is holds refl refl refl refl refl
 
 -- ---- numbers
 

@@ -1,15 +1,16 @@
 -- What of the map is known once the components' pages are claimed in one that has none in use.
 use Rattle.std.proofs.lemmas.Bool.Decides.{nat_tests}
 use Rattle.std.proofs.lemmas.Grind.{common_steps}
-use Rattle.std.proofs.Common.{◌≡◌, ◌≢◌, ◌∙◌, ℕ, List, [], ◌<◌, false, inl, inr, sym, subst, ap, arith}
+use Rattle.std.proofs.Common.{◌≡◌, ◌≢◌, ◌∙◌, ℕ, List, [], ◌<◌, false, inl, inr, refl, sym, subst, ap, arith, Option, None}
 use Rattle.std.specs.Prelude.{slice_index_or}
 use Rattle.blsm_model.specs.Geometry.{page_count}
 use Rattle.std.proofs.lemmas.Bool.{cases_Bool, cases_eq, false≢true}
 use Rattle.std.proofs.lemmas.List.{get_or-replicate, get_or_past, length-replicate}
 use Rattle.std.proofs.lemmas.List.Folds.{sum_by-replicate}
 use Rattle.page_space.specs.PageSet.{Members, none_of, size}
-use Rattle.page_space.specs.Space.{SpaceState, HasRole, IsFree, pages_with, pin_size, role_count, role_size, seat_count, unused}
-use Rattle.tree_runs.specs.Runs.{HasOneTag}
+use Rattle.page_space.specs.Space.{SpaceState, HasRole, IsFree, IsSpace, pages_with, pin_size, role_count, role_size, seat_count, unused}
+use Rattle.catalog_swap.specs.declared.catalog.Progress.{Progress}
+use Rattle.tree_runs.specs.Runs.{HasOneTag, pages_named}
 use Rattle.tree_runs.specs.Laws.{TakesFree, ClaimsAdd, TakenAreRead}
 use Rattle.tree_runs.proofs.ReleasedTags.{none_has}
 use Rattle.tree_runs.proofs.StayLemmas.{one_tag_taken}
@@ -55,28 +56,40 @@ claims_add tag count page old mid new takes free claims = record {
   size = omega (arith, claims.size (free.no_role tag), takes.size);
 }
 
+-- where none is named none is taken
+pub takes_none : (tag : ℕ) (progress : Option Progress) (space : SpaceState) → IsSpace space → progress ≡ None → TakesFree tag (pages_named progress) space space
+takes_none tag progress space shape none = record {
+  pages = refl;
+  shape = shape;
+  pins = refl;
+  others = λ other differs. refl;
+  fresh = λ page has. inl has;
+  size = omega (arith, ap pages_named none);
+}
+
 pub taken_are_read : TakenAreRead
-taken_are_read sizes catalogue s1 s2 s3 geometry c1 c1x c2 first second third =
+taken_are_read sizes catalogue s1 s2 s3 s4 geometry c1 c1x c2 first second third fourth =
     let pages = page_count sizes in
     let start : HasOneTag (unused pages) = λ page one other has also. absurd (unused_tags pages one page has) in
     record {
       geometry = geometry;
-      pages = third.pages ∙ second.pages ∙ first.pages;
-      shape = third.shape;
-      one_tag = one_tag_taken 2 s2 s3 third.others third.fresh (one_tag_taken 1 s1 s2 second.others second.fresh (one_tag_taken 0 (unused pages) s1 first.others first.fresh start));
+      pages = fourth.pages ∙ third.pages ∙ second.pages ∙ first.pages;
+      shape = fourth.shape;
+      one_tag = one_tag_taken 4 s3 s4 fourth.others fourth.fresh
+          (one_tag_taken 2 s2 s3 third.others third.fresh (one_tag_taken 1 s1 s2 second.others second.fresh (one_tag_taken 0 (unused pages) s1 first.others first.fresh start)));
       c1 = record {
         filled = c1;
-        size = omega (arith, first.size, unused_sizes pages 0 (omega arith), other_still second 0 (omega arith), other_still third 0 (omega arith));
+        size = omega (arith, first.size, unused_sizes pages 0 (omega arith), other_still second 0 (omega arith), other_still third 0 (omega arith), other_still fourth 0 (omega arith));
       };
       c1x = record {
         filled = c1x;
-        size = omega (arith, second.size, unused_sizes pages 1 (omega arith), other_still first 1 (omega arith), other_still third 1 (omega arith));
+        size = omega (arith, second.size, unused_sizes pages 1 (omega arith), other_still first 1 (omega arith), other_still third 1 (omega arith), other_still fourth 1 (omega arith));
       };
       c2 = record {
         filled = c2;
-        size = omega (arith, third.size, unused_sizes pages 2 (omega arith), other_still first 2 (omega arith), other_still second 2 (omega arith));
+        size = omega (arith, third.size, unused_sizes pages 2 (omega arith), other_still first 2 (omega arith), other_still second 2 (omega arith), other_still fourth 2 (omega arith));
       };
-      pass = other_still third 3 (omega arith) ∙ other_still second 3 (omega arith) ∙ other_still first 3 (omega arith) ∙ unused_sizes pages 3 (omega arith);
-      deep = other_still third 4 (omega arith) ∙ other_still second 4 (omega arith) ∙ other_still first 4 (omega arith) ∙ unused_sizes pages 4 (omega arith);
-      no_pins = λ seat below. ap (λ (pins : List Members). size (slice_index_or pins seat [])) (third.pins ∙ second.pins ∙ first.pins) ∙ unused_pins pages seat below;
+      pass = other_still fourth 3 (omega arith) ∙ other_still third 3 (omega arith) ∙ other_still second 3 (omega arith) ∙ other_still first 3 (omega arith) ∙ unused_sizes pages 3 (omega arith);
+      deep = omega (arith, fourth.size, unused_sizes pages 4 (omega arith), other_still first 4 (omega arith), other_still second 4 (omega arith), other_still third 4 (omega arith));
+      no_pins = λ seat below. ap (λ (pins : List Members). size (slice_index_or pins seat [])) (fourth.pins ∙ third.pins ∙ second.pins ∙ first.pins) ∙ unused_pins pages seat below;
     }

@@ -18,9 +18,11 @@ use Rattle.scan_view.specs.Hold.{HoldState, HasRows, pages_held}
 use Rattle.scan_view.specs.Holds.{pages_behind}
 use Rattle.scan_view.specs.Pins.{IsUnpinned, HasHeld, Pins}
 use Rattle.tree_file.specs.Tree.{Tree, live_pages}
-use Rattle.tree_runs.specs.Runs.{RunsState, AreRuns, AreRunning, guide_at, page_share}
+use Rattle.tree_runs.specs.Runs.{RunsState, AreRuns, AreRunning, PinsOfPass, guide_at, page_share}
 use Rattle.tree_runs.specs.Holding.{AreOf, IsHeldFrom}
+use Rattle.tree_runs.proofs.FinishedLemmas.{finished_still}
 use Rattle.tree_runs.proofs.PartLemmas.{no_more_pages}
+use Rattle.tree_runs.proofs.PinLemmas.{pins_fewer}
 use Rattle.tree_runs.proofs.StayLemmas.{live_tagged}
 use Rattle.tree_runs.proofs.KeptMerges.{KeepsRun, KeepsPages, pass_runs_still, deep_runs_still, pass_over_still, deep_over_still}
 use Rattle.tree_runs.proofs.BesideLemmas.{tag_of_pass, tag_of_deep, pass_has_it, deep_has_it}
@@ -30,7 +32,7 @@ pub record Repinned (runs : RunsState) (after : SpaceState) : Type 0 where
   pub roles : after.roles ≡ runs.space.roles
   pub pages : after.pages ≡ runs.space.pages
   pub shape : IsSpace after
-  pub pass_unpinned : IsUnpinned after runs.tags.pass
+  pub open_unpinned : PinsOfPass after runs.pass
   pub deep_unpinned : IsUnpinned after runs.tags.deep
   pub share : (seat : ℕ) → seat < seat_count → pin_size after seat ≤ page_share runs.sizes
 
@@ -64,7 +66,7 @@ runs_repinned runs after is are = record {
   pass_tag = are.pass_tag;
   deep_tag = are.deep_tag;
   rests = are.rests;
-  pass_unpinned = is.pass_unpinned;
+  open_unpinned = is.open_unpinned;
   deep_unpinned = is.deep_unpinned;
   within = record {
     roles = omega (arith, size_now is 0, size_now is 1, size_now is 2, size_now is 3, size_now is 4, are.within.roles);
@@ -93,21 +95,27 @@ lists_repinned runs after is tree a file of = record {
   deep = deep_over_still (guide_at runs.guides runs.tags.deep) runs.deep tree.c1x tree.c2 (keeps_run file (tag_of_deep runs.deep) is) (keeps_pages runs.tags.c1x is) (keeps_pages runs.tags.c2 is)
       (deep_has_it runs.deep) of.c1x of.c2 of.deep;
   guided = of.guided;
+  output = finished_still runs.space after (tag_of_deep runs.deep) runs.deep tree.output (deep_has_it runs.deep) (λ n has. has_now is (tag_of_deep runs.deep) n has) of.output;
 }
 
 -- ---- a hold's pins
 
--- a seat that pins the pages of three components pins none of a fourth tag
+-- a seat that pins the pages of three components pins none of a fourth tag, and the others pin what they did
+pinned_by_others : (runs : RunsState) (after : SpaceState) (seat tag : ℕ) → AreRuns runs → Pins seat runs.tags.c1 runs.tags.c1x runs.tags.c2 runs.space after
+    → runs.tags.c1 ≢ tag → runs.tags.c1x ≢ tag → runs.tags.c2 ≢ tag → (other page : ℕ) → IsPinnedBy after other page → HasRole runs.space tag page → IsPinnedBy runs.space other page
+pinned_by_others runs after seat tag are pins not_c1 not_c1x not_c2 other page pinned had =
+    elim (cases_eq other seat) [
+      | inl same ↦ absurd (⊎_elim (λ first. not_c1 (are.one_tag page runs.tags.c1 tag first had))
+          (⊎_elim (λ second. not_c1x (are.one_tag page runs.tags.c1x tag second had)) (λ third. not_c2 (are.one_tag page runs.tags.c2 tag third had)))
+          ((pins.pinned page).0 (subst (λ (s : ℕ). IsPinnedBy after s page) same pinned)))
+      | inr differs ↦ subst (λ (set : Members). IsIn set page) (pins.others other differs) pinned
+    ]
+
 unpinned_by : (runs : RunsState) (after : SpaceState) (seat tag : ℕ) → AreRuns runs → Pins seat runs.tags.c1 runs.tags.c1x runs.tags.c2 runs.space after
     → runs.tags.c1 ≢ tag → runs.tags.c1x ≢ tag → runs.tags.c2 ≢ tag → IsUnpinned runs.space tag → IsUnpinned after tag
 unpinned_by runs after seat tag are pins not_c1 not_c1x not_c2 free other page pinned has =
     let had : HasRole runs.space tag page = subst (λ (sets : List Members). IsIn (slice_index_or sets tag []) page) pins.roles has in
-    elim (cases_eq other seat) [
-      | inl same ↦ ⊎_elim (λ first. not_c1 (are.one_tag page runs.tags.c1 tag first had))
-          (⊎_elim (λ second. not_c1x (are.one_tag page runs.tags.c1x tag second had)) (λ third. not_c2 (are.one_tag page runs.tags.c2 tag third had)))
-          ((pins.pinned page).0 (subst (λ (s : ℕ). IsPinnedBy after s page) same pinned))
-      | inr differs ↦ free other page (subst (λ (set : Members). IsIn set page) (pins.others other differs) pinned) had
-    ]
+    free other page (pinned_by_others runs after seat tag are pins not_c1 not_c1x not_c2 other page pinned had) had
 
 -- three components that weigh no more than the capacity have no more than a share of pages
 share_of : (runs : RunsState) → AreRuns runs → runs.catalogue.c1.weight + runs.catalogue.c1x.weight + runs.catalogue.c2.weight ≤ capacity runs.sizes
@@ -127,7 +135,8 @@ held_repinned runs after seat are live pins = record {
   roles = pins.roles;
   pages = pins.pages;
   shape = pins.shape;
-  pass_unpinned = unpinned_by runs after seat runs.tags.pass are pins are.tags.c1_pass are.tags.c1x_pass are.tags.c2_pass are.pass_unpinned;
+  open_unpinned = pins_fewer runs.space after runs.tags.pass runs.pass are.pass_tag pins.roles
+      (pinned_by_others runs after seat runs.tags.pass are pins are.tags.c1_pass are.tags.c1x_pass are.tags.c2_pass) are.open_unpinned;
   deep_unpinned = unpinned_by runs after seat runs.tags.deep are pins are.tags.c1_deep are.tags.c1x_deep are.tags.c2_deep are.deep_unpinned;
   share = λ other below.
       elim (cases_eq other seat) [
@@ -137,7 +146,7 @@ held_repinned runs after seat are live pins = record {
 }
 
 unchanged : (runs : RunsState) → AreRuns runs → Repinned runs runs.space
-unchanged runs are = record { roles = refl; pages = refl; shape = are.shape; pass_unpinned = are.pass_unpinned; deep_unpinned = are.deep_unpinned; share = are.within.seats }
+unchanged runs are = record { roles = refl; pages = refl; shape = are.shape; open_unpinned = are.open_unpinned; deep_unpinned = are.deep_unpinned; share = are.within.seats }
 
 -- where memory was refused the map is as it was
 pub built_repinned : {T E : Type 0} (runs : RunsState) (after : SpaceState) (seat : ℕ) (result : Result T E) → AreRuns runs
@@ -175,6 +184,9 @@ pub record Unpins (seat : ℕ) (old new : SpaceState) : Type 0 where
   pub shape : IsSpace new
   pub size : pin_size new seat ≡ 0
 
+pinned_without : (old new : SpaceState) (seat other page : ℕ) → Unpins seat old new → IsPinnedBy new other page → IsPinnedBy old other page
+pinned_without old new seat other page drops pinned = grind (arith, common_steps, nat_tests)
+
 unpinned_without : (old new : SpaceState) (seat tag : ℕ) → Unpins seat old new → IsUnpinned old tag → IsUnpinned new tag
 unpinned_without old new seat tag drops free other page pinned has = grind (arith, common_steps, nat_tests)
 
@@ -183,7 +195,7 @@ dropped_repinned runs after seat are drops = record {
   roles = drops.roles;
   pages = drops.pages;
   shape = drops.shape;
-  pass_unpinned = unpinned_without runs.space after seat runs.tags.pass drops are.pass_unpinned;
+  open_unpinned = pins_fewer runs.space after runs.tags.pass runs.pass are.pass_tag drops.roles (λ other page pinned had. pinned_without runs.space after seat other page drops pinned) are.open_unpinned;
   deep_unpinned = unpinned_without runs.space after seat runs.tags.deep drops are.deep_unpinned;
   share = λ other below.
       elim (cases_eq other seat) [

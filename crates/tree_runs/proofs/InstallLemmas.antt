@@ -6,13 +6,14 @@ use Rattle.std.proofs.Common.{sym, subst, ap, ◌∙◌, arith}
 use Rattle.blsm_model.specs.Components.{empty_component}
 use Rattle.blsm_model.specs.declared.component.Component.{Component}
 use Rattle.catalog_swap.specs.declared.catalog.Catalog.{Catalog}
+use Rattle.catalog_swap.specs.declared.catalog.Progress.{Progress}
 use Rattle.page_space.specs.Space.{SpaceState, role_size}
 use Rattle.deep_merge.specs.Merge.{DeepState, started as deep_started}
 use Rattle.tree_runs.specs.Runs.{GuideState, RunsState, Tags, AreGuides, AreRuns, AreTags, HasOneTag, IsFilled, IsHeld, RestsEmpty, made_by_pass, made_by_deep}
 use Rattle.tree_runs.proofs.ReleasedTags.{Released, has_before, size_still, sizes_released}
 use Rattle.tree_runs.proofs.CatalogLemmas.{HasParts}
 use Rattle.tree_runs.proofs.CountLemmas.{pins_same}
-use Rattle.tree_runs.proofs.PinLemmas.{unpinned_still, released_unpinned}
+use Rattle.tree_runs.proofs.PinLemmas.{pins_still, unpinned_still, released_unpinned}
 
 -- ---- which tags are which
 
@@ -45,7 +46,7 @@ one_tag_still is once page one other has also = once page one other (has_before 
 
 -- ---- the deep merge's run becomes C2
 
-pub runs_for_deep : (old : RunsState) (next : Catalog) (mid after : SpaceState) → AreRuns old → HasParts next old.catalogue.c1 empty_component (made_by_deep old.deep)
+pub runs_for_deep : (old : RunsState) (next : Catalog) (mid after : SpaceState) → AreRuns old → HasParts next old.catalogue.c1 empty_component (made_by_deep old.deep) None
     → Released old.tags.c1x old.space mid → Released old.tags.c2 mid after
     → AreRuns (record { sizes = old.sizes; catalogue = next; space = after; tags = record old.tags { c2 = old.tags.deep; deep = old.tags.c2 }; pass = old.pass; deep = None; guides = old.guides })
 runs_for_deep old next mid after are parts first second = record {
@@ -63,7 +64,7 @@ runs_for_deep old next mid after are parts first second = record {
   pass_tag = are.pass_tag;
   deep_tag = tt;
   rests = parts.c1x_is;
-  pass_unpinned = unpinned_still tags.pass second (unpinned_still tags.pass first are.pass_unpinned);
+  open_unpinned = pins_still old.pass second (pins_still old.pass first are.open_unpinned);
   deep_unpinned = released_unpinned second;
   within = record {
     roles = omega (
@@ -95,7 +96,7 @@ runs_for_deep old next mid after are parts first second = record {
 
 -- ---- the pass's run becomes C1
 
-pub runs_for_pass : (old : RunsState) (next : Catalog) (after : SpaceState) → AreRuns old → HasParts next (made_by_pass old.pass) old.catalogue.c1x old.catalogue.c2
+pub runs_for_pass : {progress : Option Progress} (old : RunsState) (next : Catalog) (after : SpaceState) → AreRuns old → HasParts next (made_by_pass old.pass) old.catalogue.c1x old.catalogue.c2 progress
     → Released old.tags.c1 old.space after
     → AreRuns (record { sizes = old.sizes; catalogue = next; space = after; tags = record old.tags { c1 = old.tags.pass; pass = old.tags.c1 }; pass = None; deep = old.deep; guides = old.guides })
 runs_for_pass old next after are parts gone = record {
@@ -112,7 +113,7 @@ runs_for_pass old next after are parts gone = record {
   pass_tag = tt;
   deep_tag = are.deep_tag;
   rests = subst (λ (k : Component). RestsEmpty old.deep k) (sym parts.c1x_is) are.rests;
-  pass_unpinned = released_unpinned gone;
+  open_unpinned = tt;
   deep_unpinned = unpinned_still tags.deep gone are.deep_unpinned;
   within = record {
     roles = omega (
@@ -144,7 +145,7 @@ c1x_empty : (old : RunsState) → AreRuns old → old.deep ≡ None → old.cata
 c1x_empty old are rests = subst (λ (d : Option DeepState). RestsEmpty d old.catalogue.c1x) rests are.rests
 
 -- or it becomes C1', and C1 is empty
-pub runs_for_rotated_pass : (old : RunsState) (next : Catalog) (after : SpaceState) (guides : List GuideState) → AreRuns old → HasParts next empty_component (made_by_pass old.pass) old.catalogue.c2 → old.deep ≡ None
+pub runs_for_rotated_pass : {progress : Option Progress} (old : RunsState) (next : Catalog) (after : SpaceState) (guides : List GuideState) → AreRuns old → HasParts next empty_component (made_by_pass old.pass) old.catalogue.c2 progress → old.deep ≡ None
     → Released old.tags.c1 old.space after → AreGuides old.sizes old.tags guides
     → AreRuns (record {
       sizes = old.sizes;
@@ -169,7 +170,7 @@ runs_for_rotated_pass old next after guides are parts rests gone reserved = reco
   pass_tag = tt;
   deep_tag = refl;
   rests = tt;
-  pass_unpinned = released_unpinned gone;
+  open_unpinned = tt;
   deep_unpinned = unpinned_still tags.deep gone are.deep_unpinned;
   within = record {
     roles = omega (
@@ -199,7 +200,7 @@ runs_for_rotated_pass old next after guides are parts rests gone reserved = reco
 
 -- ---- C1 becomes C1'
 
-pub runs_for_rotation : (old : RunsState) (next : Catalog) (guides : List GuideState) → AreRuns old → HasParts next empty_component old.catalogue.c1 old.catalogue.c2 → old.deep ≡ None → AreGuides old.sizes old.tags guides
+pub runs_for_rotation : (old : RunsState) (next : Catalog) (guides : List GuideState) → AreRuns old → HasParts next empty_component old.catalogue.c1 old.catalogue.c2 None → old.deep ≡ None → AreGuides old.sizes old.tags guides
     → AreRuns (record {
       sizes = old.sizes;
       catalogue = next;

@@ -92,6 +92,8 @@ module _ {sizes : Sizes} {region : Region} {old new : List ℕ} {space after : S
     closed_up = over.closed_up;
     closed_is = over.closed_is;
     left_is = over.left_is;
+    here_is = λ none. input_still c1 keeps role stays tagged (over.here_is none);
+    behind_is = λ none. input_still c1 keeps role stays tagged (over.behind_is none);
   }
 
   pub deep_over_still : {tag of_c1x of_c2 : ℕ} (guide : GuideState) (merge : Option DeepState) (c1x c2 : List RunPage) (keeps : KeepsRun sizes true region old new space after tag) → KeepsPages sizes space after region of_c1x
@@ -108,6 +110,8 @@ module _ {sizes : Sizes} {region : Region} {old new : List ℕ} {space after : S
     closed_up = over.closed_up;
     closed_is = over.closed_is;
     left_is = over.left_is;
+    here_is = λ none. input_still c2 keeps role older tagged_c2 (over.here_is none);
+    behind_is = λ none. input_still c2 keeps role older tagged_c2 (over.behind_is none);
   }
 
 -- ---- where tags were released alone

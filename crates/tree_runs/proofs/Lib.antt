@@ -3,6 +3,7 @@ mod CountLemmas
 mod ReleasedTags
 mod KeptMerges
 mod StayLemmas
+mod FinishedLemmas
 mod QuantumLemmas
 mod FindLemmas
 mod ToldLemmas
@@ -16,6 +17,8 @@ mod CommitLemmas
 mod SwapRegions
 mod PinLemmas
 mod CatalogLemmas
+pub mod FrontLemmas
+mod NamedLemmas
 mod SwapLemmas
 mod NextTrees
 mod Swapped

@@ -4,6 +4,8 @@ use Rattle.std.proofs.lemmas.Grind.{common_steps}
 use Rattle.std.proofs.lemmas.Bool.Decides.{nat_tests}
 use Rattle.std.proofs.Common.{◌∙◌, ap, sym, subst, arith}
 use Rattle.disk_trait.specs.Disk.{DiskState}
+use Rattle.disk_trait.specs.Effects.{Affects}
+use Rattle.disk_trait.specs.Region.{Region, AreApart, IsWithin}
 use Rattle.disk_trait.specs.Moments.{IsTimed, LeavesOnly}
 use Rattle.blsm_model.specs.Sizes.{Sizes}
 use Rattle.blsm_model.specs.Geometry.{capacity}
@@ -11,10 +13,14 @@ use Rattle.record_delta.specs.Entries.{Entries}
 use Rattle.page_space.specs.Space.{SpaceState, IsSpace, role_size, role_count}
 use Rattle.page_file.specs.declared.file.Broken.{Broken}
 use Rattle.page_file.specs.declared.file.Broken.TheVariants.{Fault}
-use Rattle.page_file.specs.Component.{numbers_of, entries_of}
+use Rattle.page_file.specs.Component.{RunPage, numbers_of, entries_of}
+use Rattle.page_file.specs.File.{pages_region}
+use Rattle.run_writer.specs.Writer.{WriterState, role_region}
 use Rattle.merge_ends.specs.Output.{HasRoom, TakesPages}
+use Rattle.merge_ends.proofs.ClosedLemmas.{keeps_closed}
 use Rattle.merge_ends.proofs.WorkLemmas.{works_of}
-use Rattle.merge_ends.specs.Quantum.{IsQuantum, Works}
+use Rattle.run_writer.specs.Closed.{IsClosedPage}
+use Rattle.merge_ends.specs.Quantum.{Grows, IsQuantum, Works}
 use Rattle.merge_ends.specs.Progress.{MergesOn, TakesQuantum, stage}
 use Rattle.snow_merge.specs.Pass.{SnowState, IsPass, progress_of_pass}
 use Rattle.deep_merge.specs.Merge.{DeepState, IsMerge, progress_of_deep}
@@ -22,10 +28,12 @@ use Rattle.tree_file.specs.Tree.{Tree, HoldsTree}
 use Rattle.tree_file.specs.Places.{StandsOn}
 use Rattle.tree_file.proofs.StandLemmas.{stands_beside}
 use Rattle.scan_view.proofs.StayLemmas.{unpinned_on}
-use Rattle.tree_runs.specs.Runs.{GuideState, RunsState, Tags, AreGuides, AreRuns, AreRunning, Fits, HasOneTag, IsFilled, PassRuns, DeepRuns, PassHasTag, DeepHasTag, guide_at, left_for_deep, left_for_pass, made_by_pass, made_by_deep, pages_in_use, page_share, run_most}
-use Rattle.tree_runs.specs.Holding.{IsPassOver, IsDeepOver, StandOver, KeepsAllButPass, KeepsAllButDeep, PassTook, DeepTook}
+use Rattle.tree_runs.specs.Runs.{GuideState, RunsState, Tags, AreGuides, AreRuns, AreRunning, Fits, HasOneTag, IsFilled, PassRuns, DeepRuns, PassHasTag, PinsOfPass, DeepHasTag, guide_at, left_for_deep, left_for_pass, made_by_pass, made_by_deep, pages_in_use, page_share, run_most}
+use Rattle.tree_runs.specs.Holding.{AreFinished, IsPassOver, IsDeepOver, StandOver, KeepsAllButPass, KeepsAllButDeep, PassTook, DeepTook}
 use Rattle.tree_runs.proofs.CountLemmas.{within_more, other_size}
 use Rattle.tree_runs.proofs.GuideLemmas.{WritesGuide, all_guided_still}
+use Rattle.tree_runs.proofs.FinishedLemmas.{finished_grown, finished_other, finished_still}
+use Rattle.tree_runs.proofs.PinLemmas.{pins_beside, pins_on}
 use Rattle.tree_runs.proofs.KeptMerges.{deep_runs_still, pass_runs_still, deep_over_still, pass_over_still}
 use Rattle.tree_runs.proofs.StayLemmas.{one_tag_after, tag_kept, keeps_other, pages_other, role_is_beside, not_live, run_filled}
 
@@ -49,18 +57,35 @@ pass_is_run runs are = record { below = are.tags.pass_below; c1 = are.tags.c1_pa
 pub deep_is_run : (runs : RunsState) → AreRuns runs → IsRunTag runs.tags runs.tags.deep
 deep_is_run runs are = record { below = are.tags.deep_below; c1 = are.tags.c1_deep; c1x = are.tags.c1x_deep; c2 = are.tags.c2_deep }
 
--- A run that takes pages and writes them leaves the tree, in each image of each moment.
-pub tree_stays : (runs : RunsState) (tree : Tree) (a : Entries) (role most : ℕ) (after : SpaceState) (old new : DiskState) → AreRuns runs → IsRunTag runs.tags role → IsSpace after
-    → Works runs.sizes role most runs.space after old new → IsTrue old.is_honest → IsTimed new → StandOver runs tree a old
+-- A run that takes pages and writes them, and no finished one, leaves the tree, in each image of each moment.
+tree_stays : {region : Region} {end most : ℕ} (runs : RunsState) (tree : Tree) (a : Entries) (role : ℕ) (after : SpaceState) (old new : DiskState) → AreRuns runs → IsRunTag runs.tags role
+    → IsSpace after → TakesPages role runs.space after → Affects region end most old new → IsWithin region (role_region runs.sizes after role)
+    → AreApart region (pages_region runs.sizes (numbers_of tree.output)) → IsTrue old.is_honest → IsTimed new → StandOver runs tree a old
     → StandsOn runs.sizes tree new × LeavesOnly old new (HoldsTree runs.sizes tree)
-tree_stays runs tree a role most after old new are tag shape works honest timed stand =
-    stands_beside runs.sizes tree works.effect
-    (role_is_beside runs.sizes tree after role old.bytes stand.stands.reads shape (works.takes.pages ∙ are.pages) tag.below
-    (not_live runs.tags tree after role (one_tag_after works.takes are.one_tag) tag.c1 tag.c1x tag.c2
-    (λ n has. tag_kept works.takes runs.tags.c1 tag.c1 n (stand.are_of.c1 n has))
-    (λ n has. tag_kept works.takes runs.tags.c1x tag.c1x n (stand.are_of.c1x n has))
-    (λ n has. tag_kept works.takes runs.tags.c2 tag.c2 n (stand.are_of.c2 n has))))
+tree_stays runs tree a role after old new are tag shape takes effect within finished honest timed stand =
+    stands_beside runs.sizes tree effect
+    (role_is_beside runs.sizes tree after role old.bytes stand.stands.reads shape (takes.pages ∙ are.pages) tag.below
+    (not_live runs.tags tree after role (one_tag_after takes are.one_tag) tag.c1 tag.c1x tag.c2
+    (λ n has. tag_kept takes runs.tags.c1 tag.c1 n (stand.are_of.c1 n has))
+    (λ n has. tag_kept takes runs.tags.c1x tag.c1x n (stand.are_of.c1x n has))
+    (λ n has. tag_kept takes runs.tags.c2 tag.c2 n (stand.are_of.c2 n has)))
+    within finished)
     honest timed stand.stands
+
+-- the finished pages of a deep merge beside a pass that takes pages
+finished_beside : (runs : RunsState) (after : SpaceState) (pages : List RunPage) → AreRuns runs → TakesPages runs.tags.pass runs.space after → AreFinished runs.space runs.deep pages
+    → AreFinished after runs.deep pages
+finished_beside runs after pages are takes =
+    finished_still runs.space after runs.tags.deep runs.deep pages are.deep_tag (tag_kept takes runs.tags.deep (λ same. are.tags.pass_deep (sym same)))
+
+pub pass_stays : (runs : RunsState) (tree : Tree) (a : Entries) (most : ℕ) (after : SpaceState) (old new : DiskState) → AreRuns runs → IsSpace after
+    → Works runs.sizes runs.tags.pass most runs.space after old new → IsTrue old.is_honest → IsTimed new → StandOver runs tree a old
+    → StandsOn runs.sizes tree new × LeavesOnly old new (HoldsTree runs.sizes tree)
+pass_stays runs tree a most after old new are shape works honest timed stand =
+    tree_stays runs tree a runs.tags.pass after old new are (pass_is_run runs are) shape works.takes works.effect (λ i here. here)
+    (finished_other runs.sizes after runs.tags.pass runs.tags.deep runs.deep tree.output (one_tag_after works.takes are.one_tag) are.tags.pass_deep are.deep_tag
+    (finished_beside runs after tree.output are works.takes stand.are_of.output))
+    honest timed stand
 
 -- ---- room
 
@@ -105,8 +130,8 @@ pass_works runs after guide guide_after snow next a result old new is are quantu
 pass_in_order : (runs : RunsState) (after : SpaceState) (guides : List GuideState) (snow next : SnowState) → runs.pass ≡ Some snow → AreRuns runs → IsSpace after
     → TakesPages runs.tags.pass runs.space after → role_size after runs.tags.pass + snow.writer.component.pages ≡ role_size runs.space runs.tags.pass + next.writer.component.pages
     → next.writer.role ≡ runs.tags.pass → IsFilled next.writer.component → AreGuides runs.sizes runs.tags guides
-    → AreRuns (passed runs after guides next)
-pass_in_order runs after guides snow next is are shape takes size role filled reserved =
+    → ((n : ℕ) → IsClosedPage runs.space snow.writer n → IsClosedPage after next.writer n) → AreRuns (passed runs after guides next)
+pass_in_order runs after guides snow next is are shape takes size role filled reserved still =
     let made = ap (λ (p : Option SnowState). (made_by_pass p).pages) is in
     record {
       geometry = are.geometry;
@@ -122,7 +147,8 @@ pass_in_order runs after guides snow next is are shape takes size role filled re
       pass_tag = role;
       deep_tag = are.deep_tag;
       rests = are.rests;
-      pass_unpinned = unpinned_on runs.space after runs.tags.pass runs.tags.pass takes are.pass_unpinned;
+      open_unpinned = pins_on runs.space after snow next (role ∙ sym (pass_role runs snow is are))
+          (subst (λ (r : ℕ). TakesPages r runs.space after) (sym (pass_role runs snow is are)) takes) still (subst (PinsOfPass runs.space) is are.open_unpinned);
       deep_unpinned = unpinned_on runs.space after runs.tags.pass runs.tags.deep takes are.deep_unpinned;
       within = within_more snow.writer.component.pages next.writer.component.pages (pages_in_use runs) (pages_in_use (passed runs after guides next)) (page_share runs.sizes) takes are.tags.pass_below size (omega (arith, made)) are.within;
       guides = reserved;
@@ -138,7 +164,8 @@ pass_ran runs after guides guide snow next a result old new is running shape wri
     (λ goes size. record {
       in_order = pass_in_order runs after guides snow next is running.in_order shape works.takes
           (subst (λ (r : ℕ). role_size after r + snow.writer.component.pages ≡ role_size runs.space r + next.writer.component.pages) role size) (quantum.on.role ∙ role)
-          (run_filled runs.sizes new.is_honest new.bytes after next.writer guide.filter guide.fences goes.running.run.out goes.running.run.pushed) writes.reserved;
+          (run_filled runs.sizes new.is_honest new.bytes after next.writer guide.filter guide.fences goes.running.run.out goes.running.run.pushed) writes.reserved
+          (keeps_closed quantum.on.role quantum.on.works).still;
       pass = subst (λ (g : GuideState). PassRuns runs.sizes new.is_honest new.bytes after g (Some next)) (sym writes.here) goes.running;
       deep = subst (λ (g : GuideState). DeepRuns runs.sizes new.is_honest new.bytes after g runs.deep) (sym (writes.others runs.tags.deep (λ same. running.in_order.tags.pass_deep (sym same))))
           (deep_runs_still runs.tags.deep (guide_at runs.guides runs.tags.deep) runs.deep
@@ -162,7 +189,7 @@ pub pass_stands : (runs : RunsState) (after : SpaceState) (guides : List GuideSt
 pass_stands runs after guides guide snow next a result old new is are shape writes quantum timed tree honest stand other =
     let over = subst (λ (p : Option SnowState). IsPassOver runs.sizes old.bytes runs.space (guide_at runs.guides runs.tags.pass) p a tree.c1) is stand.are_of.pass in
     let took = quantum.took (numbers_of tree.c1) (entries_of tree.c1) honest over other in
-    let stood = (tree_stays runs tree a runs.tags.pass (runs.sizes.quantum / 7 + 2) after old new are (pass_is_run runs are) shape works honest timed stand).0 in (
+    let stood = (pass_stays runs tree a (runs.sizes.quantum / 7 + 2) after old new are shape works honest timed stand).0 in (
       took.0,
       took.1,
       record {
@@ -178,6 +205,7 @@ pass_stands runs after guides guide snow next a result old new is are shape writ
               (deep_over_still (guide_at runs.guides runs.tags.deep) runs.deep tree.c1x tree.c2 (keeps_other runs.sizes runs.tags.deep (λ same. are.tags.pass_deep (sym same)) one_tag works.takes (λ told. works.effect.bytes honest))
               (pages_other runs.sizes runs.tags.c1x are.tags.c1x_pass one_tag works.takes) (pages_other runs.sizes runs.tags.c2 are.tags.c2_pass one_tag works.takes) are.deep_tag stand.are_of.c1x stand.are_of.c2 stand.are_of.deep);
           guided = all_guided_still runs.guides guides runs.tags tree writes.others are.tags.c1_pass are.tags.c1x_pass are.tags.c2_pass stand.are_of.guided;
+          output = finished_beside runs after tree.output are works.takes stand.are_of.output;
         };
       },
       subst (λ (p : Option SnowState). PassTook runs.sizes.quantum p (Some next) a (entries_of tree.c1) took.0) (sym is) took.3,
@@ -213,6 +241,16 @@ pub deep_works : (runs : RunsState) (after : SpaceState) (guide guide_after : Gu
 deep_works runs after guide guide_after merge next result old new is are quantum =
     subst (λ (r : ℕ). Works runs.sizes r (runs.sizes.quantum / 4 + 3) runs.space after old new) (deep_role runs merge is are) (works_of quantum.on.works)
 
+pub deep_stays : (runs : RunsState) (tree : Tree) (a : Entries) (most : ℕ) (after : SpaceState) (merge : DeepState) (next : WriterState) (old new : DiskState) → runs.deep ≡ Some merge
+    → AreRuns runs → IsSpace after → Grows runs.sizes most runs.space after merge.writer next old new → IsTrue old.is_honest → IsTimed new → StandOver runs tree a old
+    → StandsOn runs.sizes tree new × LeavesOnly old new (HoldsTree runs.sizes tree)
+deep_stays runs tree a most after merge next old new is are shape grows honest timed stand =
+    let role = deep_role runs merge is are in
+    tree_stays runs tree a runs.tags.deep after old new are (deep_is_run runs are) shape (subst (λ (r : ℕ). TakesPages r runs.space after) role grows.takes) grows.effect
+    (λ i here. subst (λ (r : ℕ). role_region runs.sizes after r i) role here.0)
+    (finished_grown runs.sizes runs.space after merge tree.output (subst (λ (d : Option DeepState). AreFinished runs.space d tree.output) is stand.are_of.output))
+    honest timed stand
+
 deep_in_order : (runs : RunsState) (after : SpaceState) (guides : List GuideState) (merge next : DeepState) → runs.deep ≡ Some merge → AreRuns runs → IsSpace after → TakesPages runs.tags.deep runs.space after
     → role_size after runs.tags.deep + merge.writer.component.pages ≡ role_size runs.space runs.tags.deep + next.writer.component.pages
     → next.writer.role ≡ runs.tags.deep → IsFilled next.writer.component → AreGuides runs.sizes runs.tags guides
@@ -233,7 +271,7 @@ deep_in_order runs after guides merge next is are shape takes size role filled r
       pass_tag = are.pass_tag;
       deep_tag = role;
       rests = tt;
-      pass_unpinned = unpinned_on runs.space after runs.tags.deep runs.tags.pass takes are.pass_unpinned;
+      open_unpinned = pins_beside runs.space after runs.tags.deep runs.tags.pass runs.pass are.pass_tag are.tags.pass_deep takes are.open_unpinned;
       deep_unpinned = unpinned_on runs.space after runs.tags.deep runs.tags.deep takes are.deep_unpinned;
       within = within_more merge.writer.component.pages next.writer.component.pages (pages_in_use runs) (pages_in_use (deepened runs after guides next)) (page_share runs.sizes) takes are.tags.deep_below size (omega (arith, made)) are.within;
       guides = reserved;
@@ -273,7 +311,7 @@ pub deep_stands : (runs : RunsState) (after : SpaceState) (guides : List GuideSt
 deep_stands runs after guides guide merge next result old new is are shape writes quantum timed tree a honest stand other =
     let over = subst (λ (d : Option DeepState). IsDeepOver runs.sizes old.bytes runs.space (guide_at runs.guides runs.tags.deep) d tree.c1x tree.c2) is stand.are_of.deep in
     let took = quantum.took (numbers_of tree.c1x) (numbers_of tree.c2) (entries_of tree.c1x) (entries_of tree.c2) honest over other in
-    let stood = (tree_stays runs tree a runs.tags.deep (runs.sizes.quantum / 4 + 3) after old new are (deep_is_run runs are) shape works honest timed stand).0 in (
+    let stood = (deep_stays runs tree a (runs.sizes.quantum / 4 + 3) after merge next.writer old new is are shape quantum.on.works honest timed stand).0 in (
       took.0,
       took.1,
       record {
@@ -289,6 +327,9 @@ deep_stands runs after guides guide merge next result old new is are shape write
               (pages_other runs.sizes runs.tags.c1 are.tags.c1_deep one_tag works.takes) are.pass_tag stand.are_of.c1 stand.are_of.pass);
           deep = subst (λ (g : GuideState). IsDeepOver runs.sizes new.bytes after g (Some next) tree.c1x tree.c2) (sym writes.here) took.2;
           guided = all_guided_still runs.guides guides runs.tags tree writes.others are.tags.c1_deep are.tags.c1x_deep are.tags.c2_deep stand.are_of.guided;
+          output =
+              let finished = subst (λ (d : Option DeepState). AreFinished runs.space d tree.output) is stand.are_of.output in
+              λ n among. (keeps_closed quantum.on.role quantum.on.works).still n (finished n among);
         };
       },
       subst (λ (d : Option DeepState). DeepTook runs.sizes.quantum d (Some next) (entries_of tree.c1x) (entries_of tree.c2) took.0) (sym is) took.3,

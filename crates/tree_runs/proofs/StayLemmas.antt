@@ -5,7 +5,7 @@ use Rattle.std.proofs.lemmas.Bool.Decides.{nat_tests}
 use Rattle.std.specs.List.{Contains}
 use Rattle.std.proofs.Common.{sym, subst, inl, inr, ⊎_elim, refl, arith}
 use Rattle.std.proofs.lemmas.List.Elements.{Contains-append_left, Contains-append_cases}
-use Rattle.disk_trait.specs.Region.{AreApart, IsSameOutside}
+use Rattle.disk_trait.specs.Region.{Region, AreApart, IsSameOutside, IsWithin}
 use Rattle.blsm_model.specs.Components.{empty_component}
 use Rattle.blsm_model.specs.Sizes.{Sizes}
 use Rattle.blsm_model.specs.Geometry.{page_count}
@@ -19,12 +19,12 @@ use Rattle.page_file.specs.Component.{numbers_of}
 use Rattle.run_writer.specs.Writer.{WriterState, Holds, HasPushed, role_region}
 use Rattle.run_writer.specs.Run.{Run}
 use Rattle.merge_ends.specs.Output.{TakesPages}
-use Rattle.tree_file.specs.Tree.{Tree, HoldsTree, live_pages}
+use Rattle.tree_file.specs.Tree.{Tree, HoldsTree, kept_pages, live_pages}
 use Rattle.tree_file.proofs.HoldsLemmas.{pages_are_beside, roles_of}
 use Rattle.tree_runs.proofs.KeptMerges.{KeepsRun, KeepsPages}
 use Rattle.tree_runs.specs.Runs.{Tags, HasOneTag, IsFilled}
 use Rattle.tree_runs.specs.Holding.{AreTagged}
-use Rattle.tree_file.proofs.Terms.{IsBeside}
+use Rattle.tree_file.proofs.Terms.{IsBeside, body_region}
 
 -- ---- tags
 
@@ -59,35 +59,53 @@ pages_other sizes tag differs one_tag takes = record { tagged = tag_kept takes t
 in_range : (set : Members) (page : ℕ) → IsIn set page → page < length set
 in_range set page is_in = grind (arith, common_steps, nat_tests)
 
-here : (n : ℕ) (ns : List ℕ) → Contains (n ∷ ns) n
-here n ns = Contains-append_left (n ∷ []) ns n (0, omega arith, refl)
+first : (n : ℕ) (ns : List ℕ) → Contains (n ∷ ns) n
+first n ns = Contains-append_left (n ∷ []) ns n (0, omega arith, refl)
 
 only : (n m : ℕ) → Contains (n ∷ []) m → m ≡ n
 only n m h1 = grind (arith, common_steps, nat_tests)
+
+none_in : (n : ℕ) → Contains {X = ℕ} [] n → ⊥
+none_in n has = omega (arith, has.1)
 
 -- a tag's pages are the store's
 pub role_below : (space : SpaceState) (role n : ℕ) → IsSpace space → role < role_count → HasRole space role n → n < space.pages
 role_below space role n shape below has = omega (arith, in_range (pages_with space role) n has, shape.of_role role below)
 
--- and beside the tree, none of whose pages has the tag
-pub role_is_beside : (sizes : Sizes) (tree : Tree) (space : SpaceState) (role : ℕ) (file : List ℕ) → HoldsTree sizes tree file → IsSpace space → space.pages ≡ page_count sizes → role < role_count
-    → ((n : ℕ) → HasRole space role n → Contains (live_pages tree) n → ⊥) → IsBeside sizes tree (role_region sizes space role)
-role_is_beside sizes tree space role file holds shape pages below others = record {
+-- And what is written of them is beside the tree, where none of its components' pages has the tag, and none of its finished ones is written.
+pub role_is_beside : {region : Region} (sizes : Sizes) (tree : Tree) (space : SpaceState) (role : ℕ) (file : List ℕ) → HoldsTree sizes tree file → IsSpace space → space.pages ≡ page_count sizes
+    → role < role_count → ((n : ℕ) → HasRole space role n → Contains (live_pages tree) n → ⊥) → IsWithin region (role_region sizes space role)
+    → AreApart region (pages_region sizes (numbers_of tree.output)) → IsBeside sizes tree region
+role_is_beside {region} sizes tree space role file holds shape pages below others within finished = record {
   body = record {
-    apart = λ i here' there. (beside here'.0 here'.1).body.apart i (at here'.0 i here'.2) there;
-    inside = λ i here'. (beside here'.0 here'.1).body.inside i (at here'.0 i here'.2);
+    apart = λ i here there. ⊎_elim (λ front. kept i here (inl front))
+        (λ behind. ⊎_elim (λ a. kept i here (inr (inl a))) (λ more. ⊎_elim (λ b. kept i here (inr (inr (inl b)))) (λ page. no_page i here page) more) behind) there;
+    inside = λ i here. let at = within i here in (beside at.0 at.1).body.inside i (alone at.0 i at.2);
   };
-  slots = λ version i here' there. (beside here'.0 here'.1).slots version i (at here'.0 i here'.2) there;
+  slots = λ version i here there. let at = within i here in (beside at.0 at.1).slots version i (alone at.0 i at.2) there;
 }
   where
-    at : (n i : ℕ) → page_region sizes n i → pages_region sizes (n ∷ []) i
-    at n i inside = (n, here n [], inside)
+    -- the tree without its finished pages
+    bare : Tree
+    bare = record tree { output = [] }
 
-    beside : (n : ℕ) → HasRole space role n → IsBeside sizes tree (pages_region sizes (n ∷ []))
+    alone : (n i : ℕ) → page_region sizes n i → pages_region sizes (n ∷ []) i
+    alone n i inside = (n, first n [], inside)
+
+    beside : (n : ℕ) → HasRole space role n → IsBeside sizes bare (pages_region sizes (n ∷ []))
     beside n has =
-        pages_are_beside sizes tree (n ∷ []) (roles_of holds)
+        pages_are_beside sizes bare (n ∷ []) (roles_of holds)
         (λ m is live. others n has (subst (Contains (live_pages tree)) (only n m is) live))
+        (λ m is none. none_in m none)
         (λ m is. omega (arith, role_below space role n shape below has, only n m is, pages))
+
+    kept : AreApart region (body_region sizes bare)
+    kept i here there = let at = within i here in (beside at.0 at.1).body.apart i (alone at.0 i at.2) there
+
+    no_page : AreApart region (pages_region sizes (kept_pages tree))
+    no_page i here (n, among, page) =
+        ⊎_elim (λ live. kept i here (inr (inr (inr (n, Contains-append_left (live_pages tree) [] n live, page))))) (λ output. finished i here (n, output, page))
+        (Contains-append_cases (live_pages tree) (numbers_of tree.output) n among)
 
 -- each page of the tree has one of three tags
 pub live_tagged : (tree : Tree) (n : ℕ) → Contains (live_pages tree) n → (Contains (numbers_of tree.c1) n ⊎ Contains (numbers_of tree.c1x) n) ⊎ Contains (numbers_of tree.c2) n

@@ -1,36 +1,47 @@
 -- What each swap makes of the tree that stood, from the end of its run to the commit.
-use Rattle.std.specs.Prelude.{◌≡◌, ℕ, ◌+◌, ◌<◌, ◌≤◌, ◌^◌, Bool, true, false, IsTrue, List, [], Option, Some, None, Result, is_ok, refl}
+use Rattle.std.specs.Prelude.{◌≡◌, ℕ, ◌+◌, ◌<◌, ◌≤◌, ◌^◌, Bool, true, false, IsTrue, List, [], ◌++◌, Option, Some, None, Result, is_ok, refl}
 use Rattle.std.proofs.lemmas.Grind.{common_steps}
 use Rattle.std.proofs.lemmas.Bool.Decides.{nat_tests}
-use Rattle.std.proofs.Common.{sym, subst, ap, ◌∙◌, arith}
+use Rattle.std.proofs.Common.{⊎_elim, inl, sym, subst, ap, ◌∙◌, arith}
+use Rattle.std.proofs.lemmas.List.Elements.{Contains-append_cases}
 use Rattle.disk_trait.specs.Disk.{DiskState}
+use Rattle.std.specs.List.{Contains}
 use Rattle.disk_trait.specs.Effects.{Affects}
+use Rattle.disk_trait.proofs.EffectLemmas.{affects_wider}
 use Rattle.disk_trait.specs.Moments.{IsTimed, LeavesOnly}
 use Rattle.disk_trait.proofs.MomentLemmas.{leaves_only_start}
 use Rattle.blsm_model.specs.declared.component.Component.{Component}
 use Rattle.blsm_model.specs.Sizes.{Sizes}
 use Rattle.blsm_model.specs.Geometry.{page_count}
+use Rattle.blsm_model.specs.Lanes.{AreRoles}
 use Rattle.bloom_bits.specs.Guides.{Guide}
 use Rattle.catalog_swap.specs.declared.catalog.Catalog.{Catalog}
+use Rattle.catalog_swap.specs.declared.catalog.Progress.{Progress}
+use Rattle.catalog_swap.specs.Text.{HasKey}
 use Rattle.record_delta.specs.Entries.{Entries, folded_over, settled_entries}
-use Rattle.page_space.specs.Space.{role_count, role_size}
-use Rattle.page_file.specs.Component.{RunPage, ReadsAs, HasList, entries_of}
+use Rattle.page_space.specs.Space.{SpaceState, HasRole, role_count, role_size}
+use Rattle.page_file.specs.Component.{RunPage, ReadsAs, HasList, entries_of, numbers_of}
 use Rattle.run_writer.specs.Writer.{role_region}
 use Rattle.snow_merge.specs.Pass.{SnowState}
 use Rattle.deep_merge.specs.Merge.{DeepState}
 use Rattle.tree_file.specs.Tree.{Tree, HoldsTree}
 use Rattle.tree_file.specs.Places.{StandsOn, Becomes, ReadsNext, with_components}
 use Rattle.tree_runs.specs.Runs.{RunsState, AreRuns, AreRunning, PassRuns, DeepRuns, fences_of_tag, filter_of, guide_at, made_by_pass, made_by_deep}
-use Rattle.tree_runs.specs.Holding.{AreTagged, AreOf, StandOver, IsDeepSwapped, IsPassSwapped, IsRotated, is_full, with_deep_run, with_pass_run, with_rotation}
+use Rattle.tree_runs.specs.Holding.{AreFinished, AreTagged, AreOf, StandOver, IsDeepSwapped, IsPassSwapped, IsRotated, is_full, progress_of, with_deep_run, with_pass_run, with_rotation}
 use Rattle.tree_runs.specs.Swaps.{MayFollow}
 use Rattle.tree_runs.proofs.QuantumLemmas.{deep_is_run, pass_is_run}
-use Rattle.tree_runs.proofs.SwapLemmas.{run_others, stands_finished, one_page, one_page_entries}
+use Rattle.tree_runs.proofs.SwapLemmas.{run_others, one_page, one_page_entries, swap_keeps, swap_pages}
+use Rattle.tree_runs.proofs.FinishedLemmas.{nothing_finished}
+use Rattle.tree_runs.proofs.KeptMerges.{deep_over_still}
+use Rattle.tree_runs.proofs.NamedLemmas.{IsNaming, naming}
+use Rattle.tree_runs.proofs.Terms.{swap_region}
 use Rattle.tree_runs.proofs.CatalogLemmas.{Suits, empty_suits, run_suits}
-use Rattle.tree_runs.proofs.NextTrees.{pass_tree, ready_for_deep, ready_for_pass, ready_for_rotation}
+use Rattle.tree_runs.proofs.NextTrees.{PassNames, named_pages, pass_tree, ready_for_deep, ready_for_pass, ready_for_rotation}
 
 -- what the commit of the next catalogue ensures
 pub record Switches {T E : Type 0} (sizes : Sizes) (now next : Catalog) (result : Result T E) (old new : DiskState) : Type 0 where
-  pub becomes : (tree after : Tree) → IsTrue old.is_honest → tree.catalogue ≡ now → after.catalogue ≡ next → MayFollow sizes tree after → StandsOn sizes tree old → ReadsNext sizes after old.bytes
+  pub becomes : (tree after : Tree) → IsTrue old.is_honest → tree.catalogue ≡ now → after.catalogue ≡ next
+      → (HasKey next.progress → MayFollow sizes tree after) → StandsOn sizes tree old → ReadsNext sizes after old.bytes
       → Becomes sizes tree after (is_ok result) old new
 
 -- what is known when a run is finished
@@ -42,6 +53,7 @@ pub record IsFinished (runs : RunsState) (tree : Tree) (a : Entries) (tag : ℕ)
   pub effect : Affects (role_region runs.sizes runs.space tag) end 1 old mid
   pub honest : IsTrue old.is_honest
   pub timed : IsTimed mid
+  pub stands : StandsOn runs.sizes tree mid × LeavesOnly old mid (HoldsTree runs.sizes tree)
 
 -- ---- a run suits
 
@@ -100,7 +112,7 @@ pub deep_becomes : {T E : Type 0} {result : Result T E} {a : Entries} {old mid n
 deep_becomes {old = old} {mid = mid} runs tree made next is made_is list tagged guided next_is switches =
     let are = is.running.in_order in
     let of = is.over.are_of in
-    let stands = stands_finished runs runs.tags.deep are (deep_is_run runs are) is.over is.effect is.honest is.timed in
+    let stands = is.stands in
     let suits = deep_suits {now = mid.bytes} old.is_honest old.bytes runs made list.pages are is.running.deep made_is list.reads in
     let ready = ready_for_deep runs.sizes tree mid.bytes stands.0.reads (few_of_tree runs tree of is.few) next made (folded_over (entries_of tree.c1x) (entries_of tree.c2)) list suits
     (subst (λ (k : Catalog). next ≡ with_deep_run made k) (sym of.catalogue) next_is) (λ n has. run_others runs runs.tags.deep are (deep_is_run runs are) of n (tagged n has)) in
@@ -122,38 +134,81 @@ pub record PassCommitted (runs : RunsState) (tree : Tree) (a : Entries) (b : Boo
   pub list : HasList runs.sizes made (folded_over a (entries_of tree.c1)) mid.bytes
   pub tagged : AreTagged runs.space runs.tags.pass list.pages
   pub guided : Guide (filter_of runs runs.tags.pass) (fences_of_tag runs runs.tags.pass) list.pages
-  pub swapped : IsPassSwapped (is_full runs.sizes (made_by_pass runs.pass)) a tree (pass_tree b next list.pages tree)
+  pub output : List RunPage
+  pub finished : AreFinished runs.space runs.deep output
+  pub swapped : IsPassSwapped (is_full runs.sizes (made_by_pass runs.pass)) a tree (pass_tree b next list.pages output tree)
   pub first : LeavesOnly old mid (HoldsTree runs.sizes tree)
-  pub becomes : Becomes runs.sizes tree (pass_tree b next list.pages tree) done mid new
+  pub becomes : Becomes runs.sizes tree (pass_tree b next list.pages output tree) done mid new
 
-pub pass_swapped : (b : Bool) (a : Entries) (tree : Tree) (next : Catalog) (run : List RunPage) → entries_of run ≡ folded_over a (entries_of tree.c1) → next.version ≡ tree.catalogue.version + 1
-    → IsPassSwapped b a tree (pass_tree b next run tree)
-pass_swapped b a tree next run h1 h2 = grind (arith, common_steps, nat_tests)
+pub pass_swapped : (b : Bool) (a : Entries) (tree : Tree) (next : Catalog) (run output : List RunPage) → entries_of run ≡ folded_over a (entries_of tree.c1) → next.version ≡ tree.catalogue.version + 1
+    → IsPassSwapped b a tree (pass_tree b next run output tree)
+pass_swapped b a tree next run output h1 h2 = grind (arith, common_steps, nat_tests)
 
-pub pass_becomes : {T E : Type 0} {result : Result T E} {a : Entries} {old mid new : DiskState} (runs : RunsState) (tree : Tree) (made : Component) (next : Catalog) (b : Bool) → is_full runs.sizes (made_by_pass runs.pass) ≡ b
-    → IsFinished runs tree a runs.tags.pass old mid → made ≡ made_by_pass runs.pass → (list : HasList runs.sizes made (folded_over a (entries_of tree.c1)) mid.bytes)
-    → AreTagged runs.space runs.tags.pass list.pages → Guide (filter_of runs runs.tags.pass) (fences_of_tag runs runs.tags.pass) list.pages → next ≡ with_pass_run runs.sizes made runs.catalogue
-    → Switches runs.sizes runs.catalogue next result mid new → PassCommitted runs tree a b made next (is_ok result) old mid new
-pass_becomes {a = a} {old = old} {mid = mid} runs tree made next b full is made_is list tagged guided next_is switches =
+-- what is named: once the run is finished the deep merge stands over its lists still
+pub named_for_pass : {a : Entries} {old mid : DiskState} (runs : RunsState) (tree : Tree) (b : Bool) → (b ≡ true → runs.deep ≡ None) → IsFinished runs tree a runs.tags.pass old mid
+    → AreRoles runs.catalogue.lanes → PassNames b runs.sizes tree mid.bytes runs.space runs.tags.deep runs.deep (progress_of runs.catalogue runs.deep)
+named_for_pass runs tree true rests is roles = ap (λ (d : Option DeepState). progress_of runs.catalogue d) (rests refl)
+named_for_pass {old = old} {mid} runs tree false rests is roles =
     let are = is.running.in_order in
     let of = is.over.are_of in
-    let stands = stands_finished runs runs.tags.pass are (pass_is_run runs are) is.over is.effect is.honest is.timed in
+    let effect : Affects (swap_region runs.sizes runs.space runs.tags.pass runs.catalogue) is.end 1 old mid = affects_wider (λ i here. inl here) (omega arith) (omega arith) is.effect in
+    let over = deep_over_still (guide_at runs.guides runs.tags.deep) runs.deep tree.c1x tree.c2
+    (swap_keeps true runs runs.tags.pass runs.tags.deep (λ told. is.honest) are roles are.tags.pass_deep effect)
+    (swap_pages runs runs.tags.pass runs.tags.c1x are roles (λ same. are.tags.c1x_pass (sym same)))
+    (swap_pages runs runs.tags.pass runs.tags.c2 are roles (λ same. are.tags.c2_pass (sym same))) are.deep_tag of.c1x of.c2 of.deep in
+    subst (λ (k : Catalog). IsNaming runs.sizes tree mid.bytes runs.space runs.tags.deep runs.deep (progress_of k runs.deep)) of.catalogue
+    (naming runs.sizes tree mid.bytes runs.space runs.tags.deep (guide_at runs.guides runs.tags.deep) runs.deep are.geometry are.shape are.pages are.tags.deep_below
+    (few_pages_of_run runs runs.tags.deep (made_by_deep runs.deep) are are.tags.deep_below are.deep.size) are.deep_tag is.stands.0.reads over)
+
+named_finished : (b : Bool) (sizes : Sizes) (tree : Tree) (file : List ℕ) (space : SpaceState) (tag : ℕ) (deep : Option DeepState) (progress : Option Progress)
+    → (named : PassNames b sizes tree file space tag deep progress) → AreFinished space deep (named_pages b sizes tree file space tag deep progress named)
+named_finished true sizes tree file space tag deep progress none = nothing_finished space deep
+named_finished false sizes tree file space tag deep progress is = is.finished
+
+-- neither the run nor C1' nor C2 has the deep run's tag
+not_of_deep : {tree : Tree} {a : Entries} {file : List ℕ} (runs : RunsState) (run : List RunPage) → AreRuns runs → AreOf runs tree a file → AreTagged runs.space runs.tags.pass run
+    → (n : ℕ) → Contains (numbers_of run ++ numbers_of tree.c1x ++ numbers_of tree.c2) n → HasRole runs.space runs.tags.deep n → ⊥
+not_of_deep {tree} runs run are of tagged n has also =
+    ⊎_elim
+    (λ front.
+    ⊎_elim (λ here. are.tags.pass_deep (are.one_tag n runs.tags.pass runs.tags.deep (tagged n here) also))
+    (λ here. are.tags.c1x_deep (are.one_tag n runs.tags.c1x runs.tags.deep (of.c1x n here) also)) (Contains-append_cases (numbers_of run) (numbers_of tree.c1x) n front))
+    (λ here. are.tags.c2_deep (are.one_tag n runs.tags.c2 runs.tags.deep (of.c2 n here) also))
+    (Contains-append_cases (numbers_of run ++ numbers_of tree.c1x) (numbers_of tree.c2) n has)
+
+pub pass_becomes : {T E : Type 0} {result : Result T E} {a : Entries} {old mid new : DiskState} (runs : RunsState) (tree : Tree) (made : Component) (next : Catalog) (b : Bool) → is_full runs.sizes (made_by_pass runs.pass) ≡ b
+    → (b ≡ true → runs.deep ≡ None) → AreRoles runs.catalogue.lanes
+    → IsFinished runs tree a runs.tags.pass old mid → made ≡ made_by_pass runs.pass → (list : HasList runs.sizes made (folded_over a (entries_of tree.c1)) mid.bytes)
+    → AreTagged runs.space runs.tags.pass list.pages → Guide (filter_of runs runs.tags.pass) (fences_of_tag runs runs.tags.pass) list.pages
+    → next ≡ with_pass_run runs.sizes made (progress_of runs.catalogue runs.deep) runs.catalogue
+    → Switches runs.sizes runs.catalogue next result mid new → PassCommitted runs tree a b made next (is_ok result) old mid new
+pass_becomes {a = a} {old = old} {mid = mid} runs tree made next b full rests roles is made_is list tagged guided next_is switches =
+    let are = is.running.in_order in
+    let of = is.over.are_of in
+    let stands = is.stands in
     let suits = pass_suits {now = mid.bytes} old.is_honest old.bytes runs made list.pages are is.running.pass made_is list.reads in
-    let ready = ready_for_pass runs.sizes tree mid.bytes stands.0.reads (few_of_tree runs tree of is.few) b next made (folded_over a (entries_of tree.c1)) list suits
-    (subst (λ (k : Catalog). next ≡ with_pass_run runs.sizes made k) (sym of.catalogue) next_is) (ap (λ (k : Component). is_full runs.sizes k) made_is ∙ full) (λ n has. run_others runs runs.tags.pass are (pass_is_run runs are) of n (tagged n has)) in
+    let progress = progress_of runs.catalogue runs.deep in
+    let named = named_for_pass runs tree b rests is roles in
+    let output = named_pages b runs.sizes tree mid.bytes runs.space runs.tags.deep runs.deep progress named in
+    let ready = ready_for_pass runs.sizes tree mid.bytes stands.0.reads (few_of_tree runs tree of is.few) b next made (folded_over a (entries_of tree.c1)) progress list suits
+    (subst (λ (k : Catalog). next ≡ with_pass_run runs.sizes made progress k) (sym of.catalogue) next_is) (ap (λ (k : Component). is_full runs.sizes k) made_is ∙ full) (λ n has. run_others runs runs.tags.pass are (pass_is_run runs are) of n (tagged n has))
+    runs.space runs.tags.deep runs.deep (not_of_deep runs list.pages are of tagged) named in
     record {
       list = list;
       tagged = tagged;
       guided = guided;
-      swapped = subst (λ (f : Bool). IsPassSwapped f a tree (pass_tree b next list.pages tree)) (sym full)
-          (pass_swapped b a tree next list.pages list.entries_are (version_of_next runs tree next of (ap (λ (k : Catalog). k.version) next_is)));
+      output = output;
+      finished = named_finished b runs.sizes tree mid.bytes runs.space runs.tags.deep runs.deep progress named;
+      swapped = subst (λ (f : Bool). IsPassSwapped f a tree (pass_tree b next list.pages output tree)) (sym full)
+          (pass_swapped b a tree next list.pages output list.entries_are (version_of_next runs tree next of (ap (λ (k : Catalog). k.version) next_is)));
       first = stands.1;
-      becomes = switches.becomes tree (pass_tree b next list.pages tree) (subst IsTrue (sym is.effect.goes_on.is_honest) is.honest) of.catalogue (catalogue_of b) ready.may stands.0 ready.reads;
+      becomes = switches.becomes tree (pass_tree b next list.pages output tree) (subst IsTrue (sym is.effect.goes_on.is_honest) is.honest) of.catalogue (catalogue_of b output)
+          (λ key. ready.may (subst (λ (k : Catalog). HasKey k.progress) (sym (catalogue_of b output)) key)) stands.0 ready.reads;
     }
   where
-    catalogue_of : (b : Bool) → (pass_tree b next list.pages tree).catalogue ≡ next
-    catalogue_of true = refl
-    catalogue_of false = refl
+    catalogue_of : (b : Bool) (output : List RunPage) → (pass_tree b next list.pages output tree).catalogue ≡ next
+    catalogue_of true output = refl
+    catalogue_of false output = refl
 
 pub rotation_becomes : {T E : Type 0} {result : Result T E} {a : Entries} {old new : DiskState} (runs : RunsState) (tree : Tree) (next : Catalog) → StandOver runs tree a old → IsTrue old.is_honest → IsTimed old
     → runs.catalogue.version + 1 < 2 ^ 64 → next ≡ with_rotation runs.catalogue → Switches runs.sizes runs.catalogue next result old new

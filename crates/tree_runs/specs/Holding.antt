@@ -1,5 +1,6 @@
 -- What the components and merges of a tree are on an honest disk, whose file holds the tree.
 use Rattle.std.specs.Prelude.{◌≡◌, ◌≢◌, ◌⊎◌, ⊤, ℕ, Bool, IsTrue, ◌+◌, List, [], ◌∷◌, Option, Some, None, Result, Ok, Err, OnOk, if◌then◌else◌, nat_le}
+use Rattle.std.specs.Prelude.{◌-◌, ◌^◌, min, nat_eq, option_map}
 use Rattle.std.specs.List.{Contains}
 use Rattle.disk_trait.specs.Region.{Region, span}
 use Rattle.disk_trait.specs.Disk.{DiskState, TellsFaultsBy}
@@ -12,6 +13,7 @@ use Rattle.blsm_model.specs.Lanes.{a_of, b_of, spare_of}
 use Rattle.blsm_model.specs.declared.key.Key.{Key}
 use Rattle.blsm_model.specs.declared.component.Component.{Component}
 use Rattle.catalog_swap.specs.declared.catalog.Catalog.{Catalog}
+use Rattle.catalog_swap.specs.declared.catalog.Progress.{Progress}
 use Rattle.record_delta.specs.Entries.{Entries, folded_over, settled_entries}
 use Rattle.page_space.specs.Space.{SpaceState, HasRole, IsFree, KeepsOtherPins}
 use Rattle.page_file.specs.declared.file.Broken.{Broken}
@@ -23,11 +25,14 @@ use Rattle.scan_view.specs.Hold.{HoldState, held_from}
 use Rattle.scan_view.specs.Pins.{Pins, beside_pins}
 use Rattle.catalog_swap.specs.Slots.{slot_of, slot_length}
 use Rattle.catalog_swap.specs.Swap.{prepared}
+use Rattle.merge_ends.specs.Closed.{AreClosed}
+use Rattle.merge_ends.specs.declared.finished.Finished.{Finished}
+use Rattle.merge_ends.specs.Merge.{finished_of}
 use Rattle.merge_ends.specs.Output.{TakesPages}
 use Rattle.merge_ends.specs.Quantum.{IsQuantum}
 use Rattle.merge_ends.specs.Progress.{TakesQuantum}
 use Rattle.snow_merge.specs.Pass.{SnowState, IsPass, progress_of_pass}
-use Rattle.deep_merge.specs.Merge.{DeepState, IsMerge, progress_of_deep, started as deep_started}
+use Rattle.deep_merge.specs.Merge.{DeepState, IsMerge, merge_of, progress_of_deep, started as deep_started}
 use Rattle.tree_file.specs.Tree.{Tree, HoldsTree}
 use Rattle.tree_file.specs.Places.{StandsOn, HoldsEither, StandsOnEither}
 use Rattle.tree_runs.specs.Runs.{GuideState, RunsState, Tags, AreRunning, deep_bits, emptied, fences_of_tag, guide_at, made_by_pass, made_by_deep}
@@ -51,6 +56,11 @@ IsDeepOver sizes file space guide None c1x c2 = c1x ≡ []
 IsDeepOver sizes file space guide (Some merge) c1x c2 =
     IsMerge sizes file space merge guide.filter guide.fences (numbers_of c1x) (numbers_of c2) (entries_of c1x) (entries_of c2)
 
+-- The deep merge has finished these pages: each is one of its run that isn't the open one. Where none runs there is none.
+abbrev pub AreFinished : SpaceState → Option DeepState → List RunPage → Type 0
+AreFinished space None pages = pages ≡ []
+AreFinished space (Some merge) pages = AreClosed space merge.writer pages
+
 -- The filter and the fences are those of these pages; where there are none, nobody asks them, so they may be older ones.
 abbrev pub IsGuidedBy : GuideState → List RunPage → Type 0
 IsGuidedBy guide pages = IsGuided guide.filter guide.fences pages
@@ -61,8 +71,8 @@ pub record AreGuided (guides : List GuideState) (tags : Tags) (tree : Tree) : Ty
   pub c1x : IsGuidedBy (guide_at guides tags.c1x) tree.c1x
   pub c2 : IsGuidedBy (guide_at guides tags.c2) tree.c2
 
--- In this file the tree has this catalogue, its components' pages have their tags, filters and fences, and the merges run over its lists and this
--- table A.
+-- In this file the tree has this catalogue, its components' pages have their tags, filters and fences, the merges run over its lists and this
+-- table A, and the deep merge has finished the pages that are named of it.
 pub record AreOf (runs : RunsState) (tree : Tree) (a : Entries) (file : List ℕ) : Type 0 where
   pub holds : HoldsTree runs.sizes tree file
   pub catalogue : tree.catalogue ≡ runs.catalogue
@@ -72,6 +82,7 @@ pub record AreOf (runs : RunsState) (tree : Tree) (a : Entries) (file : List ℕ
   pub pass : IsPassOver runs.sizes file runs.space (guide_at runs.guides runs.tags.pass) runs.pass a tree.c1
   pub deep : IsDeepOver runs.sizes file runs.space (guide_at runs.guides runs.tags.deep) runs.deep tree.c1x tree.c2
   pub guided : AreGuided runs.guides runs.tags tree
+  pub output : AreFinished runs.space runs.deep tree.output
 
 -- The disk stands on the tree, and these are of it.
 pub record StandOver (runs : RunsState) (tree : Tree) (a : Entries) (d : DiskState) : Type 0 where
@@ -80,25 +91,41 @@ pub record StandOver (runs : RunsState) (tree : Tree) (a : Entries) (d : DiskSta
 
 -- ---- the swaps, as the catalogue has them
 
+-- What is named of a deep merge over this C1' and this C2 that has finished so much. z is how much of both isn't left, also of what settled to nothing.
+abbrev pub named_of : Catalog → Finished → Progress
+named_of now done = record {
+  output = done.output;
+  next = done.next;
+  z = min (now.c1x.weight + now.c2.weight) (2 ^ 64 - 1) - done.left;
+  key = done.key;
+}
+
+-- What the commit of a pass's swap names: where a deep merge runs and a page of its run is finished, how far that has come. Where C1' has no pages
+-- nothing is named, since no slot may say that. All other commits name nothing.
+abbrev pub progress_of : Catalog → Option DeepState → Option Progress
+progress_of now None = None
+progress_of now (Some merge) = if nat_eq now.c1x.pages 0 then None else option_map (named_of now) (finished_of (merge_of merge))
+
 -- the next catalogue where the deep merge's run becomes C2
 abbrev pub with_deep_run : Component → Catalog → Catalog
-with_deep_run made now = record { version = now.version + 1; lanes = now.lanes; c1 = now.c1; c1x = empty_component; c2 = made }
+with_deep_run made now = record { version = now.version + 1; lanes = now.lanes; c1 = now.c1; c1x = empty_component; c2 = made; progress = None }
 
 -- C1 becomes C1'
 abbrev pub with_rotation : Catalog → Catalog
-with_rotation now = record { version = now.version + 1; lanes = now.lanes; c1 = empty_component; c1x = now.c1; c2 = now.c2 }
+with_rotation now = record { version = now.version + 1; lanes = now.lanes; c1 = empty_component; c1x = now.c1; c2 = now.c2; progress = None }
 
--- the pass's run becomes C1, or C1' where it is as heavy as C1's mark; the lanes turn
+-- The pass's run becomes C1, or C1' where it is as heavy as C1's mark; the lanes turn. So much is named of the deep merge that runs.
 abbrev pub is_full : Sizes → Component → Bool
 is_full sizes made = nat_le (c1_mark sizes) made.weight
 
-abbrev pub with_pass_run : Sizes → Component → Catalog → Catalog
-with_pass_run sizes made now = record {
+abbrev pub with_pass_run : Sizes → Component → Option Progress → Catalog → Catalog
+with_pass_run sizes made progress now = record {
   version = now.version + 1;
   lanes = b_of now.lanes ∷ spare_of now.lanes ∷ a_of now.lanes ∷ [];
   c1 = if is_full sizes made then empty_component else made;
   c1x = if is_full sizes made then made else now.c1x;
   c2 = now.c2;
+  progress = progress;
 }
 
 -- ---- the swaps, as the lists have them
@@ -235,7 +262,7 @@ tags_after_pass rotates tags =
 
 pub record SwapsPass (old new : RunsState) : Type 0 where
   pub sizes : new.sizes ≡ old.sizes
-  pub catalogue : new.catalogue ≡ with_pass_run old.sizes (made_by_pass old.pass) old.catalogue
+  pub catalogue : new.catalogue ≡ with_pass_run old.sizes (made_by_pass old.pass) (progress_of old.catalogue old.deep) old.catalogue
   pub tags : new.tags ≡ tags_after_pass (is_full old.sizes (made_by_pass old.pass)) old.tags
   pub pass : new.pass ≡ None
   pub deep : new.deep ≡ (if is_full old.sizes (made_by_pass old.pass) then Some (deep_started old.tags.deep (made_by_pass old.pass) old.catalogue.c2) else old.deep)

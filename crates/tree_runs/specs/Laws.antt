@@ -16,7 +16,7 @@ use Rattle.scan_view.specs.Pins.{beside_pins}
 use Rattle.snow_merge.specs.Pass.{SnowState}
 use Rattle.tree_file.specs.Tree.{Tree, HoldsTree}
 use Rattle.tree_file.specs.Places.{appended_a, appended_b}
-use Rattle.tree_runs.specs.Runs.{RunsState, AreRead, AreRunning, IsFilled, first_tags, left_for_pass}
+use Rattle.tree_runs.specs.Runs.{RunsState, AreRead, AreRunning, IsFilled, first_tags, left_for_pass, pages_named}
 use Rattle.tree_runs.specs.Holding.{AreOf, cursor_of_pass}
 
 -- the pages that have a tag
@@ -76,9 +76,9 @@ pub record TakesFree (tag count : ℕ) (old new : SpaceState) : Type 0 where
 abbrev pub ClaimsAdd : Type 0
 ClaimsAdd = (tag count page : ℕ) (old mid new : SpaceState) → TakesFree tag count old mid → IsFree mid page → Claims tag page mid new → TakesFree tag (count + 1) old new
 
--- Where no page was in use, and then each component took as many as it has, the map is what a reader knows.
+-- Where no page was in use, and then each component took as many as it has, and a deep merge's run as many as are named, the map is what a reader knows.
 abbrev pub TakenAreRead : Type 0
 TakenAreRead =
-    (sizes : Sizes) (catalogue : Catalog) (c1 c1x c2 : SpaceState) → IsGeometry sizes → IsFilled catalogue.c1 → IsFilled catalogue.c1x → IsFilled catalogue.c2
+    (sizes : Sizes) (catalogue : Catalog) (c1 c1x c2 deep : SpaceState) → IsGeometry sizes → IsFilled catalogue.c1 → IsFilled catalogue.c1x → IsFilled catalogue.c2
     → TakesFree first_tags.c1 catalogue.c1.pages (unused (page_count sizes)) c1 → TakesFree first_tags.c1x catalogue.c1x.pages c1 c1x
-    → TakesFree first_tags.c2 catalogue.c2.pages c1x c2 → AreRead sizes catalogue c2
+    → TakesFree first_tags.c2 catalogue.c2.pages c1x c2 → TakesFree first_tags.deep (pages_named catalogue.progress) c2 deep → AreRead sizes catalogue deep

@@ -1,4 +1,5 @@
 pub mod Runs
+pub mod Ahead
 pub mod Holding
 pub mod Laws
 pub mod Swaps

@@ -9,15 +9,18 @@ use Rattle.bloom_bits.specs.BitSet.{BitState, cleared}
 use Rattle.bloom_bits.specs.Fences.{FencesState}
 use Rattle.bloom_bits.specs.Filter.{rounded}
 use Rattle.catalog_swap.specs.declared.catalog.Catalog.{Catalog}
+use Rattle.catalog_swap.specs.declared.catalog.Progress.{Progress}
 use Rattle.record_delta.specs.Entries.{Entries}
-use Rattle.page_space.specs.Space.{SpaceState, IsSpace, HasRole, IsWithin, role_count, role_size, pin_size, seat_count}
+use Rattle.page_space.specs.Space.{SpaceState, IsPinnedBy, IsSpace, HasRole, IsWithin, role_count, role_size, pin_size, seat_count}
+use Rattle.run_writer.specs.Closed.{IsClosedPage}
 use Rattle.merge_ends.specs.Output.{most_pages}
 use Rattle.merge_ends.specs.Progress.{IsRunning, left_to_take}
 use Rattle.scan_view.specs.Pins.{IsUnpinned}
 use Rattle.snow_merge.specs.Pass as pass
 use Rattle.snow_merge.specs.Pass.{SnowState, progress_of_pass}
 use Rattle.deep_merge.specs.Merge as deep
-use Rattle.deep_merge.specs.Merge.{DeepState, progress_of_deep}
+use Rattle.deep_merge.specs.Merge.{DeepState, progress_of_deep, taken_up}
+use Rattle.tree_runs.specs.declared.resumable.Resumable.{Resumable}
 
 -- which tags the pages of C1, C1', C2, of the pass's run and of the deep merge's run have
 pub record Tags : Type 0 where
@@ -110,6 +113,15 @@ abbrev pub due_guides : Sizes → Catalog → List GuideState → List GuideStat
 due_guides sizes catalogue guides =
     if nat_eq catalogue.c1x.pages 0 then guides else emptied first_tags.deep (deep_bits sizes catalogue.c1x catalogue.c2) guides
 
+-- where what was finished of it is taken up, it goes on behind that, and its filter and fences are those of the finished pages
+abbrev pub due_from : ℕ → Catalog → Option Resumable → Option DeepState
+due_from tag catalogue None = due_deep tag catalogue
+due_from tag catalogue (Some ahead) = Some (taken_up tag ahead.done ahead.c1x ahead.c2)
+
+abbrev pub guides_from : Sizes → Catalog → Option Resumable → List GuideState → List GuideState
+guides_from sizes catalogue None guides = due_guides sizes catalogue guides
+guides_from sizes catalogue (Some ahead) guides = guides
+
 -- No pass runs, and a deep merge just where C1' has pages.
 abbrev pub opened : Sizes → Catalog → SpaceState → List GuideState → RunsState
 opened sizes catalogue space guides = record {
@@ -120,6 +132,18 @@ opened sizes catalogue space guides = record {
   pass = None;
   deep = due_deep first_tags.deep catalogue;
   guides = due_guides sizes catalogue guides;
+}
+
+-- the same with a deep merge that may be taken up
+abbrev pub opened_from : Sizes → Catalog → SpaceState → List GuideState → Option Resumable → RunsState
+opened_from sizes catalogue space guides ahead = record {
+  sizes = sizes;
+  catalogue = catalogue;
+  space = space;
+  tags = first_tags;
+  pass = None;
+  deep = due_from first_tags.deep catalogue ahead;
+  guides = guides_from sizes catalogue ahead guides;
 }
 
 -- a pass over C1 begins, beside a memory table of this weight
@@ -202,6 +226,11 @@ abbrev pub DeepHasTag : ℕ → Option DeepState → Type 0
 DeepHasTag tag None = ⊤
 DeepHasTag tag (Some merge) = merge.writer.role ≡ tag
 
+-- each page of the pass's run that a seat pins is a closed one
+abbrev pub PinsOfPass : SpaceState → Option SnowState → Type 0
+PinsOfPass space None = ⊤
+PinsOfPass space (Some snow) = (seat page : ℕ) → IsPinnedBy space seat page → HasRole space snow.writer.role page → IsClosedPage space snow.writer page
+
 -- where no deep merge runs C1' is empty
 abbrev pub RestsEmpty : Option DeepState → Component → Type 0
 RestsEmpty None c1x = c1x ≡ empty_component
@@ -226,15 +255,20 @@ pub record AreRuns (runs : RunsState) : Type 0 where
   pub pass_tag : PassHasTag runs.tags.pass runs.pass
   pub deep_tag : DeepHasTag runs.tags.deep runs.deep
   pub rests : RestsEmpty runs.deep runs.catalogue.c1x
-  -- no seat pins a page of a run that is written
-  pub pass_unpinned : IsUnpinned runs.space runs.tags.pass
+  -- no seat pins the open page of the pass's run, nor a page of the deep merge's
+  pub open_unpinned : PinsOfPass runs.space runs.pass
   pub deep_unpinned : IsUnpinned runs.space runs.tags.deep
   -- the tags' pages are these, and no seat pins more than its share
   pub within : IsWithin (pages_in_use runs) (page_share runs.sizes) runs.space
   pub guides : AreGuides runs.sizes runs.tags runs.guides
 
--- What a reader of a store's file knows on every disk: the pages of C1, C1' and C2, and no others, have the tags 0, 1 and 2, none of them
--- two, and no seat pins one.
+-- how many pages a run has whose progress is named: the finished ones, and the next one
+abbrev pub pages_named : Option Progress → ℕ
+pages_named None = 0
+pages_named (Some progress) = progress.output.pages + 1
+
+-- What a reader of a store's file knows on every disk: the pages of C1, C1' and C2, and no others, have the tags 0, 1 and 2, and those of a deep
+-- merge that is named the tag 4; none of them has two, and no seat pins one.
 pub record AreRead (sizes : Sizes) (catalogue : Catalog) (space : SpaceState) : Type 0 where
   pub geometry : IsGeometry sizes
   pub pages : space.pages ≡ page_count sizes
@@ -244,7 +278,7 @@ pub record AreRead (sizes : Sizes) (catalogue : Catalog) (space : SpaceState) : 
   pub c1x : IsHeld space first_tags.c1x catalogue.c1x
   pub c2 : IsHeld space first_tags.c2 catalogue.c2
   pub pass : role_size space first_tags.pass ≡ 0
-  pub deep : role_size space first_tags.deep ≡ 0
+  pub deep : role_size space first_tags.deep ≡ pages_named catalogue.progress
   pub no_pins : (seat : ℕ) → seat < seat_count → pin_size space seat ≡ 0
 
 -- Where the file is honest the runs' closed pages stand in it; on any disk the merges' cursors and runs are in order.

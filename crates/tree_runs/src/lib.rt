@@ -7,9 +7,11 @@ mod holds;
 mod laws;
 mod lookup;
 mod quanta;
+mod resumable;
 mod runs;
 mod swaps;
 
 pub use guides::{GuideRoom, PageStart};
 pub use laws::{each_claims_its_own, others_may_write};
+pub use resumable::Resumable;
 pub use runs::{MergeRoom, Runs};

@@ -1,15 +1,17 @@
 //! The components, their pages, and the merges that run.
-ghost use Rattle.std.specs.Prelude.{◌≡◌, ◌↔◌, ◌<◌, ◌∷◌, [], ℕ, Bool, List, Some, None, IsTrue, is_some};
+ghost use Rattle.std.specs.Prelude.{◌≡◌, ◌↔◌, ◌<◌, ◌+◌, ◌∷◌, [], ℕ, Bool, List, Some, None, IsTrue, is_some};
 ghost use Rattle.blsm_model.specs.Components.{empty_component};
 ghost use Rattle.blsm_model.specs.Sizes.{Sizes};
 ghost use Rattle.record_delta.specs.Entries.{Entries};
 ghost use Rattle.page_space.specs.Space.{SpaceState};
 ghost use Rattle.page_file.specs.Component.{RunPage, ReadsAs};
 ghost use Rattle.tree_file.specs.Tree.{Tree, HoldsTree};
-ghost use Rattle.tree_runs.specs.Runs.{opened, due_deep, due_guides, first_tags, guide_at, pass_begun, AreGuides, AreRead, AreRuns, AreRunning, DeepRuns, GuideState, left_for_pass, left_for_deep};
+ghost use Rattle.tree_runs.specs.Ahead.{IsAhead, IsAheadOn, IsAheadOver};
+ghost use Rattle.tree_runs.specs.Runs.{opened_from, due_deep, due_from, due_guides, guides_from, first_tags, guide_at, pass_begun, AreGuides, AreRead, AreRuns, AreRunning, DeepRuns, GuideState, left_for_pass, left_for_deep};
 ghost use Rattle.tree_runs.specs.Holding.{AreElsewhere, AreGuided, AreOf, AreTagged, IsDeepOver, KeepsOtherGuides, cursor_of_pass};
 
 use crate::guides::{Guide, GuideRoom, begin_deep, begin_snow};
+use crate::resumable::Resumable;
 use blsm_model::{Geometry, Key};
 use catalog_swap::Catalog;
 use deep_merge::Deep;
@@ -82,29 +84,41 @@ impl Model for Runs {
 }
 
 impl Runs {
-    /// The components of a tree that was read from its file, whose map gives the pages of C1, C1' and C2 the tags 0, 1 and 2; under these tags are
-    /// their filters and fences. Where C1' has pages, as a crash may leave them, its deep merge begins. It calls no device.
+    /// The components of a tree that was read from its file, whose map gives the pages of C1, C1' and C2 the tags 0, 1 and 2, and those of a deep
+    /// merge that is taken up the tag 4; under these tags are their filters and fences. Where C1' has pages, as a crash may leave them, its deep
+    /// merge begins, or is taken up behind what was finished of it. It calls no device.
     pub fn open(
         geometry: &Geometry,
         catalogue: Catalog,
         space: Space,
         room: MergeRoom,
         guides: GuideRoom,
+        ahead: Option<Resumable>,
     ) -> Runs
         requires read { AreRead geometry.now catalogue space }
         requires guides { AreGuides geometry.now first_tags guides }
-        ensures opened { result ≡ opened geometry.now catalogue space guides }
-        ensures running { (honest : Bool) (file : List ℕ) → AreRunning honest file result }
+        requires ahead { IsAhead first_tags.deep catalogue.progress (catalogue.c1x.weight + catalogue.c2.weight) ahead }
+        ensures opened { result ≡ opened_from geometry.now catalogue space guides ahead }
+        ensures running { (honest : Bool) (file : List ℕ) → IsAheadOn geometry.now honest file space first_tags.deep (guide_at guides first_tags.deep) ahead
+            → AreRunning honest file result }
         ensures lists { (tree : Tree) (a : Entries) (file : List ℕ) → HoldsTree geometry.now tree file → tree.catalogue ≡ catalogue
             → AreTagged space first_tags.c1 tree.c1 → AreTagged space first_tags.c1x tree.c1x → AreTagged space first_tags.c2 tree.c2
-            → AreGuided guides first_tags tree → AreOf result tree a file }
+            → AreGuided guides first_tags tree
+            → IsAheadOver geometry.now file space first_tags.deep (guide_at guides first_tags.deep) tree.c1x tree.c2 ahead → AreOf result tree a file }
     {
         let deep = Role::new(4);
         let mut guides = guides.guides;
         let mut merges = room.merges;
         let here = &mut *merges;
         here.pass = None;
-        begin_due(&mut here.deep, geometry, &catalogue, deep, &mut guides);
+        go_on(
+            &mut here.deep,
+            geometry,
+            &catalogue,
+            deep,
+            &mut guides,
+            ahead,
+        );
         Runs {
             geometry: *geometry,
             catalogue,
@@ -190,10 +204,42 @@ impl Runs {
     }
 
     /// The catalogue as it was last committed.
-    pub fn catalogue(&self) -> Catalog
-        ensures { result ≡ self.now.catalogue }
+    pub fn catalogue(&self) -> &Catalog
+        ensures { result.now ≡ self.now.catalogue }
     {
-        self.catalogue
+        &self.catalogue
+    }
+}
+
+// Puts the deep merge that a catalogue asks for where it is to lie: the one that is taken up, if there is one, whose run's filter and fences are
+// filled.
+fn go_on(
+    slot: &mut Option<Deep>,
+    geo: &Geometry,
+    catalogue: &Catalog,
+    role: Role,
+    guides: &mut Vec<Guide>,
+    ahead: Option<Resumable>,
+)
+    requires guides { AreGuides geo.now first_tags guides.old.items }
+    requires role { role ≡ first_tags.deep }
+    requires older { catalogue.now.c2.pages ≡ 0 → catalogue.now.c2 ≡ empty_component }
+    requires ahead { IsAhead role catalogue.now.progress (catalogue.now.c1x.weight + catalogue.now.c2.weight) ahead }
+    ensures begun { slot.new ≡ due_from role catalogue.now ahead }
+    ensures guides { guides.new.items ≡ guides_from geo.now catalogue.now ahead guides.old.items }
+    ensures reserved { AreGuides geo.now first_tags guides.new.items }
+    ensures others { KeepsOtherGuides role guides.old.items guides.new.items }
+    ensures running { (sizes : Sizes) (honest : Bool) (file : List ℕ) (space : SpaceState)
+        → IsAheadOn sizes honest file space role (guide_at guides.old.items role) ahead
+        → DeepRuns sizes honest file space (guide_at guides.new.items role) slot.new }
+    ensures merge { (sizes : Sizes) (file : List ℕ) (space : SpaceState) (c1x c2 : List RunPage)
+        → ReadsAs sizes catalogue.now.c1x c1x file → AreElsewhere space role c1x → ReadsAs sizes catalogue.now.c2 c2 file → AreElsewhere space role c2
+        → IsAheadOver sizes file space role (guide_at guides.old.items role) c1x c2 ahead
+        → IsDeepOver sizes file space (guide_at guides.new.items role) slot.new c1x c2 }
+{
+    match ahead {
+        Some(Resumable { done, c1x, c2 }) => *slot = Some(Deep::resume(c1x, c2, role, &done)),
+        None => begin_due(slot, geo, catalogue, role, guides),
     }
 }
 

@@ -5,6 +5,7 @@ ghost use Rattle.disk_trait.specs.Effects.{Affects};
 ghost use Rattle.blsm_model.specs.Geometry.{file_length};
 ghost use Rattle.blsm_model.specs.Lanes.{AreRoles};
 ghost use Rattle.bloom_bits.specs.Guides.{Guide};
+ghost use Rattle.catalog_swap.specs.Text.{HasKey};
 ghost use Rattle.record_delta.specs.Entries.{Entries, folded_over, settled_entries};
 ghost use Rattle.page_file.specs.Component.{RunPage, HasList, entries_of};
 ghost use Rattle.page_file.specs.File.{Writes};
@@ -14,12 +15,14 @@ ghost use Rattle.tree_file.specs.Tree.{Tree, HoldsTree};
 ghost use Rattle.tree_file.specs.Places.{StandsOn, Becomes, ReadsNext, with_components, with_pass};
 ghost use Rattle.tree_runs.specs.Runs.{AreRuns, AreRunning, PassRuns, DeepRuns, fences_of_tag, filter_of, guide_at, left_for_pass, left_for_deep, made_by_pass, made_by_deep};
 ghost use Rattle.tree_runs.specs.Holding.{AreOf, AreTagged, IsGuidedBy, IsPassOver, IsDeepOver, StandOver, LeavesSwapped, SwapsDeep, SwapsPass, Rotates, IsDeepSwapped, IsPassSwapped, IsRotated, is_full, commit_region, with_deep_run, with_pass_run, with_rotation};
+ghost use Rattle.tree_runs.specs.Holding.{AreFinished, progress_of};
 ghost use Rattle.tree_runs.specs.Swaps.{MayFollow};
+ghost use Rattle.tree_runs.specs.Writing.{open_of_deep, open_of_pass};
 
 use crate::guides::begin_deep;
 use crate::runs::Runs;
 use blsm_model::{Component, Geometry};
-use catalog_swap::{Catalog, commit, prepare};
+use catalog_swap::{Catalog, Progress, commit, prepare};
 use disk_trait::Disk;
 use mem_table::Table;
 use page_file::no_component;
@@ -36,7 +39,8 @@ fn commit_next<D: Disk>(
     requires roles { AreRoles now.now.lanes }
     requires version { next.now.version ≡ now.now.version + 1 }
     ensures becomes { (tree after : Tree) → IsTrue (D.state disk.old).is_honest → tree.catalogue ≡ now.now → after.catalogue ≡ next.now
-        → MayFollow geo.now tree after → StandsOn geo.now tree (D.state disk.old) → ReadsNext geo.now after (D.state disk.old).bytes
+        → (HasKey next.now.progress → MayFollow geo.now tree after) → StandsOn geo.now tree (D.state disk.old)
+        → ReadsNext geo.now after (D.state disk.old).bytes
         → Becomes geo.now tree after (is_ok result) (D.state disk.old) (D.state disk.new) }
     ensures effect { Affects (commit_region geo.now now.now) (file_length geo.now) 8 (D.state disk.old) (D.state disk.new) }
     ensures faults { TellsFaults result (D.state disk.old) (D.state disk.new) }
@@ -69,12 +73,13 @@ impl Runs {
         let made = self.finish_deep(disk)?;
         let next = self.after_deep(made);
         commit_next(disk, &self.geometry, &self.catalogue, &next)?;
-        self.install_deep(&next);
+        self.install_deep(next);
         Ok(())
     }
 
     /// Swaps the pass in, which is done: its run is C1, or C1' where it is as heavy as C1's mark; then a deep merge begins. The lanes turn
-    /// in the same commit. The pages of the old C1 are free then. Tells whether C1 was rotated.
+    /// in the same commit. The pages of the old C1 are free then. Where a deep merge runs, the commit names what of its run is finished, so that an
+    /// opening may take it up behind that; no other commit names anything. Tells whether C1 was rotated.
     ///
     /// No deep merge may run where the new C1 is as heavy as its mark. An `Err` leaves what one of `swap_deep` leaves.
     /// A clause each for the lists of an honest disk, for what is in memory, for the merges, an `Err`, the calls and the faults.
@@ -101,9 +106,9 @@ impl Runs {
         let next = self.after_pass(made, rotates);
         commit_next(disk, &self.geometry, &self.catalogue, &next)?;
         if rotates {
-            self.install_rotated_pass(&next);
+            self.install_rotated_pass(next);
         } else {
-            self.install_pass(&next);
+            self.install_pass(next);
         }
         Ok(rotates)
     }
@@ -115,17 +120,40 @@ impl Runs {
     {
         Catalog {
             version: self.catalogue.version + 1,
+            lanes: self.catalogue.lanes,
+            c1: self.catalogue.c1,
             c1x: no_component(),
             c2: made,
-            ..self.catalogue
+            progress: None,
         }
+    }
+
+    // How far the deep merge has come, if a page of its run is finished.
+    fn progress(&self) -> Option<Progress>
+        ensures { result ≡ progress_of self.now.catalogue self.now.deep }
+    {
+        let Some(deep) = &self.merges.deep else {
+            return None;
+        };
+        let Catalog { c1x, c2, .. } = &self.catalogue;
+        if c1x.pages == 0 {
+            return None;
+        }
+        let done = deep.finished()?;
+        let both = c1x.weight.saturating_add(c2.weight);
+        Some(Progress {
+            output: done.output,
+            next: done.next,
+            z: both.saturating_sub(done.left),
+            key: done.key,
+        })
     }
 
     // The next catalogue where the pass's run becomes C1, or C1'.
     fn after_pass(&self, made: Component, rotates: bool) -> Catalog
         requires version { self.now.catalogue.version + 1 < 2 ^ 64 }
         requires way { rotates ≡ is_full self.now.sizes made }
-        ensures next { result ≡ with_pass_run self.now.sizes made self.now.catalogue }
+        ensures next { result ≡ with_pass_run self.now.sizes made (progress_of self.now.catalogue self.now.deep) self.now.catalogue }
     {
         let [a, b, spare] = self.catalogue.lanes;
         Catalog {
@@ -134,6 +162,7 @@ impl Runs {
             c1: if rotates { no_component() } else { made },
             c1x: if rotates { made } else { self.catalogue.c1x },
             c2: self.catalogue.c2,
+            progress: self.progress(),
         }
     }
 
@@ -144,9 +173,11 @@ impl Runs {
     {
         Catalog {
             version: self.catalogue.version + 1,
+            lanes: self.catalogue.lanes,
             c1: no_component(),
             c1x: self.catalogue.c1,
-            ..self.catalogue
+            c2: self.catalogue.c2,
+            progress: None,
         }
     }
 
@@ -169,24 +200,24 @@ impl Runs {
     {
         let next = self.after_rotation();
         commit_next(disk, &self.geometry, &self.catalogue, &next)?;
-        self.install_rotation(&next);
+        self.install_rotation(next);
         Ok(())
     }
 
     // The deep merge's run is C2: it gets C2's tag, and the pages of what it was made of are free.
-    fn install_deep(&mut self, next: &Catalog)
+    fn install_deep(&mut self, next: Catalog)
         requires runs { AreRuns self.old }
-        requires next { next.now ≡ with_deep_run (made_by_deep self.old.deep) self.old.catalogue }
+        requires next { next ≡ with_deep_run (made_by_deep self.old.deep) self.old.catalogue }
         ensures swaps { SwapsDeep self.old self.new }
         ensures runs { AreRuns self.new }
         ensures goes_on { (honest : Bool) (file : List ℕ) → PassRuns self.old.sizes honest file self.old.space (guide_at self.old.guides self.old.tags.pass) self.old.pass
             → PassRuns self.old.sizes honest file self.new.space (guide_at self.new.guides self.new.tags.pass) self.new.pass }
-        ensures lists { (tree : Tree) (run : List RunPage) (a : Entries) (file : List ℕ) → HoldsTree self.old.sizes (with_components next.now tree.c1 [] run tree) file
+        ensures lists { (tree : Tree) (run : List RunPage) (a : Entries) (file : List ℕ) → HoldsTree self.old.sizes (with_components next tree.c1 [] run tree) file
             → AreTagged self.old.space self.old.tags.c1 tree.c1 → AreTagged self.old.space self.old.tags.deep run
             → IsGuidedBy (guide_at self.old.guides self.old.tags.c1) tree.c1 → IsGuidedBy (guide_at self.old.guides self.old.tags.deep) run
-            → IsPassOver self.old.sizes file self.old.space (guide_at self.old.guides self.old.tags.pass) self.old.pass a tree.c1 → AreOf self.new (with_components next.now tree.c1 [] run tree) a file }
+            → IsPassOver self.old.sizes file self.old.space (guide_at self.old.guides self.old.tags.pass) self.old.pass a tree.c1 → AreOf self.new (with_components next tree.c1 [] run tree) a file }
     {
-        self.catalogue = *next;
+        self.catalogue = next;
         self.space.release(self.c1x);
         self.space.release(self.c2);
         (self.c2, self.deep) = (self.deep, self.c2);
@@ -195,20 +226,21 @@ impl Runs {
     }
 
     // The pass's run is C1: it gets C1's tag, and the pages of the old C1 are free.
-    fn install_pass(&mut self, next: &Catalog)
+    fn install_pass(&mut self, next: Catalog)
         requires runs { AreRuns self.old }
         requires light { is_full self.old.sizes (made_by_pass self.old.pass) ≡ false }
-        requires next { next.now ≡ with_pass_run self.old.sizes (made_by_pass self.old.pass) self.old.catalogue }
+        requires next { next ≡ with_pass_run self.old.sizes (made_by_pass self.old.pass) (progress_of self.old.catalogue self.old.deep) self.old.catalogue }
         ensures swaps { SwapsPass self.old self.new }
         ensures runs { AreRuns self.new }
         ensures goes_on { (honest : Bool) (file : List ℕ) → DeepRuns self.old.sizes honest file self.old.space (guide_at self.old.guides self.old.tags.deep) self.old.deep
             → DeepRuns self.old.sizes honest file self.new.space (guide_at self.new.guides self.new.tags.deep) self.new.deep }
-        ensures lists { (tree : Tree) (run : List RunPage) (a : Entries) (file : List ℕ) → HoldsTree self.old.sizes (with_pass next.now run tree.c1x tree.c2 tree) file
+        ensures lists { (tree : Tree) (run output : List RunPage) (a : Entries) (file : List ℕ) → HoldsTree self.old.sizes (with_pass next run tree.c1x tree.c2 output tree) file
             → AreTagged self.old.space self.old.tags.c1x tree.c1x → AreTagged self.old.space self.old.tags.c2 tree.c2 → AreTagged self.old.space self.old.tags.pass run
             → IsGuidedBy (guide_at self.old.guides self.old.tags.pass) run → IsGuidedBy (guide_at self.old.guides self.old.tags.c1x) tree.c1x → IsGuidedBy (guide_at self.old.guides self.old.tags.c2) tree.c2
-            → IsDeepOver self.old.sizes file self.old.space (guide_at self.old.guides self.old.tags.deep) self.old.deep tree.c1x tree.c2 → AreOf self.new (with_pass next.now run tree.c1x tree.c2 tree) a file }
+            → IsDeepOver self.old.sizes file self.old.space (guide_at self.old.guides self.old.tags.deep) self.old.deep tree.c1x tree.c2
+            → AreFinished self.old.space self.old.deep output → AreOf self.new (with_pass next run tree.c1x tree.c2 output tree) a file }
     {
-        self.catalogue = *next;
+        self.catalogue = next;
         self.space.release(self.c1);
         (self.c1, self.pass) = (self.pass, self.c1);
         let merges = &mut *self.merges;
@@ -216,53 +248,53 @@ impl Runs {
     }
 
     // The pass's run is C1', whose tag was on no page, and a deep merge begins. The pages of the old C1 are free.
-    fn install_rotated_pass(&mut self, next: &Catalog)
+    fn install_rotated_pass(&mut self, next: Catalog)
         requires runs { AreRuns self.old }
         requires heavy { is_full self.old.sizes (made_by_pass self.old.pass) ≡ true }
         requires rests { self.old.deep ≡ None }
-        requires next { next.now ≡ with_pass_run self.old.sizes (made_by_pass self.old.pass) self.old.catalogue }
+        requires next { next ≡ with_pass_run self.old.sizes (made_by_pass self.old.pass) (progress_of self.old.catalogue self.old.deep) self.old.catalogue }
         ensures swaps { SwapsPass self.old self.new }
         ensures runs { AreRuns self.new }
         ensures goes_on { (honest : Bool) (file : List ℕ) → DeepRuns self.old.sizes honest file self.new.space (guide_at self.new.guides self.new.tags.deep) self.new.deep }
-        ensures lists { (tree : Tree) (run : List RunPage) (a : Entries) (file : List ℕ) → HoldsTree self.old.sizes (with_pass next.now [] run tree.c2 tree) file
+        ensures lists { (tree : Tree) (run : List RunPage) (a : Entries) (file : List ℕ) → HoldsTree self.old.sizes (with_pass next [] run tree.c2 [] tree) file
             → AreTagged self.old.space self.old.tags.c2 tree.c2 → AreTagged self.old.space self.old.tags.pass run
             → IsGuidedBy (guide_at self.old.guides self.old.tags.c2) tree.c2 → IsGuidedBy (guide_at self.old.guides self.old.tags.pass) run
-            → AreOf self.new (with_pass next.now [] run tree.c2 tree) a file }
+            → AreOf self.new (with_pass next [] run tree.c2 [] tree) a file }
     {
-        self.catalogue = *next;
+        self.catalogue = next;
         self.space.release(self.c1);
         (self.c1, self.c1x, self.pass) = (self.c1x, self.pass, self.c1);
         let merges = &mut *self.merges;
         merges.pass = None;
         merges.deep = Some(begin_deep(
             &self.geometry,
-            &next.c1x,
-            &next.c2,
+            &self.catalogue.c1x,
+            &self.catalogue.c2,
             self.deep,
             &mut self.guides,
         ));
     }
 
     // C1 is C1', whose tag was on no page, and a deep merge begins.
-    fn install_rotation(&mut self, next: &Catalog)
+    fn install_rotation(&mut self, next: Catalog)
         requires runs { AreRuns self.old }
         requires rests { (self.old.pass ≡ None) × (self.old.deep ≡ None) }
-        requires next { next.now ≡ with_rotation self.old.catalogue }
+        requires next { next ≡ with_rotation self.old.catalogue }
         ensures rotates { Rotates self.old self.new }
         ensures runs { AreRuns self.new }
         ensures goes_on { (honest : Bool) (file : List ℕ) → DeepRuns self.old.sizes honest file self.new.space (guide_at self.new.guides self.new.tags.deep) self.new.deep }
-        ensures lists { (tree : Tree) (a : Entries) (file : List ℕ) → HoldsTree self.old.sizes (with_components next.now [] tree.c1 tree.c2 tree) file
+        ensures lists { (tree : Tree) (a : Entries) (file : List ℕ) → HoldsTree self.old.sizes (with_components next [] tree.c1 tree.c2 tree) file
             → AreTagged self.old.space self.old.tags.c1 tree.c1 → AreTagged self.old.space self.old.tags.c2 tree.c2
             → IsGuidedBy (guide_at self.old.guides self.old.tags.c1) tree.c1 → IsGuidedBy (guide_at self.old.guides self.old.tags.c2) tree.c2
-            → AreOf self.new (with_components next.now [] tree.c1 tree.c2 tree) a file }
+            → AreOf self.new (with_components next [] tree.c1 tree.c2 tree) a file }
     {
-        self.catalogue = *next;
+        self.catalogue = next;
         (self.c1, self.c1x) = (self.c1x, self.c1);
         let merges = &mut *self.merges;
         merges.deep = Some(begin_deep(
             &self.geometry,
-            &next.c1x,
-            &next.c2,
+            &self.catalogue.c1x,
+            &self.catalogue.c2,
             self.deep,
             &mut self.guides,
         ));
@@ -278,6 +310,7 @@ impl Runs {
             → IfOk result (λ c. (list : HasList self.old.sizes c (settled_entries (folded_over (entries_of c1x) (entries_of c2))) (D.state disk.new).bytes) × AreTagged self.old.space self.old.tags.deep list.pages × Guide (filter_of self.old self.old.tags.deep) (fences_of_tag self.old self.old.tags.deep) list.pages) }
         ensures same { self.new ≡ self.old }
         ensures writes { Writes (role_region self.old.sizes self.old.space self.old.tags.deep) (file_length self.old.sizes) result (D.state disk.old) (D.state disk.new) }
+        ensures opens { Affects (open_of_deep self.old.sizes self.old.deep) (file_length self.old.sizes) 1 (D.state disk.old) (D.state disk.new) }
     {
         let merges = &mut *self.merges;
         match &mut merges.deep {
@@ -296,6 +329,7 @@ impl Runs {
             → IfOk result (λ c. (list : HasList self.old.sizes c (folded_over a.now.entries (entries_of c1)) (D.state disk.new).bytes) × AreTagged self.old.space self.old.tags.pass list.pages × Guide (filter_of self.old self.old.tags.pass) (fences_of_tag self.old self.old.tags.pass) list.pages) }
         ensures same { self.new ≡ self.old }
         ensures writes { Writes (role_region self.old.sizes self.old.space self.old.tags.pass) (file_length self.old.sizes) result (D.state disk.old) (D.state disk.new) }
+        ensures opens { Affects (open_of_pass self.old.sizes self.old.pass) (file_length self.old.sizes) 1 (D.state disk.old) (D.state disk.new) }
     {
         let merges = &mut *self.merges;
         match &mut merges.pass {

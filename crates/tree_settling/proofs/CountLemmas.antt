@@ -47,6 +47,7 @@ use Rattle.tree_settling.specs.Counting.{
   pass_due,
   settling_due,
   settling_least,
+  untaken,
   where_so,
   where_some,
 }
@@ -226,7 +227,7 @@ pub settling_counts : {q q' q'' : ℕ} (old one two new : RunsState) (log next :
     → components_of two.catalogue + weight_of_tables next ≤ components_of one.catalogue + weight_of_tables log
     → one.catalogue.c1.weight ≡ old.catalogue.c1.weight → two.catalogue.c1.weight ≤ one.catalogue.c1.weight + listed_in_a log
     → IsWhole next.a → next.a.entries ≡ log.b.entries → next.b.entries ≡ []
-    → CountsQuanta 1 (left_for_deep old.deep) (where_so (is_some old.deep) (old.catalogue.c1x.weight + old.catalogue.c2.weight)) old one q
+    → CountsQuanta 1 (left_for_deep old.deep) (where_so (is_some old.deep) (untaken old.catalogue)) old one q
     → CountsPass one log two q' → CountsPass two next new q''
     → CountsQuanta (1 + most_merges (listed_in_a log) (entries_weight log.b.entries)) (settling_least old log) (settling_due old log)
     old new (q + (q' + q''))

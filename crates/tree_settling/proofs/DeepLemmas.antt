@@ -34,6 +34,7 @@ use Rattle.tree_settling.specs.Settling.{
   anywhere,
   components_of,
 }
+use Rattle.tree_settling.proofs.LightLemmas.{light_unnamed}
 use Rattle.tree_settling.proofs.NextLemmas.{Follows, deep_follows}
 use Rattle.tree_settling.proofs.StepLemmas.{honest_still, kept_swapped, stays_long}
 use Rattle.tree_settling.proofs.TakenLemmas.{goes_then}
@@ -77,7 +78,7 @@ module _ {done : Bool} {a : Contents} {runs mid new : RunsState} {log : LogState
         (swap.goes.leaves shows.tree honest (subst (λ (t : Contents). StandOver runs shows.tree t.entries before) (sym swap.table) shows.over))
         (subst (λ (s : Sizes). LeavesOnly d after (HoldsEither s shows.tree x.0)) swap.goes.sizes x.2.each)
         (subst (λ (s : Sizes). HoldsEither s shows.tree x.0 after.bytes) swap.goes.sizes x.2.either.reads);
-    effect = affects_counted (omega (arith, swap.few, swap.effect.calls, light)) (goes_then swap.timed swap.goes swap.effect);
+    effect = affects_counted (omega (arith, swap.few, swap.effect.calls, light.run)) (goes_then swap.timed swap.goes swap.effect);
   }
 
   pub deep_shows : IsTrue done → SwapsDeep mid new → (pairs : List (Key × Value)) → IsTrue before.is_honest → ShowsMap runs log pairs before → ShowsMap new log pairs after
@@ -99,7 +100,7 @@ module _ {done : Bool} {a : Contents} {runs mid new : RunsState} {log : LogState
 
   -- its run weighs no more than C1' and C2, whose place it takes
   pub deep_light : IsDeepLight runs → left_for_deep mid.deep ≡ 0 → SwapsDeep mid new → components_of new.catalogue + weight_of_tables log ≤ components_of runs.catalogue + weight_of_tables log
-  deep_light light none swaps = omega (arith, ap components_of (next_catalogue swaps), swap.goes.deep, none, light)
+  deep_light light none swaps = omega (arith, ap components_of (next_catalogue swaps), swap.goes.deep, none, light.run)
 
   pub deep_may : MaySettle runs log before → left_for_deep mid.deep ≡ 0 → SwapsDeep mid new → AreRunning after.is_honest after.bytes new → MaySettle new log after
   deep_may may none swaps running =
@@ -119,7 +120,8 @@ module _ {done : Bool} {a : Contents} {runs mid new : RunsState} {log : LogState
           mark = omega (arith, ap (λ (c : Catalog). c.c1.weight) catalogue, ap c1_mark sizes, may.begun.mark);
           high = omega (arith, ap high_mark sizes, may.begun.high);
           full = omega (arith, deep_light may.begun.deep none swaps, ap capacity sizes, may.begun.full);
-          deep = omega (arith, ap (λ (o : Option DeepState). (made_by_deep o).weight + left_for_deep o) swaps.deep);
+          deep = light_unnamed new (ap (λ (c : Catalog). c.progress) catalogue)
+              (omega (arith, ap (λ (o : Option DeepState). (made_by_deep o).weight + left_for_deep o) swaps.deep));
           reserved_a = omega (arith, ap high_mark sizes, may.begun.reserved_a);
           reserved_b = omega (arith, ap high_mark sizes, may.begun.reserved_b);
         };

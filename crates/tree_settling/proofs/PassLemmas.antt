@@ -27,7 +27,7 @@ use Rattle.tree_file.specs.Places.{HoldsEither, StandsOn, TurnsRoles}
 use Rattle.tree_log.specs.Log.{LogState, IsLogOf, listed_in_a, turned_log, weight_of_tables}
 use Rattle.tree_log.proofs.RestLemmas.{whole_list}
 use Rattle.tree_runs.specs.Runs.{GuideState, RunsState, AreRunning, Fits, guide_at, left_for_deep, left_for_pass, made_by_deep, made_by_pass, pass_begun}
-use Rattle.tree_runs.specs.Holding.{AreOf, IsDeepOver, IsPassOver, IsPassSwapped, LeavesSwapped, StandOver, SwapsPass, is_full, with_pass_run}
+use Rattle.tree_runs.specs.Holding.{AreOf, IsDeepOver, IsPassOver, IsPassSwapped, LeavesSwapped, StandOver, SwapsPass, is_full, progress_of, with_pass_run}
 use Rattle.tree_settling.specs.Counting.{CountsQuanta, HasPassed, TakeQuanta}
 use Rattle.tree_settling.specs.Settling.{
   CallsFew,
@@ -41,6 +41,7 @@ use Rattle.tree_settling.specs.Settling.{
   anywhere,
   components_of,
 }
+use Rattle.tree_settling.proofs.LightLemmas.{light_unnamed}
 use Rattle.tree_settling.proofs.NextLemmas.{Follows, pass_follows}
 use Rattle.tree_settling.proofs.StepLemmas.{honest_still, kept_swapped, stays_long}
 use Rattle.tree_settling.proofs.TakenLemmas.{goes_then}
@@ -62,7 +63,7 @@ begun_fits memory runs begun log a d is table may =
     (subst (λ (t : Contents). Fits (pass_begun memory runs) t.entries) (sym table)
     (record {
       live = omega (arith, may.begun.full);
-      made = omega (arith, may.begun.full, may.begun.deep, above_light None log.a.entries);
+      made = omega (arith, may.begun.full, may.begun.deep.run, above_light None log.a.entries);
       pass = omega (arith, may.begun.mark, may.begun.high, above_light None log.a.entries);
     }))
 
@@ -95,10 +96,10 @@ pass_weighs sizes runs guide (Some snow) a c1 file some none over =
 
 -- ---- the next catalogue, by the numbers
 
-next_weighs : (sizes : Sizes) (made : Component) (now : Catalog) → components_of (with_pass_run sizes made now) ≤ made.weight + now.c1x.weight + now.c2.weight
+next_weighs : (sizes : Sizes) (made : Component) (now : Catalog) → components_of (with_pass_run sizes made None now) ≤ made.weight + now.c1x.weight + now.c2.weight
 next_weighs sizes made now = grind (arith, common_steps, nat_tests)
 
-next_below : (sizes : Sizes) (made : Component) (now : Catalog) → 0 < c1_mark sizes → (with_pass_run sizes made now).c1.weight < c1_mark sizes
+next_below : (sizes : Sizes) (made : Component) (now : Catalog) → 0 < c1_mark sizes → (with_pass_run sizes made None now).c1.weight < c1_mark sizes
 next_below sizes made now some = grind (arith, common_steps, nat_tests)
 
 -- the lanes' roles turn
@@ -108,11 +109,11 @@ roles_turned roles are = grind (arith, common_steps, nat_tests)
 -- the deep merge that begins has all of C1' and C2 before it
 next_deep : (sizes : Sizes) (tag : ℕ) (made : Component) (now : Catalog) (deep : Option DeepState) → deep ≡ None
     → (made_by_deep (if is_full sizes made then Some (deep_started tag made now.c2) else deep)).weight + left_for_deep (if is_full sizes made then Some (deep_started tag made now.c2) else deep)
-    ≤ (with_pass_run sizes made now).c1x.weight + (with_pass_run sizes made now).c2.weight
+    ≤ (with_pass_run sizes made None now).c1x.weight + (with_pass_run sizes made None now).c2.weight
 next_deep sizes tag made now deep rests = grind (arith, common_steps, nat_tests)
 
 -- C1 is the run, or nothing
-next_first : (sizes : Sizes) (made : Component) (now : Catalog) → (with_pass_run sizes made now).c1.weight ≤ made.weight
+next_first : (sizes : Sizes) (made : Component) (now : Catalog) → (with_pass_run sizes made None now).c1.weight ≤ made.weight
 next_first sizes made now = grind (arith, common_steps, nat_tests)
 
 -- a deep merge begins only where the run is as heavy as C1's mark
@@ -218,8 +219,12 @@ module _ {done : Bool} {memory : ℕ} {a : Contents} {runs begun mid new : RunsS
         map_is = x.3.map_is ∙ shows.map_is;
       }
 
-  pub next_catalogue : SwapsPass mid new → new.catalogue ≡ with_pass_run mid.sizes (made_by_pass mid.pass) runs.catalogue
-  next_catalogue swaps = swaps.catalogue ∙ ap (with_pass_run mid.sizes (made_by_pass mid.pass)) same_catalogue
+  -- no deep merge runs, so its commit names nothing
+  pub next_catalogue : SwapsPass mid new → new.catalogue ≡ with_pass_run mid.sizes (made_by_pass mid.pass) None runs.catalogue
+  next_catalogue swaps =
+      swaps.catalogue
+      ∙ ap (λ (d : Option DeepState). with_pass_run mid.sizes (made_by_pass mid.pass) (progress_of mid.catalogue d) mid.catalogue) rests_still
+      ∙ ap (with_pass_run mid.sizes (made_by_pass mid.pass) None) same_catalogue
 
   -- what the pass had before it
   made_light : (made_by_pass mid.pass).weight ≤ left_for_pass begun.pass a.entries
@@ -245,7 +250,7 @@ module _ {done : Bool} {memory : ℕ} {a : Contents} {runs begun mid new : RunsS
       → log' ≡ turned_log log → AreRunning after.is_honest after.bytes new → MaySettle new log' after
   pass_may log' may swaps turns turned running =
       let sizes : new.sizes ≡ runs.sizes = swaps.sizes ∙ same_sizes in
-      let catalogue : new.catalogue ≡ with_pass_run mid.sizes (made_by_pass mid.pass) runs.catalogue = next_catalogue swaps in
+      let catalogue : new.catalogue ≡ with_pass_run mid.sizes (made_by_pass mid.pass) None runs.catalogue = next_catalogue swaps in
       let next : Tree = record may.begun.lanes { catalogue = new.catalogue; lane_a = may.begun.lanes.lane_b; lane_b = [] } in
       record {
         running = running;
@@ -272,12 +277,13 @@ module _ {done : Bool} {memory : ℕ} {a : Contents} {runs begun mid new : RunsS
           high = omega (arith, ap high_mark sizes, ap weight_of_tables turned, may.begun.high);
           full = omega (arith, pass_light log' swaps turned, ap capacity sizes, may.begun.full);
           deep =
-              omega (
+              light_unnamed new (ap (λ (k : Catalog). k.progress) catalogue)
+              (omega (
                 arith,
                 ap (λ (o : Option DeepState). (made_by_deep o).weight + left_for_deep o) swaps.deep,
                 next_deep mid.sizes mid.tags.deep (made_by_pass mid.pass) mid.catalogue mid.deep rests_still,
                 ap (λ (k : Catalog). k.c1x.weight + k.c2.weight) swaps.catalogue,
-              );
+              ));
           reserved_a = omega (arith, ap high_mark sizes, ap (λ (l : LogState). l.a.reserved) turned, may.begun.reserved_b);
           reserved_b = omega (arith, ap high_mark sizes, ap (λ (l : LogState). l.b.reserved) turned, may.begun.reserved_a);
         };

@@ -1,5 +1,5 @@
 -- Steps of settling, one after the other.
-use Rattle.std.proofs.Common.{◌≡◌, ◌∙◌, ℕ, ◌+◌, ◌*◌, ◌≤◌, List, Ok, Err, refl, ap, sym, subst, arith, ⊎_elim}
+use Rattle.std.proofs.Common.{◌≡◌, ◌∙◌, ℕ, ◌+◌, ◌*◌, ◌≤◌, List, ◌⊎◌, Ok, Err, None, refl, ap, sym, subst, arith, inl, inr, ⊎_elim}
 use Rattle.std.proofs.lemmas.Grind.{common_steps}
 use Rattle.std.proofs.lemmas.Bool.Decides.{nat_tests}
 use Rattle.std.specs.Prelude.{IsErrAnd, IsTrue, length}
@@ -16,6 +16,7 @@ use Rattle.blsm_model.specs.Sizes.{Sizes}
 use Rattle.blsm_model.specs.Geometry.{file_length}
 use Rattle.blsm_model.specs.declared.key.Key.{Key}
 use Rattle.blsm_model.specs.declared.row.Value.{Value}
+use Rattle.catalog_swap.specs.declared.catalog.Catalog.{Catalog}
 use Rattle.mem_table.specs.Tables.{Contents}
 use Rattle.page_file.specs.declared.file.Broken.{Broken}
 use Rattle.page_file.specs.declared.file.Broken.TheVariants.{Fault}
@@ -98,6 +99,12 @@ leaves_run n m {old} {mid} {log} {log'} {d = d} {after = after} timed first step
     lighter : m * merge_calls mid.sizes (settling_weight mid log') ≤ m * merge_calls old.sizes (settling_weight old log)
     lighter = mul-le-mul_left m (omega (arith, ap quantum_calls step.sizes, step.light))
 
+-- what was committed last names nothing
+named_then : {one two three : Catalog} → (two ≡ one) ⊎ (two.progress ≡ None) → (three ≡ two) ⊎ (three.progress ≡ None) → (three ≡ one) ⊎ (three.progress ≡ None)
+named_then step (inr none) = inr none
+named_then (inl same) (inl still) = inl (still ∙ same)
+named_then (inr none) (inl still) = inr (ap (λ (k : Catalog). k.progress) still ∙ none)
+
 pub settles_run : {region : Region} {end most : ℕ} {old mid new : RunsState} {log log' log'' : LogState} {before d after : DiskState} → Affects region end most before d → SettlesOn old mid log log' before d
     → SettlesOn mid new log' log'' d after → SettlesOn old new log log'' before after
 settles_run effect step rest = record {
@@ -106,6 +113,7 @@ settles_run effect step rest = record {
   light = omega (arith, step.light, rest.light);
   sizes = rest.sizes ∙ step.sizes;
   calm = rest.calm ∙ step.calm;
+  named = named_then step.named rest.named;
 }
 
 pub told_run : {result : Result ℕ Broken} {old mid new : DiskState} → mid.faults ≡ old.faults → TellsFaultsBy (Err Fault) result mid new
@@ -140,7 +148,7 @@ step_none {runs = runs} {d = d} timed may =
           kept_standing runs.sizes shows.tree pairs d d shows.fits shows.map_is (leaves_only_start d (HoldsTree runs.sizes shows.tree) timed (λ c left. stands.each c left)) stands.reads;
       effect = affects_start d timed;
     })
-    (record { shows = λ pairs honest shows. shows; may = may; light = omega arith; sizes = refl; calm = refl }) (omega arith)
+    (record { shows = λ pairs honest shows. shows; may = may; light = omega arith; sizes = refl; calm = refl; named = inl refl }) (omega arith)
 
 -- a fault of the disk ended it, behind calls that went well
 pub step_faulted : {most : ℕ} {runs runs' : RunsState} {log log' : LogState} {result : Result ℕ Broken} {old new : DiskState} (mid : DiskState)

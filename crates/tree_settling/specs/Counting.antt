@@ -3,10 +3,11 @@ use Rattle.std.specs.Prelude.{ℕ, ◌+◌, ◌-◌, ◌*◌, ◌/◌, ◌≤◌
 use Rattle.blsm_model.specs.Format.{most_weight}
 use Rattle.blsm_model.specs.Geometry.{c1_mark}
 use Rattle.blsm_model.specs.Sizes.{Sizes}
+use Rattle.catalog_swap.specs.declared.catalog.Catalog.{Catalog}
 use Rattle.record_delta.specs.Entries.{entries_weight}
 use Rattle.tree_log.specs.Log.{LogState, listed_in_a, weight_of_tables}
 use Rattle.tree_runs.specs.Runs.{RunsState, left_for_deep}
-use Rattle.tree_settling.specs.Settling.{components_of}
+use Rattle.tree_settling.specs.Settling.{components_of, taken_before}
 
 -- How much one quantum takes at most: all but the last byte of what is asked for may be there already when it takes a group of two records more.
 abbrev pub most_taken : Sizes → ℕ
@@ -37,6 +38,10 @@ where_so applies n = if applies then n else 0
 abbrev pub where_some : ℕ → ℕ → ℕ
 where_some other n = if nat_eq other 0 then 0 else n
 
+-- how much of C1' and C2 there is to take for a deep merge, behind what it had taken before
+abbrev pub untaken : Catalog → ℕ
+untaken catalogue = catalogue.c1x.weight + catalogue.c2.weight - taken_before catalogue.progress
+
 -- A pass with so much before it, and, where that is as heavy as C1's mark, the deep merge that follows, which takes no more than all.
 abbrev pub pass_due : Sizes → (before all : ℕ) → ℕ
 pass_due sizes before all = before + where_so (nat_le (c1_mark sizes) before) all
@@ -52,7 +57,7 @@ most_merges a b = where_some (a + b) 2 + where_some b 2
 -- How much settling takes at most: by the deep merge that runs, if one does, and by the passes.
 abbrev pub settling_due : RunsState → LogState → ℕ
 settling_due runs log =
-    where_so (is_some runs.deep) (runs.catalogue.c1x.weight + runs.catalogue.c2.weight)
+    where_so (is_some runs.deep) (untaken runs.catalogue)
     + passes_due runs.sizes runs.catalogue.c1.weight (listed_in_a log) (entries_weight log.b.entries)
     (components_of runs.catalogue + weight_of_tables log)
 

@@ -1,5 +1,5 @@
 -- What settling a tree takes, keeps and reaches. Weights are in bytes.
-use Rattle.std.specs.Prelude.{◌≡◌, ◌≢◌, ⊤, ℕ, ◌+◌, ◌*◌, ◌/◌, ◌<◌, ◌≤◌, [], List, None, Result, Err, IsOk, IsTrue, OnOk, length}
+use Rattle.std.specs.Prelude.{◌≡◌, ◌≢◌, ◌⊎◌, ⊤, ℕ, ◌+◌, ◌*◌, ◌/◌, ◌<◌, ◌≤◌, [], List, Option, None, Some, Result, Err, IsOk, IsTrue, OnOk, length}
 use Rattle.disk_trait.specs.Disk.{DiskState, TellsFaultsBy}
 use Rattle.disk_trait.specs.Effects.{Affects}
 use Rattle.disk_trait.specs.Moments.{LeavesOnly}
@@ -10,6 +10,7 @@ use Rattle.blsm_model.specs.Lanes.{AreRoles}
 use Rattle.blsm_model.specs.declared.key.Key.{Key}
 use Rattle.blsm_model.specs.declared.row.Value.{Value}
 use Rattle.catalog_swap.specs.declared.catalog.Catalog.{Catalog}
+use Rattle.catalog_swap.specs.declared.catalog.Progress.{Progress}
 use Rattle.page_file.specs.declared.file.Broken.{Broken}
 use Rattle.page_file.specs.declared.file.Broken.TheVariants.{Fault}
 use Rattle.mem_table.specs.Tables.{IsWhole}
@@ -87,9 +88,15 @@ pub record TakesAll (a : Entries) (weight : ℕ) (runs runs' : RunsState) (resul
 
 -- ---- steps of settling
 
--- the run of a deep merge and what is left for it weigh no more than C1' and C2
-abbrev pub IsDeepLight : RunsState → Type 0
-IsDeepLight runs = due_to_deep runs ≤ runs.catalogue.c1x.weight + runs.catalogue.c2.weight
+-- how much of C1' and C2 a deep merge had taken up to the key that is named with its finished pages, and needn't take again
+abbrev pub taken_before : Option Progress → ℕ
+taken_before None = 0
+taken_before (Some progress) = progress.z
+
+-- The run of a deep merge and what is left for it weigh no more than C1' and C2; nor do what it had taken before and what is left.
+pub record IsDeepLight (runs : RunsState) : Type 0 where
+  pub run : due_to_deep runs ≤ runs.catalogue.c1x.weight + runs.catalogue.c2.weight
+  pub rest : taken_before runs.catalogue.progress + left_for_deep runs.deep ≤ runs.catalogue.c1x.weight + runs.catalogue.c2.weight
 
 -- On any disk: components and a log that were read, or are being settled; no pass runs. C1 is below its mark, the tables are within the high mark
 -- and all is within the capacity. The tables are what some lanes replay to, behind which they end; nothing was dropped of them.
@@ -133,12 +140,14 @@ pub record LeavesMaps (most : ℕ) (runs : RunsState) (log : LogState) (old new 
   pub effect : Affects anywhere (file_length runs.sizes) most old new
 
 -- And once it is done: the disk shows the map that it showed, and settling may go on. Components and tables together weigh no more than they did.
+-- What was committed, if anything was, names nothing of a deep merge.
 pub record SettlesOn (runs runs' : RunsState) (log log' : LogState) (old new : DiskState) : Type 0 where
   pub shows : (pairs : List (Key × Value)) → IsTrue old.is_honest → ShowsMap runs log pairs old → ShowsMap runs' log' pairs new
   pub may : MaySettle runs' log' new
   pub light : components_of runs'.catalogue + weight_of_tables log' ≤ components_of runs.catalogue + weight_of_tables log
   pub sizes : runs'.sizes ≡ runs.sizes
   pub calm : new.faults ≡ old.faults
+  pub named : (runs'.catalogue ≡ runs.catalogue) ⊎ (runs'.catalogue.progress ≡ None)
 
 -- What a step of settling tells, which takes so many merges and commits at most: what it leaves, whatever it answers; what it reaches; and that on an
 -- honest disk which shows a map nothing but a fault of the disk keeps it from being done.

@@ -6,5 +6,5 @@ mod laws;
 mod settling;
 mod taking;
 
-pub use laws::an_opening_has_all_before_it;
+pub use laws::an_opening_begins_light;
 pub use settling::{most_quanta, settle};

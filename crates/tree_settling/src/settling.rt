@@ -13,10 +13,11 @@ ghost use Rattle.tree_settling.specs.Counting.{
   quanta_bound,
   settling_due,
   settling_least,
+  untaken,
   where_so,
   where_some,
 };
-ghost use Rattle.tree_settling.specs.Settling.{HasBegun, IsSettled, MaySettle, Settles};
+ghost use Rattle.tree_settling.specs.Settling.{HasBegun, IsSettled, MaySettle, Settles, taken_before};
 
 use crate::taking::{take_deep, take_pass};
 use blsm_model::Geometry;
@@ -32,8 +33,7 @@ fn finish_deep<D: Disk>(disk: &mut D, runs: &mut Runs, log: &LoggedTables) -> Re
     requires may { MaySettle runs.old log.now (D.state disk.old) }
     requires version { runs.old.catalogue.version + 1 < 2 ^ 64 }
     ensures step { Settles 1 runs.old runs.new log.now log.now result (D.state disk.old) (D.state disk.new) }
-    ensures counts { IfOk result (CountsQuanta 1 (left_for_deep runs.old.deep) (runs.old.catalogue.c1x.weight + runs.old.catalogue.c2.weight)
-        runs.old runs.new) }
+    ensures counts { IfOk result (CountsQuanta 1 (left_for_deep runs.old.deep) (untaken runs.old.catalogue) runs.old runs.new) }
     ensures c1 { OnOk result (runs.new.catalogue.c1 ≡ runs.old.catalogue.c1) }
     ensures done { OnOk result (runs.new.deep ≡ None) }
 {
@@ -48,7 +48,7 @@ fn due_deep<D: Disk>(disk: &mut D, runs: &mut Runs, log: &LoggedTables) -> Resul
     requires version { runs.old.catalogue.version + 1 < 2 ^ 64 }
     ensures step { Settles 1 runs.old runs.new log.now log.now result (D.state disk.old) (D.state disk.new) }
     ensures counts { IfOk result (CountsQuanta 1 (left_for_deep runs.old.deep)
-        (where_so (is_some runs.old.deep) (runs.old.catalogue.c1x.weight + runs.old.catalogue.c2.weight)) runs.old runs.new) }
+        (where_so (is_some runs.old.deep) (untaken runs.old.catalogue)) runs.old runs.new) }
     ensures c1 { OnOk result (runs.new.catalogue.c1 ≡ runs.old.catalogue.c1) }
     ensures done { OnOk result (runs.new.deep ≡ None) }
 {
@@ -130,9 +130,9 @@ pub fn settle<D: Disk>(disk: &mut D, runs: &mut Runs, log: &mut LoggedTables) ->
 }
 
 /// The most quanta that settling takes, by what the components and both tables weigh, in bytes: as many as all that its merges may take has whole
-/// quanta, and one more for each of five merges. The deep merge that runs takes C1' and C2; a pass C1 and table A where either table has an entry,
-/// and
-/// another one C1 and both tables where table B has one; and each pass that may be as heavy as C1's mark all that there is, once more.
+/// quanta, and one more for each of five merges. The deep merge that runs takes what is left of C1' and C2 behind what the catalogue says that it had
+/// taken; a pass C1 and table A where either table has an entry, and another one C1 and both tables where table B has one; and each pass that may be
+/// as heavy as C1's mark all that there is, once more.
 pub fn most_quanta(runs: &Runs, log: &LoggedTables) -> u64
     requires begun { HasBegun runs.now log.now }
     requires geometry { IsGeometry runs.now.sizes }
@@ -144,16 +144,21 @@ pub fn most_quanta(runs: &Runs, log: &LoggedTables) -> u64
     let all = now.c1.weight + now.c1x.weight + now.c2.weight + (a + b);
     let passes = due_by_pass(&sizes, a + b, now.c1.weight + a, all)
         + due_by_pass(&sizes, b, now.c1.weight + a + b, all);
-    (due_by_deep(runs, &now) + passes) / sizes.quantum() + 5
+    (due_by_deep(runs, now) + passes) / sizes.quantum() + 5
 }
 
 // How much the deep merge takes that runs, if one does.
 fn due_by_deep(runs: &Runs, now: &Catalog) -> u64
     requires small { now.now.c1x.weight + now.now.c2.weight < 2 ^ 64 }
-    ensures { result ≡ where_so (is_some runs.now.deep) (now.now.c1x.weight + now.now.c2.weight) }
+    requires within { taken_before now.now.progress ≤ now.now.c1x.weight + now.now.c2.weight }
+    ensures { result ≡ where_so (is_some runs.now.deep) (untaken now.now) }
 {
     if runs.in_deep() {
-        now.c1x.weight + now.c2.weight
+        let both = now.c1x.weight + now.c2.weight;
+        match &now.progress {
+            None => both,
+            Some(progress) => both - progress.z,
+        }
     } else {
         0
     }

@@ -5,7 +5,7 @@ use Rattle.record_delta.specs.Entries.{Entries}
 use Rattle.blsm_model.specs.declared.key.Key.{Key}
 use Rattle.page_file.specs.declared.file.Broken.{Broken}
 use Rattle.merge_ends.specs.Output.{IsUpTo}
-use Rattle.output_reading.specs.Output.{settled_up_to, weight_up_to}
+use Rattle.tree_file.specs.Output.{settled_up_to, weight_up_to}
 use Rattle.blsm_model.specs.declared.component.Component.{Component}
 use Rattle.record_delta.specs.Entries.{is_above}
 use Rattle.tree_runs.specs.Runs.{guide_at}
@@ -36,6 +36,7 @@ loop-next-init g c = record {
   once = omega arith;
   none = λ _. refl;
   rooms = rooms_none c.args.role c.args.guides.now;
+  size = λ below. refl;
   noted = λ run may noted. subst (λ (k : Option Key). HasNoted c.args.geo.now (g.D.Disk.state c.args.disk.now).is_honest
       (g.D.Disk.state c.args.disk.now).bytes run c.args.role c.args.output.now c.args.space.now (guide_at c.args.guides.now c.args.role) k)
       (sym c.requires.none) noted;
@@ -224,6 +225,7 @@ loop-next-preserved g c =
       once = omega (arith, inv.once, c.in_ok-next.ensures.once, c.in_ok-meet.ensures.once, ap (λ (s : Inputs). pages_ahead s) c.take.ensures.taken);
       none = λ nothing. absurd (some_taken next (sym nothing ∙ at_is));
       rooms = rooms_then inv.rooms c.meet.ensures.rooms;
+      size = λ below. c.in_ok-meet.ensures.size (omega (arith, below, inv.rooms.many)) ∙ inv.size below;
       noted = λ run may was.
           let now = inv.noted run may was in
           let higher = subst (λ (k : Option Key). is_above k next ≡ true) c.next_group.ensures.at

@@ -1,4 +1,4 @@
-use Rattle.std.proofs.Common.{◌≡◌, ◌+◌, ◌<◌, ◌≤◌, ℕ, List, [], None, Some, IsTrue}
+use Rattle.std.proofs.Common.{◌≡◌, ◌+◌, ◌<◌, ◌≤◌, ℕ, List, length, [], None, Some, IsTrue}
 use Rattle.disk_trait.specs.Reads.{OnlyReads}
 use Rattle.blsm_model.specs.declared.component.Component.{Component}
 use Rattle.blsm_model.specs.Geometry.{file_length}
@@ -9,7 +9,7 @@ use Rattle.merge_ends.specs.Output.{IsUpTo}
 use Rattle.tree_runs.specs.Noting.{KeepsRooms}
 use Rattle.tree_runs.specs.Runs.{guide_at}
 use Rattle.output_reading.specs.Noted.{HasNoted, MayNote}
-use Rattle.output_reading.specs.Output.{settled_up_to, weight_up_to}
+use Rattle.tree_file.specs.Output.{settled_up_to, weight_up_to}
 use Rattle.output_reading.specs.Walk.{AreBehind, AreInputs, HasClaimed, HasMet, HasPassed, left_of, pages_ahead}
 use Rattle.output_reading.proofs.walk.follow.Given as goal
 
@@ -30,6 +30,7 @@ invariant-loop-next g l = record {
       l.fn.output.cursor.pages;
   none : l.inputs.at ≡ None → l.z ≡ 0;
   rooms : KeepsRooms l.role l.fn.guides l.guides;
+  size : l.role < length l.fn.guides → length (guide_at l.guides l.role).filter.bits ≡ length (guide_at l.fn.guides l.role).filter.bits;
   noted : (run : Component) → MayNote run l.role l.fn.output l.fn.guides (left_of l.fn.inputs)
       → HasNoted l.geo (g.D.Disk.state l.fn.disk).is_honest (g.D.Disk.state l.fn.disk).bytes run l.role l.fn.output l.fn.space
       (guide_at l.fn.guides l.role) None

@@ -7,6 +7,7 @@ use Rattle.std.proofs.Common.{
   ◌^◌,
   ℕ,
   Bool,
+  false,
   IsTrue,
   inr,
   List,
@@ -22,6 +23,8 @@ use Rattle.std.proofs.Common.{
   arith,
 }
 use Rattle.std.proofs.lemmas.Bool.{false≢true}
+use Rattle.std.proofs.Math.ListN.{length-replicate}
+use Rattle.bloom_bits.specs.Filter.{rounded}
 use Rattle.blsm_model.specs.declared.key.Key.{Key}
 use Rattle.blsm_model.specs.Components.{no_page}
 use Rattle.blsm_model.specs.Geometry.{file_length, page_count}
@@ -35,9 +38,10 @@ use Rattle.merge_ends.specs.Output.{most_pages}
 use Rattle.tree_runs.specs.Runs.{GuideState, guide_at}
 use Rattle.output_reading.specs.declared.inputs.Inputs.{Inputs}
 use Rattle.output_reading.specs.declared.output.Output.{Output}
-use Rattle.output_reading.specs.declared.resumable.Resumable.{Resumable}
+use Rattle.tree_runs.specs.declared.resumable.Resumable.{Resumable}
 use Rattle.output_reading.specs.Noted.{HasNoted, MayNote}
-use Rattle.output_reading.specs.Output.{IsLight, settled_up_to, weight_up_to}
+use Rattle.tree_file.specs.Output.{settled_up_to, weight_up_to}
+use Rattle.output_reading.specs.Output.{IsLight}
 use Rattle.output_reading.specs.Walk.{AreInputs, HasClaimed, HasMet, HasPassed, TakesUp, TellsOutput, left_of, pages_ahead, unbounded}
 use Rattle.output_reading.proofs.CallsLemmas.{damage_is_calm, handed_on, ok_is_calm, ok_not_err, reads_after, reads_calm, reads_handed, reads_wider, still}
 use Rattle.output_reading.proofs.EndLemmas.{all_is_met, end_told, fault_told, is_walked, stops_told}
@@ -321,6 +325,12 @@ returns-clause-over g c = λ earlier newer older honest role_below takes list on
 
 pub returns-clause-rooms : goal.returns-clause-rooms
 returns-clause-rooms g c = rooms_then c.begin.ensures.rooms c.follow.ensures.rooms
+
+pub returns-clause-size : goal.returns-clause-size
+returns-clause-size g c = λ below.
+    c.in_ok-z.ensures.size (omega (arith, below, c.begin.ensures.rooms.many))
+    ∙ ap (λ (guide : GuideState). length guide.filter.bits) (c.begin.ensures.begun below).0
+    ∙ length-replicate (rounded (c.args.c1x.now.weight + c.args.c2.now.weight)) false
 
 pub returns-clause-reads : goal.returns-clause-reads
 returns-clause-reads g c =

@@ -1,7 +1,7 @@
 use Rattle.std.proofs.Common.{◌≤◌, ap, sym, subst, IsTrue, List, Some, ℕ}
 use Rattle.std.specs.Prelude.{IfErr, IfOk, Result, Ok, Err}
 use Rattle.blsm_model.specs.Geometry.{capacity}
-use Rattle.tree_settling.proofs.LightLemmas.{all_before_it}
+use Rattle.tree_settling.proofs.LightLemmas.{begins_light}
 use Rattle.recover_open.proofs.BeginLemmas.{found_full}
 use Rattle.tree_file.proofs.OneTree.{one_map, one_size}
 use Rattle.tree_reading.specs.Reading.{HoldsFound, IsWhy}
@@ -69,7 +69,7 @@ settle_found-requires-clause-length g c = λ tells.
 pub returns-clause-ready : goal.returns-clause-ready
 returns-clause-ready g c =
     let f = c.in_ok-found.found in
-    ready_as c.settle_found.result _ f.geometry f.catalogue.version c.in_ok-found.ensures.found.2.head.version c.settle_found.ensures.ready
+    ready_as c.settle_found.result _ f.geometry f.catalogue.version c.in_ok-found.ensures.found.head.version c.settle_found.ensures.ready
 
 pub returns-clause-long : goal.returns-clause-long
 returns-clause-long g c =
@@ -92,7 +92,7 @@ stands g c = λ honest.
     let over =
     subst (λ (file : List ℕ). (holds : HoldsFound f file) → IfOk c.settle_found.result (λ begun. StandsEmpty begun.runs begun.log holds.tree (g.D.Disk.state c.settle_found.new.disk)))
     (c.read_synced.ensures.same honest) (λ now. (told g c honest now).stands) in
-    stands_as c.settle_found.result f f.catalogue.version _ _ holds c.in_ok-found.ensures.found.2.head.version c.settle_found.ensures.ready
+    stands_as c.settle_found.result f f.catalogue.version _ _ holds c.in_ok-found.ensures.found.head.version c.settle_found.ensures.ready
     (over holds)
 
 pub returns-clause-stands : goal.returns-clause-stands
@@ -123,7 +123,7 @@ returns-clause-spares g c = λ honest.
 
 -- all that was found is within the capacity
 full : (g : _) (c : goal.After-settle_found g) → weight_found c.in_ok-found.found ≤ capacity c.in_ok-found.found.geometry
-full g c = let found = c.in_ok-found.ensures.found in found_full all_before_it c.in_ok-found.found found.0 found.1 found.2
+full g c = found_full begins_light c.in_ok-found.found _ _ c.in_ok-found.ensures.found
 
 -- what is called from the start on
 called : (g : _) (c : goal.After-settle_found g) → CallsFew (most_opening_calls c.in_ok-found.found.geometry) (g.D.Disk.state c.args.disk.now) (g.D.Disk.state c.settle_found.new.disk)
@@ -136,19 +136,20 @@ returns-clause-takes g c =
     takes_as c.settle_found.result f.geometry f.catalogue.version (g.D.Disk.state c.args.disk.now) (g.D.Disk.state c.settle_found.new.disk)
     (opening_takes f (g.D.Disk.state c.args.disk.now) (g.D.Disk.state c.read_synced.new.disk) (g.D.Disk.state c.settle_found.new.disk)
     c.in_ok-found.ensures.few c.settle_found.ensures.effect.calls
-    (called g c) (full g c) c.in_ok-found.ensures.found.2.head (λ honest. c.in_ok-found.ensures.holds honest))
+    (called g c) (full g c) c.in_ok-found.ensures.found.head (λ honest. c.in_ok-found.ensures.holds honest))
     c.settle_found.ensures.ready
 
 pub returns-clause-counts : goal.returns-clause-counts
 returns-clause-counts g c =
     let f = c.in_ok-found.found in
     counted_as c.settle_found.result f f.catalogue.version (g.D.Disk.state c.args.disk.now) (g.D.Disk.state c.settle_found.new.disk)
-    c.in_ok-found.ensures.found.2.head (λ honest. c.in_ok-found.ensures.holds honest) c.settle_found.ensures.counts c.settle_found.ensures.ready
+    c.in_ok-found.ensures.found.head (λ honest. c.in_ok-found.ensures.holds honest) c.settle_found.ensures.counts c.settle_found.ensures.ready
     (stands g c)
 
 pub returns-clause-effect : goal.returns-clause-effect
 returns-clause-effect g c =
-    stays_on c.in_ok-found.found.geometry _ (g.met.D.Disk.timed c.read_synced.new.disk) (c.in_ok-found.ensures.faults.stands (λ wrong. absurd cc)) c.in_ok-found.ensures.was_long c.in_ok-found.ensures.found.2.head.geometry (called g c)
+    stays_on c.in_ok-found.found.geometry _ (g.met.D.Disk.timed c.read_synced.new.disk) (c.in_ok-found.ensures.faults.stands (λ wrong. absurd cc))
+    c.in_ok-found.ensures.was_long c.in_ok-found.ensures.found.head.geometry (called g c)
     c.read_synced.ensures.effect c.settle_found.ensures.effect
 
 pub returns-clause-faults : goal.returns-clause-faults

@@ -1,8 +1,9 @@
-use Rattle.std.proofs.Common.{◌∙◌, ◌++◌, ℕ, List, [], IsTrue, true, false, sym, subst, refl, arith}
+use Rattle.std.proofs.Common.{◌∙◌, ◌++◌, ℕ, List, [], IsTrue, None, true, false, sym, subst, refl, arith}
 use Rattle.blsm_model.specs.Geometry.{page_count}
 use Rattle.page_file.specs.Component.{numbers_of}
-use Rattle.tree_runs.proofs.ClaimLemmas.{taken_are_read}
+use Rattle.tree_runs.proofs.ClaimLemmas.{taken_are_read, takes_none as claims_none}
 use Rattle.tree_reading.specs.Damage.{in_c1, in_c1x, in_c2}
+use Rattle.tree_reading.specs.Reading.{unnamed}
 use Rattle.tree_reading.specs.Walk.{IsWalked}
 use Rattle.tree_reading.proofs.ComponentsLemmas.{damaged_in, empty_without_pages, none_in_second, none_in_third, tagged_of, taken_as, taken_from, tells_run, walked_in}
 use Rattle.tree_reading.proofs.CallsLemmas.{reads_as, reads_then, still, still_then}
@@ -82,10 +83,13 @@ returns-in_err-walk-3-clause-reads g c =
 pub returns-clause-tags : goal.returns-clause-tags
 returns-clause-tags g c =
     let sizes = c.args.head.now.geometry in
-    taken_are_read sizes c.args.head.now.catalogue c.walk.new.space c.walk-2.new.space c.walk-3.new.space c.requires.right.geometry c.in_ok-walk.ensures.filled
+    let third = taken_as c.new-3.result 2 _ _ _ c.new-3.ensures c.in_ok-walk-3.ensures.taken in
+    taken_are_read sizes (unnamed c.args.head.now.catalogue) c.walk.new.space c.walk-2.new.space c.walk-3.new.space c.walk-3.new.space
+    c.requires.right.geometry c.in_ok-walk.ensures.filled
     c.in_ok-walk-2.ensures.filled c.in_ok-walk-3.ensures.filled
     (taken_from (page_count sizes) 0 _ c.args.space.now c.walk.new.space c.requires.unused (taken_as c.new.result 0 _ _ _ c.new.ensures c.in_ok-walk.ensures.taken))
-    (taken_as c.new-2.result 1 _ _ _ c.new-2.ensures c.in_ok-walk-2.ensures.taken) (taken_as c.new-3.result 2 _ _ _ c.new-3.ensures c.in_ok-walk-3.ensures.taken)
+    (taken_as c.new-2.result 1 _ _ _ c.new-2.ensures c.in_ok-walk-2.ensures.taken) third
+    (claims_none 4 None c.walk-3.new.space third.shape refl)
 
 pub returns-clause-tells : goal.returns-clause-tells
 returns-clause-tells g c = λ honest.

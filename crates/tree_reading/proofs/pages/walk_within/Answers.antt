@@ -11,12 +11,14 @@ use Rattle.page_file.specs.File.{Reads}
 use Rattle.run_cursor.specs.Cursor.{CursorState, IsDamageAt}
 use Rattle.run_cursor.specs.Given.{HasGiven, HasGivenMore}
 use Rattle.page_space.specs.Space.{SpaceState}
-use Rattle.tree_reading.specs.Walk.{ChangesOnly, TakesUp, TellsStop}
+use Rattle.output_reading.specs.Walk.{TakesUp}
+use Rattle.tree_reading.specs.Walk.{ChangesOnly, TellsStop}
 use Rattle.tree_reading.proofs.CallsLemmas.{not_a_fault, reads_after, reads_as, reads_calm, still_then}
 use Rattle.tree_reading.proofs.FaultLemmas.{handed_on, same_error}
 use Rattle.tree_reading.proofs.WalkLemmas.{ArePagesTaken, IsClaiming, IsFilling, allowed_join, ended_pages, filled_end, filling_on, filling_start, taken_all, entered_err, few_calls, no_head, not_fault, tells_broken, walked_start, taken_on, claiming_start, claiming_on, changed_within, changed_entered, refused_damage, damage_at, not_allowed, some_pages, walked_end}
 use Rattle.tree_runs.specs.Runs.{guide_at}
-use Rattle.tree_reading.proofs.NoteLemmas.{ends_there, noted_end, noted_on, noted_start, rooms_none, rooms_then}
+use Rattle.output_reading.proofs.NotedLemmas.{rooms_none, rooms_then}
+use Rattle.tree_reading.proofs.NoteLemmas.{ends_there, noted_end, noted_on, noted_start}
 use Rattle.tree_reading.proofs.pages.walk_within.Goals as goal
 use Rattle.tree_reading.proofs.pages.walk_within.Goals.{After-advance, After-head}
 

@@ -3,7 +3,8 @@ use Rattle.disk_trait.specs.Reads.{OnlyReads}
 use Rattle.blsm_model.specs.Components.{no_page}
 use Rattle.blsm_model.specs.Geometry.{file_length, page_count}
 use Rattle.tree_runs.specs.Noting.{KeepsRooms}
-use Rattle.tree_reading.specs.Walk.{IsClear, TakesUp}
+use Rattle.output_reading.specs.Walk.{TakesUp}
+use Rattle.tree_reading.specs.Walk.{IsClear}
 use Rattle.tree_reading.proofs.NoteLemmas.{HasNoted}
 use Rattle.tree_reading.proofs.WalkLemmas.{HasWalked, IsClaiming, IsFilling}
 use Rattle.tree_reading.proofs.pages.walk_within.Given as goal

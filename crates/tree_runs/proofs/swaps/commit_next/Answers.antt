@@ -43,7 +43,7 @@ returns-clause-becomes g c = λ tree after honest was is may stands reads.
     let still : IsTrue mid.is_honest = subst IsTrue (sym c.prepare.ensures.effect.goes_on.is_honest) honest in
     let half = stands.reads.store.geometry.half.0 in
     becomes_behind stays.each
-    (committed sizes tree after may (subst (λ (k : Catalog). Commits sizes k c.commit.result mid new) (sym is) commits) still (g.met.D.Disk.timed c.commit.new.disk)
+    (committed sizes tree after (may c.commit.ensures.key) (subst (λ (k : Catalog). Commits sizes k c.commit.result mid new) (sym is) commits) still (g.met.D.Disk.timed c.commit.new.disk)
     (stays.stands (ap is_ok c.in_ok-prepare.was))
     (subst (λ (k : Catalog). IsPrepared sizes k mid) (sym was) (c.in_ok-prepare.ensures.prepared honest))
     (reads_next_prepared sizes tree.catalogue after (omega (arith, half)) (roles_of stands.reads) of_tree.effect honest reads))

@@ -2,7 +2,7 @@ use Rattle.std.proofs.Common.{◌≢◌, ◌∙◌, ◌+◌, ap, sym, arith}
 use Rattle.std.specs.Prelude.{is_some}
 use Rattle.blsm_model.specs.declared.component.Component.{Component}
 use Rattle.tree_log.specs.Log.{listed_in_a, weight_of_tables}
-use Rattle.tree_settling.specs.Counting.{pass_due}
+use Rattle.tree_settling.specs.Counting.{pass_due, untaken}
 use Rattle.tree_settling.specs.Settling.{components_of}
 use Rattle.tree_settling.proofs.CountLemmas.{
   capacity_small,
@@ -54,7 +54,7 @@ overflow_add-quanta g c =
       arith,
       counted_within c.in_ok-pass.ensures.counts,
       counted_within c.in_ok-deep.ensures.counts,
-      where_less (is_some mid.deep) (mid.catalogue.c1x.weight + mid.catalogue.c2.weight),
+      where_less (is_some mid.deep) (untaken mid.catalogue),
       c.in_ok-pass.ensures.step.on.light,
       may.begun.full,
       capacity_small c.args.runs.now.sizes may.running.in_order.geometry,
@@ -72,7 +72,7 @@ returns-clause-counts g c =
     let all = components_of runs.catalogue + tables in
     let before = runs.catalogue.c1.weight + listed_in_a c.args.log.now in
     let there : tables ≢ 0 = not_so c.is_empty.result c.if-is_empty.false c.is_empty.ensures in
-    let due = deep_behind runs.sizes (is_some mid.deep) before (mid.catalogue.c1x.weight + mid.catalogue.c2.weight) all done.passed.deep
+    let due = deep_behind runs.sizes (is_some mid.deep) before (untaken mid.catalogue) all done.passed.deep
     (omega (arith, done.step.on.light)) in
     counts_wider (where_there tables 2 there) (omega (arith, where_less_some tables before))
     (omega (arith, due, where_there tables (pass_due runs.sizes before all) there))

@@ -1,5 +1,5 @@
 use Rattle.std.specs.Prelude.{is_ok}
-use Rattle.std.proofs.Common.{◌∙◌, refl, ap, arith}
+use Rattle.std.proofs.Common.{◌∙◌, inr, refl, ap, arith}
 use Rattle.catalog_swap.specs.declared.catalog.Catalog.{Catalog}
 use Rattle.tree_runs.specs.Runs.{left_for_deep}
 use Rattle.tree_settling.proofs.DeepLemmas.{IsDeepSwap, deep_leaves, deep_light, deep_may, deep_shows, next_catalogue}
@@ -14,7 +14,7 @@ swap_deep-requires-clause-length g c =
 
 pub returns-in_err-quanta-clause-step : goal.returns-in_err-quanta-clause-step
 returns-in_err-quanta-clause-step g c = step_untaken c.in_err-quanta.was c.from_residual.ensures.1 c.a.ensures refl (λ tree over. over)
-    c.take_deep.ensures.takes (omega (arith, c.requires.may.begun.deep))
+    c.take_deep.ensures.takes (omega (arith, c.requires.may.begun.deep.run))
 
 -- the swap, however it ended
 swap : (g : _) (c : After-swap_deep g) → IsDeepSwap (is_ok c.swap_deep.result) c.a.result.now c.args.runs.now c.take_deep.new.runs c.swap_deep.new.self c.args.log.now
@@ -47,6 +47,7 @@ returns-clause-step g c =
       light = deep_light swap c.requires.may.begun.deep none swaps;
       sizes = swaps.sizes ∙ c.in_ok-quanta.ensures.takes.goes_on.sizes;
       calm = c.in_ok-swap_deep.ensures.faults ∙ c.in_ok-quanta.ensures.takes.goes_on.calm;
+      named = inr (ap (λ (k : Catalog). k.progress) (next_catalogue swap swaps));
     })
     (omega (arith, ap (λ (c : Catalog). c.version) (next_catalogue swap swaps)))
 
@@ -58,7 +59,7 @@ returns-clause-counts g c =
       taken = left_for_deep c.args.runs.now.deep;
       takes = c.in_ok-quanta.ensures.counts;
       all = omega arith;
-      within = omega (arith, light);
+      within = omega (arith, light.rest);
       grows = omega (arith, deep_light swap light c.in_ok-quanta.ensures.done.1 c.in_ok-swap_deep.ensures.swaps);
     }
 

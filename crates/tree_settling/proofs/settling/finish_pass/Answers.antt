@@ -1,5 +1,5 @@
 use Rattle.std.specs.Prelude.{is_ok}
-use Rattle.std.proofs.Common.{◌∙◌, ap, sym, subst, arith}
+use Rattle.std.proofs.Common.{◌∙◌, inr, ap, sym, subst, arith}
 use Rattle.disk_trait.specs.Effects.{Affects}
 use Rattle.blsm_model.specs.Geometry.{file_length}
 use Rattle.catalog_swap.specs.declared.catalog.Catalog.{Catalog}
@@ -92,6 +92,7 @@ returns-clause-step g c =
       light = pass_light swap c.turn.new.self swaps c.turn.ensures.log;
       sizes = swaps.sizes ∙ same_sizes swap;
       calm = c.in_ok-swap_pass.ensures.faults ∙ c.in_ok-quanta.ensures.takes.goes_on.calm;
+      named = inr (ap (λ (k : Catalog). k.progress) (next_catalogue swap swaps));
     })
     (omega (arith, ap (λ (c : Catalog). c.version) (next_catalogue swap swaps)))
 

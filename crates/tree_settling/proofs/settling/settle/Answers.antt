@@ -1,6 +1,7 @@
-use Rattle.std.proofs.Common.{◌+◌, ap, arith}
+use Rattle.std.proofs.Common.{ap, arith}
 use Rattle.std.specs.Prelude.{is_some}
 use Rattle.blsm_model.specs.declared.component.Component.{Component}
+use Rattle.tree_settling.specs.Counting.{untaken}
 use Rattle.tree_settling.proofs.CountLemmas.{capacity_small, counted_within, pass_counted, settling_counts, where_less}
 use Rattle.tree_settling.proofs.EmptyLemmas.{is_settled}
 use Rattle.tree_settling.proofs.StepLemmas.{step_counts, step_failed, step_then}
@@ -44,7 +45,7 @@ overflow_add-quanta g c =
     omega (
       arith,
       counted_within one.counts,
-      where_less (is_some now.deep) (now.catalogue.c1x.weight + now.catalogue.c2.weight),
+      where_less (is_some now.deep) (untaken now.catalogue),
       pass_counted c.due_deep.new.runs c.due_pass.new.runs c.args.log.now two.counts,
       pass_counted c.due_pass.new.runs c.due_pass-2.new.runs c.due_pass.new.log c.in_ok-second.ensures.counts,
       one.step.on.light,

@@ -36,6 +36,6 @@ overflow_add-now g c =
     let now = c.args.self.now.runs.catalogue in
     let next = c.catalogue-now.ensures ∙ c.in_ok-rotate.ensures.rotates.catalogue in
     let live = c.requires.ready.fits.live in
-    let fits = sum_fits c.args.self.now.runs.sizes now.c1.weight now.c2.weight c.catalogue-now.result.c1x.weight c.catalogue-now.result.c2.weight
+    let fits = sum_fits c.args.self.now.runs.sizes now.c1.weight now.c2.weight c.catalogue-now.result.now.c1x.weight c.catalogue-now.result.now.c2.weight
     c.requires.ready.on.running.in_order.geometry (omega (arith, live)) (omega (arith, live)) (ap (λ (n : Catalog). n.c1x.weight) next) (ap (λ (n : Catalog). n.c2.weight) next) in
     omega (arith, fits)

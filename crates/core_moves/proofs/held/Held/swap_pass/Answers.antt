@@ -7,7 +7,7 @@ use Rattle.mem_table.specs.Tables.{Contents}
 use Rattle.catalog_swap.specs.declared.catalog.Catalog.{Catalog}
 use Rattle.tree_file.specs.Tree.{Tree}
 use Rattle.tree_runs.specs.Runs.{made_by_pass}
-use Rattle.tree_runs.specs.Holding.{LeavesSwapped, StandOver, IsPassSwapped, with_pass_run}
+use Rattle.tree_runs.specs.Holding.{LeavesSwapped, StandOver, IsPassSwapped, progress_of, with_pass_run}
 use Rattle.core_moves.specs.Held.{is_run_full}
 use Rattle.core_moves.proofs.AffectLemmas.{stays_long, sum_fits}
 use Rattle.core_moves.proofs.held.Held.swap_pass.Goals as goal
@@ -33,7 +33,7 @@ end_pass-requires g c = λ rotated.
     let fits = c.requires.ready.fits in
     let full : is_run_full held ≡ true = sym c.in_ok-rotated.ensures.rotated ∙ rotated in
     let next = c.catalogue-now.ensures ∙ c.in_ok-rotated.ensures.swaps.catalogue in
-    sum_fits held.runs.sizes made.weight held.runs.catalogue.c2.weight c.catalogue-now.result.c1x.weight c.catalogue-now.result.c2.weight
+    sum_fits held.runs.sizes made.weight held.runs.catalogue.c2.weight c.catalogue-now.result.now.c1x.weight c.catalogue-now.result.now.c2.weight
     c.requires.ready.on.running.in_order.geometry (omega (arith, fits.made)) (omega (arith, fits.live))
     (ap (λ (n : Catalog). n.c1x.weight) next ∙ ap (λ (b : Bool). (cond b made held.runs.catalogue.c1x).weight) full)
     (ap (λ (n : Catalog). n.c2.weight) next)
@@ -52,23 +52,24 @@ returns-clause-swaps g c = record {
   runs = c.in_ok-rotated.ensures.swaps;
   log = c.turn.ensures.log;
   turns = c.turn.ensures.turns;
-  gears = c.end_pass.ensures ∙ ap (λ (b : Bool). cond b (rotated (pass_ended c.args.self.now.gears) (c.catalogue-now.result.c1x.weight + c.catalogue-now.result.c2.weight)) (pass_ended c.args.self.now.gears)) c.in_ok-rotated.ensures.rotated ∙ gears_are (is_run_full c.args.self.now) refl;
+  gears = c.end_pass.ensures ∙ ap (λ (b : Bool). cond b (rotated (pass_ended c.args.self.now.gears) (c.catalogue-now.result.now.c1x.weight + c.catalogue-now.result.now.c2.weight)) (pass_ended c.args.self.now.gears)) c.in_ok-rotated.ensures.rotated ∙ gears_are (is_run_full c.args.self.now) refl;
   spring = c.weight-self.ensures.weight ∙ ap (λ (t : Contents). entries_weight t.entries) c.b.ensures;
   book = c.count_pass.ensures;
 }
   where
-    next : c.catalogue-now.result ≡ with_pass_run c.args.self.now.runs.sizes (made_by_pass c.args.self.now.runs.pass) c.args.self.now.runs.catalogue
+    next : c.catalogue-now.result.now ≡ with_pass_run c.args.self.now.runs.sizes (made_by_pass c.args.self.now.runs.pass)
+        (progress_of c.args.self.now.runs.catalogue c.args.self.now.runs.deep) c.args.self.now.runs.catalogue
     next = c.catalogue-now.ensures ∙ c.in_ok-rotated.ensures.swaps.catalogue
 
     gears_are : (b : Bool) → is_run_full c.args.self.now ≡ b
-        → cond b (rotated (pass_ended c.args.self.now.gears) (c.catalogue-now.result.c1x.weight + c.catalogue-now.result.c2.weight)) (pass_ended c.args.self.now.gears)
+        → cond b (rotated (pass_ended c.args.self.now.gears) (c.catalogue-now.result.now.c1x.weight + c.catalogue-now.result.now.c2.weight)) (pass_ended c.args.self.now.gears)
         ≡ cond b (rotated (pass_ended c.args.self.now.gears) ((made_by_pass c.args.self.now.runs.pass).weight + c.args.self.now.runs.catalogue.c2.weight)) (pass_ended c.args.self.now.gears)
     gears_are false is = refl
     gears_are true is =
-        let c1x : c.catalogue-now.result.c1x.weight ≡ (made_by_pass c.args.self.now.runs.pass).weight =
+        let c1x : c.catalogue-now.result.now.c1x.weight ≡ (made_by_pass c.args.self.now.runs.pass).weight =
         ap (λ (n : Catalog). n.c1x.weight) next ∙ ap (λ (b : Bool). (cond b (made_by_pass c.args.self.now.runs.pass) c.args.self.now.runs.catalogue.c1x).weight) is in
-        let c2 : c.catalogue-now.result.c2.weight ≡ c.args.self.now.runs.catalogue.c2.weight = ap (λ (n : Catalog). n.c2.weight) next in
-        ap (λ (n : ℕ). rotated (pass_ended c.args.self.now.gears) n) (ap (λ (n : ℕ). n + c.catalogue-now.result.c2.weight) c1x ∙ ap (λ (n : ℕ). (made_by_pass c.args.self.now.runs.pass).weight + n) c2)
+        let c2 : c.catalogue-now.result.now.c2.weight ≡ c.args.self.now.runs.catalogue.c2.weight = ap (λ (n : Catalog). n.c2.weight) next in
+        ap (λ (n : ℕ). rotated (pass_ended c.args.self.now.gears) n) (ap (λ (n : ℕ). n + c.catalogue-now.result.now.c2.weight) c1x ∙ ap (λ (n : ℕ). (made_by_pass c.args.self.now.runs.pass).weight + n) c2)
 
 pub returns-clause-on : goal.returns-clause-on
 returns-clause-on g c = record {

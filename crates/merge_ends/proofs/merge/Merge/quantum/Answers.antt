@@ -31,8 +31,8 @@ returns-in-Err-clause-numbers g c =
     let least = c.args.geo.now.quantum in
     let more : (g.D.Disk.state c.step.new.disk).clock ≤ (g.D.Disk.state c.loop-taken.disk).clock + group_calls input = omega (arith, on.works.effect.calls, same_group input (g.N.Newer.run c.loop-taken.newer) inv.same_kind) in
     let few = spent_all input c.loop-taken.taken least (g.D.Disk.state c.args.disk.now).clock (g.D.Disk.state c.loop-taken.disk).clock (g.D.Disk.state c.step.new.disk).clock (omega (arith, inv.quantum)) inv.calls more in
-    subst (λ (s : MergeState). MergesOn c.args.geo.now (quantum_calls input least) (TakesQuantum least) (stage (progress c.args.self.now input (g.N.Newer.table c.args.newer.now)) c.args.space.now c.args.filter.now c.args.fences.now (g.D.Disk.state c.args.disk.now)) (stage (progress (record s { at = c.cursor-at.result; closed = c.closed-closed.result; left = c.left-left.result }) (g.N.Newer.run c.step.new.newer) (g.N.Newer.table c.step.new.newer)) c.step.new.space c.step.new.filter c.step.new.fences (g.D.Disk.state c.step.new.disk)) (Err c.in-Err.broken))
-    (sym c.self.view_is) (merged_failed inv.numbers (g.met.D.Disk.timed c.loop-taken.disk) few _ _ _ on)
+    subst (λ (s : MergeState). MergesOn c.args.geo.now (quantum_calls input least) (TakesQuantum least) (stage (progress c.args.self.now input (g.N.Newer.table c.args.newer.now)) c.args.space.now c.args.filter.now c.args.fences.now (g.D.Disk.state c.args.disk.now)) (stage (progress (record s { at = c.cursor-at.result; closed = c.closed-closed.result; left = c.left-left.result; rest = record { here = s.rest.here; behind = c.self.inside.behind } }) (g.N.Newer.run c.step.new.newer) (g.N.Newer.table c.step.new.newer)) c.step.new.space c.step.new.filter c.step.new.fences (g.D.Disk.state c.step.new.disk)) (Err c.in-Err.broken))
+    (sym c.self-in-loop-taken.view_is) (merged_failed inv.numbers (g.met.D.Disk.timed c.loop-taken.disk) few _ _ _ on)
 
 pub returns-in-Err-clause-lists : goal.returns-in-Err-clause-lists
 returns-in-Err-clause-lists g c = λ overs unders over under honest merging other.

@@ -6,7 +6,7 @@ use Rattle.merge_ends.specs.Input.{IsInput}
 use Rattle.merge_ends.specs.Merge.{MergeState, IsMerging}
 use Rattle.merge_ends.specs.Newer.{IsNewer}
 use Rattle.merge_ends.specs.Output.{HasRun}
-use Rattle.merge_ends.proofs.MergeLemmas.{all_closed}
+use Rattle.merge_ends.proofs.MergeLemmas.{all_closed, no_table}
 use Rattle.merge_ends.proofs.merge.Merge.resume.Goals as goal
 
 pub returns-clause-resumed : goal.returns-clause-resumed
@@ -16,6 +16,7 @@ returns-clause-resumed c = λ i. record {
   at = Some (c.copy.ensures i);
   closed = Some (c.copy-2.ensures i);
   left = c.args.done.now.left;
+  rest = record { here = c.no_component.ensures.empty i; behind = c.no_component-2.ensures.empty i };
 }
 
 pub returns-clause-run : goal.returns-clause-run
@@ -29,7 +30,7 @@ returns-clause-merging c = λ settles sizes file space input table filter fences
     let out = entries_of pages in
     let role : c.args.role ≡ c.resume.result.role = sym (ap (λ (w : WriterState). w.role) c.resume.ensures.resumed) in
     subst (λ (m : MergeState). IsMerging settles sizes file space m input table filter fences overs unders over under)
-    (sym (λ i. record { writer = c.resume.result; older = c.args.older; at = Some (c.copy.ensures i); closed = Some (c.copy-2.ensures i); left = done.left }))
+    (sym (λ i. record { writer = c.resume.result; older = c.args.older; at = Some (c.copy.ensures i); closed = Some (c.copy-2.ensures i); left = done.left; rest = record { here = c.no_component.result; behind = c.no_component-2.result } }))
     (record {
       newer_is = subst (λ (r : ℕ). IsNewer sizes file space r (Some done.key) input table overs over) role newer_is;
       older_is = subst (λ (r : ℕ). IsInput sizes file space r (Some done.key) c.args.older unders under) role older_is;
@@ -39,4 +40,6 @@ returns-clause-merging c = λ settles sizes file space input table filter fences
       closed_up = λ key key_above. key_above;
       closed_is = all_closed c.resume.result c.args.role done.next done.output out c.resume.ensures.resumed has.stand.entries_is ∙ front.up_to_key;
       left_is = λ some. front.left_is;
+      here_is = λ none. absurd (no_table input none front.components);
+      behind_is = λ none. absurd (no_table input none front.components);
     })

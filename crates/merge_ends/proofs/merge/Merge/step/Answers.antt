@@ -1,6 +1,7 @@
 use Rattle.std.specs.Prelude.{IfSome}
 use Rattle.std.proofs.Common.{rules, ◌≡◌, ◌∙◌, ◌+◌, ◌*◌, ◌≤◌, ◌⊎◌, ℕ, IsTrue, Bool, true, List, [], ◌∷◌, ◌++◌, Option, Some, None, Ok, Err, Result, length, refl, ap, sym, subst, inl, inr, arith}
 use Rattle.std.proofs.lemmas.Result.{err_from_is_err_and}
+use Rattle.refusal.specs.Count.{HasRisen}
 use Rattle.disk_trait.proofs.ReadLemmas.{only_reads_same}
 use Rattle.disk_trait.proofs.RegionLemmas.{same_wider}
 use Rattle.blsm_model.specs.declared.component.Component.{Component}
@@ -14,7 +15,8 @@ use Rattle.run_writer.specs.Writer.{WriterState, closed_entries, HasPushed}
 use Rattle.merge_step.specs.Group.{group_at, group_of}
 use Rattle.merge_step.specs.Merged.{IsTaken}
 use Rattle.merge_step.proofs.StepLemmas.{goes_on}
-use Rattle.run_cursor.specs.Cursor.{CursorState, from_head}
+use Rattle.run_cursor.specs.Cursor.{CursorState, from_head, started}
+use Rattle.run_cursor.specs.declared.walk.Walk.{Walk}
 use Rattle.record_delta.specs.Records.{weight}
 use Rattle.merge_ends.specs.Input.{IsInput, left_in}
 use Rattle.merge_ends.specs.Merge.{MergeState, Covers, IsMerging, group_calls, progress}
@@ -26,23 +28,23 @@ use Rattle.merge_ends.proofs.GroupLemmas.{behind_group, end_left, first_none, gr
 use Rattle.merge_ends.proofs.InputLemmas.{input_kept}
 use Rattle.merge_ends.proofs.KeptLemmas.{kept_more, ends_kept}
 use Rattle.merge_ends.proofs.MergeLemmas.{begun_more, begun_read, closed_is_more, closed_up_more, gave_less, group_taken, light_more, still_table}
-use Rattle.merge_ends.proofs.LeftLemmas.{component_few, component_less, components_are, left_behind_is, left_covers, left_small, same_above, same_left}
+use Rattle.merge_ends.proofs.LeftLemmas.{component_few, component_less, components_are, left_behind_is, left_covers, left_small, part_covers, part_told, same_above, same_left}
 use Rattle.merge_ends.proofs.NewerLemmas.{behind_both, counts_read, counts_written, group_is, newer_behind, newer_damage, newer_end, newer_first, newer_further, newer_kept, newer_less, newer_sorted, older_damage, ready_behind}
 use Rattle.merge_ends.proofs.OutputLemmas.{rising_more, turned_behind}
 use Rattle.merge_ends.proofs.ProgressLemmas.{takes_nothing, takes_group, told_ok, told_err, fault_is, not_both, calm_of, damage_is}
 use Rattle.merge_ends.proofs.WorkLemmas.{works_read, works_run, works_written, works_more, pushed_read, room_less, run_read}
 use Rattle.merge_ends.proofs.merge.Merge.step.Goals as goal
-use Rattle.merge_ends.proofs.merge.Merge.step.Goals.{In-Some, After-go_above-2, After-put}
+use Rattle.merge_ends.proofs.merge.Merge.step.Goals.{In-Some, After-walk_above, After-put}
 
 -- what the two inputs' reads did
-reads_two : (g : _) (c : After-go_above-2 g) → Grows c.args.geo.now (newer_calls (g.N.Newer.run c.args.newer.now) + 1) c.args.space.now c.args.space.now c.self.inside.writer c.self.inside.writer (g.D.Disk.state c.args.disk.now) (g.D.Disk.state c.go_above-2.new.disk)
+reads_two : (g : _) (c : After-walk_above g) → Grows c.args.geo.now (newer_calls (g.N.Newer.run c.args.newer.now) + 1) c.args.space.now c.args.space.now c.self.inside.writer c.self.inside.writer (g.D.Disk.state c.args.disk.now) (g.D.Disk.state c.walk_above.new.disk)
 reads_two g c =
     let calls = newer_calls (g.N.Newer.run c.args.newer.now) in
     let writer = c.self.inside.writer in
-    works_run c.args.geo.now calls 1 c.args.space.now c.args.space.now c.args.space.now writer writer writer (g.D.Disk.state c.args.disk.now) (g.D.Disk.state c.go_above.new.disk) (g.D.Disk.state c.go_above-2.new.disk)
+    works_run c.args.geo.now calls 1 c.args.space.now c.args.space.now c.args.space.now writer writer writer (g.D.Disk.state c.args.disk.now) (g.D.Disk.state c.go_above.new.disk) (g.D.Disk.state c.walk_above.new.disk)
     (g.met.D.Disk.timed c.go_above.new.disk) (c.go_above.ensures.reads.stands (calm_of c.go_above.result c.in_ok-go_above.was)) refl
     (works_read c.args.geo.now calls calls c.args.space.now writer (g.D.Disk.state c.args.disk.now) (g.D.Disk.state c.go_above.new.disk) (omega arith) c.go_above.ensures.reads.effect)
-    (works_read c.args.geo.now 1 1 c.args.space.now writer (g.D.Disk.state c.go_above.new.disk) (g.D.Disk.state c.go_above-2.new.disk) (omega arith) c.go_above-2.ensures.reads.effect)
+    (works_read c.args.geo.now 1 1 c.args.space.now writer (g.D.Disk.state c.go_above.new.disk) (g.D.Disk.state c.walk_above.new.disk) (omega arith) c.walk_above.ensures.reads.effect)
 
 -- ---- an input can't go on
 
@@ -62,43 +64,43 @@ returns-in_err-go_above-clause-numbers g c =
     (works_read c.args.geo.now (group_calls input) (newer_calls input) c.args.space.now c.args.self.now.writer (g.D.Disk.state c.args.disk.now) (g.D.Disk.state c.go_above.new.disk) (omega (arith, group_is input)) c.go_above.ensures.reads.effect)
     (λ n is tells. newer_damage c.args.geo.now (g.N.Newer.run c.go_above.new.self) _ n _ (c.go_above.ensures.damaged n (damage_is n c.go_above.result c.from_residual.result c.in_err-go_above.field-0.0 p.0 c.in_err-go_above.was p.1 p.2 is) tells)) (search rules)
 
-pub returns-in_err-go_above-2-clause-lists : goal.returns-in_err-go_above-2-clause-lists
-returns-in_err-go_above-2-clause-lists g c = λ overs unders over under honest merging other.
+pub returns-in_err-walk_above-clause-lists : goal.returns-in_err-walk_above-clause-lists
+returns-in_err-walk_above-clause-lists g c = λ overs unders over under honest merging other.
     let sizes = c.args.geo.now in
     let space = c.args.space.now in
     let role = c.self.inside.writer.role in
-    let p = err_from_is_err_and c.from_residual-in_err-go_above-2.result c.from_residual-in_err-go_above-2.ensures.1 in
+    let p = err_from_is_err_and c.from_residual-in_err-walk_above.result c.from_residual-in_err-walk_above.ensures.1 in
     let old = subst (λ (s : MergeState). IsMerging c.args.settles sizes (g.D.Disk.state c.args.disk.now).bytes space s (g.N.Newer.run c.args.newer.now) (g.N.Newer.table c.args.newer.now) c.args.filter.now c.args.fences.now overs unders over under) (sym c.self.view_is) merging in
     let first = c.go_above.ensures.reads.effect in
-    let below = subst (λ (b : List ℕ). IsInput sizes b space role c.self.inside.at c.self.inside.older unders under) (sym (only_reads_same first honest)) old.older_is in
-    absurd (not_both c.go_above-2.result c.in_err-go_above-2.field-0.0 c.in_err-go_above-2.was
-    (c.go_above-2.ensures.input space role unders under (first.effect.goes_on.is_honest ∙ honest) below
-    (λ fault. other (p.1 ∙ ap Err (p.2 ∙ fault_is c.go_above-2.result c.in_err-go_above-2.field-0.0 c.in_err-go_above-2.was fault)))).0)
+    let below = subst (λ (b : List ℕ). IsInput sizes b space role c.self.inside.at c.self.inside.older.cursor unders under) (sym (only_reads_same first honest)) old.older_is in
+    absurd (not_both c.walk_above.result c.in_err-walk_above.field-0.0 c.in_err-walk_above.was
+    (c.walk_above.ensures.input space role unders under (first.effect.goes_on.is_honest ∙ honest) below
+    (λ fault. other (p.1 ∙ ap Err (p.2 ∙ fault_is c.walk_above.result c.in_err-walk_above.field-0.0 c.in_err-walk_above.was fault)))).0)
 
-pub returns-in_err-go_above-2-clause-numbers : goal.returns-in_err-go_above-2-clause-numbers
-returns-in_err-go_above-2-clause-numbers g c =
+pub returns-in_err-walk_above-clause-numbers : goal.returns-in_err-walk_above-clause-numbers
+returns-in_err-walk_above-clause-numbers g c =
     let input = g.N.Newer.run c.args.newer.now in
-    let result = c.from_residual-in_err-go_above-2.result in
-    let p = err_from_is_err_and result c.from_residual-in_err-go_above-2.ensures.1 in
+    let result = c.from_residual-in_err-walk_above.result in
+    let p = err_from_is_err_and result c.from_residual-in_err-walk_above.ensures.1 in
     told_err p.1
-    (let kept = ap (λ (x : CursorState). x.pages) (c.in_err-go_above-2.ensures.kept refl) in
-    subst (λ (m : MergeState). Counts 1 (pages_ahead (cursors_with input m.older)) (pages_ahead (cursors_with (g.N.Newer.run c.go_above.new.self) c.go_above-2.new.cursor)) m.writer.component.pages c.self.inside.writer.component.pages
-    (g.D.Disk.state c.args.disk.now) (g.D.Disk.state c.go_above-2.new.disk)) c.self.view_is
-    (counts_read input (g.N.Newer.run c.go_above.new.self) c.self.inside.older c.go_above-2.new.cursor c.self.inside.writer.component.pages 1
-    (g.D.Disk.state c.args.disk.now) (g.D.Disk.state c.go_above.new.disk) (g.D.Disk.state c.go_above-2.new.disk)
-    c.in_ok-go_above.ensures.one_a_page c.go_above.ensures.reads.effect.effect.goes_on.clock (omega (arith, kept)) (omega (arith, kept, c.go_above-2.ensures.reads.effect.effect.calls))))
+    (let kept = ap (λ (w : Walk). w.cursor.pages) (c.in_err-walk_above.ensures.kept refl) in
+    subst (λ (m : MergeState). Counts 1 (pages_ahead (cursors_with input m.older)) (pages_ahead (cursors_with (g.N.Newer.run c.go_above.new.self) c.walk_above.new.walk.cursor)) m.writer.component.pages c.self.inside.writer.component.pages
+    (g.D.Disk.state c.args.disk.now) (g.D.Disk.state c.walk_above.new.disk)) c.self.view_is
+    (counts_read input (g.N.Newer.run c.go_above.new.self) c.self.inside.older.cursor c.walk_above.new.walk.cursor c.self.inside.writer.component.pages 1
+    (g.D.Disk.state c.args.disk.now) (g.D.Disk.state c.go_above.new.disk) (g.D.Disk.state c.walk_above.new.disk)
+    c.in_ok-go_above.ensures.one_a_page c.go_above.ensures.reads.effect.effect.goes_on.clock (omega (arith, kept)) (omega (arith, kept, c.walk_above.ensures.reads.effect.effect.calls))))
     (search rules) (search rules)
-    (subst (λ (s : MergeState). Grows c.args.geo.now (group_calls input) c.args.space.now c.args.space.now s.writer c.self.inside.writer (g.D.Disk.state c.args.disk.now) (g.D.Disk.state c.go_above-2.new.disk)) c.self.view_is
-    (works_more c.args.geo.now (newer_calls input + 1) (group_calls input) c.args.space.now c.args.space.now c.self.inside.writer c.self.inside.writer (g.D.Disk.state c.args.disk.now) (g.D.Disk.state c.go_above-2.new.disk) (omega (arith, group_is input))
-    (reads_two g (goal.at.returns-in_err-go_above-2-clause-numbers g c).After-go_above-2)))
+    (subst (λ (s : MergeState). Grows c.args.geo.now (group_calls input) c.args.space.now c.args.space.now s.writer c.self.inside.writer (g.D.Disk.state c.args.disk.now) (g.D.Disk.state c.walk_above.new.disk)) c.self.view_is
+    (works_more c.args.geo.now (newer_calls input + 1) (group_calls input) c.args.space.now c.args.space.now c.self.inside.writer c.self.inside.writer (g.D.Disk.state c.args.disk.now) (g.D.Disk.state c.walk_above.new.disk) (omega (arith, group_is input))
+    (reads_two g (goal.at.returns-in_err-walk_above-clause-numbers g c).After-walk_above)))
     (λ n is tells.
-    older_damage c.args.geo.now (g.N.Newer.run c.go_above.new.self) c.go_above-2.new.cursor n _
-    (inl (c.go_above-2.ensures.damaged n (damage_is n c.go_above-2.result result c.in_err-go_above-2.field-0.0 p.0 c.in_err-go_above-2.was p.1 p.2 is)
+    older_damage c.args.geo.now (g.N.Newer.run c.go_above.new.self) c.walk_above.new.walk.cursor n _
+    (inl (c.walk_above.ensures.damaged n (damage_is n c.walk_above.result result c.in_err-walk_above.field-0.0 p.0 c.in_err-walk_above.was p.1 p.2 is)
     (subst IsTrue (sym c.go_above.ensures.reads.effect.effect.goes_on.tells_bytes) tells)))) (search rules)
 
 -- ---- nothing is left
 
-none_is : (g : _) (c : goal.In_default g) → group_of (first_of (above c.self.inside.at (at_hand (g.N.Newer.run c.go_above.new.self) (g.N.Newer.table c.go_above.new.self)))) c.go_above-2.new.cursor.head ≡ None
+none_is : (g : _) (c : goal.In_default g) → group_of (first_of (above c.self.inside.at (at_hand (g.N.Newer.run c.go_above.new.self) (g.N.Newer.table c.go_above.new.self)))) c.walk_above.new.walk.cursor.head ≡ None
 none_is g c = sym c.group_with-taken.ensures.group ∙ sym (c.in_default.ensures ∙ ap (λ (o : Option (Key × Rec)). group_at c.group_with-taken.result o c.group_with-taken.new.room) c.peek.ensures)
 
 pub returns-in_default-clause-lists : goal.returns-in_default-clause-lists
@@ -110,19 +112,19 @@ returns-in_default-clause-lists g c = λ overs unders over under honest merging 
     let input = g.N.Newer.run c.go_above.new.self in
     let table = g.N.Newer.table c.go_above.new.self in
     let before = (g.D.Disk.state c.args.disk.now).bytes in
-    let new = (g.D.Disk.state c.go_above-2.new.disk).bytes in
+    let new = (g.D.Disk.state c.walk_above.new.disk).bytes in
     let old = subst (λ (s : MergeState). IsMerging c.args.settles sizes before space s (g.N.Newer.run c.args.newer.now) (g.N.Newer.table c.args.newer.now) c.args.filter.now c.args.fences.now overs unders over under) (sym c.self.view_is) merging in
     let first = c.go_above.ensures.reads.effect in
-    let second = c.go_above-2.ensures.reads.effect in
+    let second = c.walk_above.ensures.reads.effect in
     let still = first.effect.goes_on.is_honest ∙ honest in
     let same = only_reads_same second still in
     let upper = (c.go_above.ensures.input space role overs over honest old.newer_is (calm_of c.go_above.result c.in_ok-go_above.was)).1 in
-    let below = subst (λ (b : List ℕ). IsInput sizes b space role at c.self.inside.older unders under) (sym (only_reads_same first honest)) old.older_is in
-    let lower = (c.go_above-2.ensures.input space role unders under still below (calm_of c.go_above-2.result c.in_ok-go_above-2.was)).1 in
+    let below = subst (λ (b : List ℕ). IsInput sizes b space role at c.self.inside.older.cursor unders under) (sym (only_reads_same first honest)) old.older_is in
+    let lower = (c.walk_above.ensures.input space role unders under still below (calm_of c.walk_above.result c.in_ok-walk_above.was)).1 in
     let here = subst (λ (b : List ℕ). IsNewer sizes b space role at input table overs over) (sym same) upper in
-    let parts = group_none (first_of (above at (at_hand input table))) c.go_above-2.new.cursor.head (none_is g c) in
+    let parts = group_none (first_of (above at (at_hand input table))) c.walk_above.new.walk.cursor.head (none_is g c) in
     let over_none : above at over ≡ [] = first_none (above at over) (newer_first sizes new space role at input table overs over c.in_ok-go_above.ensures.ready.0 here ∙ parts.0) in
-    let under_none : above at under ≡ [] = first_none (above at under) (head_is sizes new space role at c.go_above-2.new.cursor under c.in_ok-go_above-2.ensures.ready.0 lower ∙ parts.1) in
+    let under_none : above at under ≡ [] = first_none (above at under) (head_is sizes new space role at c.walk_above.new.walk.cursor under c.in_ok-walk_above.ensures.ready.0 lower ∙ parts.1) in
     let ends : NoneAbove at over under = (over_none, under_none) in
     let at_is = ap (λ (s : MergeState). s.at) c.self.view_is in (
       0,
@@ -140,6 +142,14 @@ returns-in_default-clause-lists g c = λ overs unders over under honest merging 
         closed_up = old.closed_up;
         closed_is = old.closed_is;
         left_is = λ some. old.left_is some ∙ sym (same_above c.self.inside.closed (g.N.Newer.run c.args.newer.now) input over under c.go_above.ensures.same_kind);
+        here_is = λ none.
+            let was = still_table (g.N.Newer.run c.args.newer.now) input c.go_above.ensures.same_kind none in
+            c.in_ok-walk_above.ensures.part space role unders under still below
+            (subst (λ (b : List ℕ). IsInput sizes b space role at (started c.self.inside.older.here) unders under) (sym (only_reads_same first honest)) (old.here_is was));
+        behind_is = λ none.
+            let was = still_table (g.N.Newer.run c.args.newer.now) input c.go_above.ensures.same_kind none in
+            subst (λ (b : List ℕ). IsInput sizes b space role c.self.inside.closed (started c.self.inside.behind) unders under)
+            (sym (same ∙ only_reads_same first honest)) (old.behind_is was);
       },
       newer_sorted sizes new space role at input table overs over c.group_with-taken.ensures.sorted here,
       inr (subst (λ (k : Option Key). NoneAbove k over under) at_is ends, at_is, refl),
@@ -149,41 +159,41 @@ pub returns-in_default-clause-numbers : goal.returns-in_default-clause-numbers
 returns-in_default-clause-numbers g c =
     let input = g.N.Newer.run c.go_above.new.self in
     let table = g.N.Newer.table c.go_above.new.self in
-    let older = c.go_above-2.new.cursor in
+    let older = c.walk_above.new.walk.cursor in
     let at = c.self.inside.at in
     let ready_newer = c.in_ok-go_above.ensures.ready in
-    let ready_older = c.in_ok-go_above-2.ensures.ready in
+    let ready_older = c.in_ok-walk_above.ensures.ready in
     let first = c.go_above.ensures.reads.effect.effect.goes_on in
-    let second = c.go_above-2.ensures.reads.effect.effect.goes_on in
+    let second = c.walk_above.ensures.reads.effect.effect.goes_on in
     let old = subst (λ (s : MergeState). MayGoOn c.args.geo.now (stage (progress s (g.N.Newer.run c.args.newer.now) (g.N.Newer.table c.args.newer.now)) c.args.space.now c.args.filter.now c.args.fences.now (g.D.Disk.state c.args.disk.now))) (sym c.self.view_is) c.requires.runs in
     let parts = group_none (first_of (above at (at_hand input table))) older.head (none_is g c) in
     subst (λ (s : MergeState). MergesOn c.args.geo.now (group_calls (g.N.Newer.run c.args.newer.now)) TakesGroup (stage (progress s (g.N.Newer.run c.args.newer.now) (g.N.Newer.table c.args.newer.now)) c.args.space.now c.args.filter.now c.args.fences.now (g.D.Disk.state c.args.disk.now))
-    (stage (progress (record { writer = c.self.inside.writer; older = older; at = at; closed = c.self.inside.closed; left = c.self.inside.left }) input table) c.args.space.now c.args.filter.now c.args.fences.now (g.D.Disk.state c.go_above-2.new.disk)) (Ok 0)) c.self.view_is
+    (stage (progress (record { writer = c.self.inside.writer; older = older; at = at; closed = c.self.inside.closed; left = c.self.inside.left; rest = record { here = c.walk_above.new.walk.here; behind = c.self.inside.behind } }) input table) c.args.space.now c.args.filter.now c.args.fences.now (g.D.Disk.state c.walk_above.new.disk)) (Ok 0)) c.self.view_is
     (told_ok
     (takes_nothing _ _ _ _ ready_newer.1 ready_older.1 (omega (arith, newer_end at input table ready_newer.0 parts.0, end_left at older ready_older.0 parts.1)))
     (record {
-      running = record { run = run_read c.go_above-2.ensures.reads.effect (run_read c.go_above.ensures.reads.effect old.running.run); behind = behind_both at input older (ready_behind at input ready_newer.0) (inl ready_older.0) };
+      running = record { run = run_read c.walk_above.ensures.reads.effect (run_read c.go_above.ensures.reads.effect old.running.run); behind = behind_both at input older (ready_behind at input ready_newer.0) (inl ready_older.0) };
       fences_fit = omega (arith, ready_newer.1, ready_older.1, old.fences_fit);
       room = room_less c.args.space.now c.self.inside.writer _ _ (omega (arith, ready_newer.1, ready_older.1)) old.room;
     })
     (search rules)
-    (counts_read (g.N.Newer.run c.args.newer.now) input c.self.inside.older older c.self.inside.writer.component.pages 0
-    (g.D.Disk.state c.args.disk.now) (g.D.Disk.state c.go_above.new.disk) (g.D.Disk.state c.go_above-2.new.disk) c.in_ok-go_above.ensures.one_a_page first.clock (omega (arith, c.in_ok-go_above-2.ensures.one_a_page, second.clock)) (omega (arith, c.in_ok-go_above-2.ensures.one_a_page)))
+    (counts_read (g.N.Newer.run c.args.newer.now) input c.self.inside.older.cursor older c.self.inside.writer.component.pages 0
+    (g.D.Disk.state c.args.disk.now) (g.D.Disk.state c.go_above.new.disk) (g.D.Disk.state c.walk_above.new.disk) c.in_ok-go_above.ensures.one_a_page first.clock (omega (arith, c.in_ok-walk_above.ensures.one_a_page, second.clock)) (omega (arith, c.in_ok-walk_above.ensures.one_a_page)))
     (search rules) (search rules)
-    (works_more c.args.geo.now (newer_calls (g.N.Newer.run c.args.newer.now) + 1) (group_calls (g.N.Newer.run c.args.newer.now)) c.args.space.now c.args.space.now c.self.inside.writer c.self.inside.writer (g.D.Disk.state c.args.disk.now) (g.D.Disk.state c.go_above-2.new.disk) (omega (arith, group_is (g.N.Newer.run c.args.newer.now)))
-    (reads_two g (goal.at.returns-in_default-clause-numbers g c).After-go_above-2)) (search rules))
+    (works_more c.args.geo.now (newer_calls (g.N.Newer.run c.args.newer.now) + 1) (group_calls (g.N.Newer.run c.args.newer.now)) c.args.space.now c.args.space.now c.self.inside.writer c.self.inside.writer (g.D.Disk.state c.args.disk.now) (g.D.Disk.state c.walk_above.new.disk) (omega (arith, group_is (g.N.Newer.run c.args.newer.now)))
+    (reads_two g (goal.at.returns-in_default-clause-numbers g c).After-walk_above)) (search rules))
 
 -- ---- a group
 
 -- the merge as its parts have it
-may : (g : _) (c : In-Some g) → MayGoOn c.args.geo.now (stage (progress (record { writer = c.self.inside.writer; older = c.self.inside.older; at = c.self.inside.at; closed = c.self.inside.closed; left = c.self.inside.left }) (g.N.Newer.run c.args.newer.now) (g.N.Newer.table c.args.newer.now)) c.args.space.now c.args.filter.now c.args.fences.now (g.D.Disk.state c.args.disk.now))
+may : (g : _) (c : In-Some g) → MayGoOn c.args.geo.now (stage (progress (record { writer = c.self.inside.writer; older = c.self.inside.older.cursor; at = c.self.inside.at; closed = c.self.inside.closed; left = c.self.inside.left; rest = record { here = c.self.inside.older.here; behind = c.self.inside.behind } }) (g.N.Newer.run c.args.newer.now) (g.N.Newer.table c.args.newer.now)) c.args.space.now c.args.filter.now c.args.fences.now (g.D.Disk.state c.args.disk.now))
 may g c = subst (λ (s : MergeState). MayGoOn c.args.geo.now (stage (progress s (g.N.Newer.run c.args.newer.now) (g.N.Newer.table c.args.newer.now)) c.args.space.now c.args.filter.now c.args.fences.now (g.D.Disk.state c.args.disk.now))) (sym c.self.view_is) c.requires.runs
 
 -- where the group lies
-lies : (g : _) (c : In-Some g) → Some (c.in-Some.key.now, c.in-Some.rec.now, c.in-Some.weight) ≡ group_at c.group_with-taken.result c.go_above-2.new.cursor.head c.group_with-taken.new.room
+lies : (g : _) (c : In-Some g) → Some (c.in-Some.key.now, c.in-Some.rec.now, c.in-Some.weight) ≡ group_at c.group_with-taken.result c.walk_above.new.walk.cursor.head c.group_with-taken.new.room
 lies g c = c.in-Some.ensures ∙ ap (λ (o : Option (Key × Rec)). group_at c.group_with-taken.result o c.group_with-taken.new.room) c.peek.ensures
 
-group : (g : _) (c : In-Some g) → group_of (first_of (above c.self.inside.at (at_hand (g.N.Newer.run c.go_above.new.self) (g.N.Newer.table c.go_above.new.self)))) c.go_above-2.new.cursor.head ≡ Some (c.in-Some.key.now, c.in-Some.rec.now, c.in-Some.weight)
+group : (g : _) (c : In-Some g) → group_of (first_of (above c.self.inside.at (at_hand (g.N.Newer.run c.go_above.new.self) (g.N.Newer.table c.go_above.new.self)))) c.walk_above.new.walk.cursor.head ≡ Some (c.in-Some.key.now, c.in-Some.rec.now, c.in-Some.weight)
 group g c = sym c.group_with-taken.ensures.group ∙ sym (lies g c)
 
 -- what it weighs
@@ -200,29 +210,29 @@ weighs_more g c =
     (sym (lies g c)) c.group_with-taken.ensures.grows
 
 -- what was counted when it was found
-counted : (g : _) (c : In-Some g) → Counts 0 (pages_ahead (cursors_with (g.N.Newer.run c.args.newer.now) c.self.inside.older)) (pages_ahead (cursors_with (g.N.Newer.run c.go_above.new.self) c.go_above-2.new.cursor))
-    c.self.inside.writer.component.pages c.self.inside.writer.component.pages (g.D.Disk.state c.args.disk.now) (g.D.Disk.state c.go_above-2.new.disk)
+counted : (g : _) (c : In-Some g) → Counts 0 (pages_ahead (cursors_with (g.N.Newer.run c.args.newer.now) c.self.inside.older.cursor)) (pages_ahead (cursors_with (g.N.Newer.run c.go_above.new.self) c.walk_above.new.walk.cursor))
+    c.self.inside.writer.component.pages c.self.inside.writer.component.pages (g.D.Disk.state c.args.disk.now) (g.D.Disk.state c.walk_above.new.disk)
 counted g c =
-    let second = c.in_ok-go_above-2.ensures.one_a_page in
-    let later = c.go_above-2.ensures.reads.effect.effect.goes_on.clock in
-    counts_read (g.N.Newer.run c.args.newer.now) (g.N.Newer.run c.go_above.new.self) c.self.inside.older c.go_above-2.new.cursor c.self.inside.writer.component.pages 0
-    (g.D.Disk.state c.args.disk.now) (g.D.Disk.state c.go_above.new.disk) (g.D.Disk.state c.go_above-2.new.disk)
+    let second = c.in_ok-walk_above.ensures.one_a_page in
+    let later = c.walk_above.ensures.reads.effect.effect.goes_on.clock in
+    counts_read (g.N.Newer.run c.args.newer.now) (g.N.Newer.run c.go_above.new.self) c.self.inside.older.cursor c.walk_above.new.walk.cursor c.self.inside.writer.component.pages 0
+    (g.D.Disk.state c.args.disk.now) (g.D.Disk.state c.go_above.new.disk) (g.D.Disk.state c.walk_above.new.disk)
     c.in_ok-go_above.ensures.one_a_page c.go_above.ensures.reads.effect.effect.goes_on.clock (omega (arith, second, later)) (omega (arith, second))
 
-taken : (g : _) (c : In-Some g) → IsTaken c.self.inside.at (at_hand (g.N.Newer.run c.go_above.new.self) (g.N.Newer.table c.go_above.new.self)) (from_head c.go_above-2.new.cursor.head []) c.in-Some.key.now c.in-Some.rec.now c.in-Some.weight
+taken : (g : _) (c : In-Some g) → IsTaken c.self.inside.at (at_hand (g.N.Newer.run c.go_above.new.self) (g.N.Newer.table c.go_above.new.self)) (from_head c.walk_above.new.walk.cursor.head []) c.in-Some.key.now c.in-Some.rec.now c.in-Some.weight
 taken g c =
-    group_taken (g.N.Newer.run c.go_above.new.self) (g.N.Newer.table c.go_above.new.self) c.go_above-2.new.cursor c.self.inside.at c.in-Some.key.now c.in-Some.rec.now c.in-Some.weight
-    c.group_with-taken.ensures.sorted c.in_ok-go_above-2.ensures.ready.0 (group g c)
+    group_taken (g.N.Newer.run c.go_above.new.self) (g.N.Newer.table c.go_above.new.self) c.walk_above.new.walk.cursor c.self.inside.at c.in-Some.key.now c.in-Some.rec.now c.in-Some.weight
+    c.group_with-taken.ensures.sorted c.in_ok-walk_above.ensures.ready.0 (group g c)
 
 -- it weighs no more than what is gone of what was left
-light : (g : _) (c : In-Some g) → weight c.in-Some.key.now c.in-Some.rec.now + (newer_left (Some c.in-Some.key.now) (g.N.Newer.run c.go_above.new.self) (g.N.Newer.table c.go_above.new.self) + left_in (Some c.in-Some.key.now) c.go_above-2.new.cursor)
-    ≤ newer_left c.self.inside.at (g.N.Newer.run c.args.newer.now) (g.N.Newer.table c.args.newer.now) + left_in c.self.inside.at c.self.inside.older
+light : (g : _) (c : In-Some g) → weight c.in-Some.key.now c.in-Some.rec.now + (newer_left (Some c.in-Some.key.now) (g.N.Newer.run c.go_above.new.self) (g.N.Newer.table c.go_above.new.self) + left_in (Some c.in-Some.key.now) c.walk_above.new.walk.cursor)
+    ≤ newer_left c.self.inside.at (g.N.Newer.run c.args.newer.now) (g.N.Newer.table c.args.newer.now) + left_in c.self.inside.at c.self.inside.older.cursor
 light g c =
     let t = taken g c in
-    omega (arith, t.taken_is, t.newer_left, t.older_left, newer_less c.self.inside.at c.in-Some.key.now (g.N.Newer.run c.go_above.new.self) (g.N.Newer.table c.go_above.new.self), c.in_ok-go_above.ensures.ready.1, c.in_ok-go_above-2.ensures.ready.1, (weighs_light g c).1)
+    omega (arith, t.taken_is, t.newer_left, t.older_left, newer_less c.self.inside.at c.in-Some.key.now (g.N.Newer.run c.go_above.new.self) (g.N.Newer.table c.go_above.new.self), c.in_ok-go_above.ensures.ready.1, c.in_ok-walk_above.ensures.ready.1, (weighs_light g c).1)
 
-read : (g : _) (c : In-Some g) → HasRun c.args.geo.now (g.D.Disk.state c.go_above-2.new.disk).is_honest (g.D.Disk.state c.go_above-2.new.disk).bytes c.args.space.now c.self.inside.writer c.args.filter.now c.args.fences.now c.self.inside.at
-read g c = run_read c.go_above-2.ensures.reads.effect (run_read c.go_above.ensures.reads.effect (may g c).running.run)
+read : (g : _) (c : In-Some g) → HasRun c.args.geo.now (g.D.Disk.state c.walk_above.new.disk).is_honest (g.D.Disk.state c.walk_above.new.disk).bytes c.args.space.now c.self.inside.writer c.args.filter.now c.args.fences.now c.self.inside.at
+read g c = run_read c.walk_above.ensures.reads.effect (run_read c.go_above.ensures.reads.effect (may g c).running.run)
 
 rises : (g : _) (c : In-Some g) (any : Rec) → AreRising ((read g c).out ++ (c.in-Some.key.now, any) ∷ [])
 rises g c any =
@@ -244,29 +254,36 @@ left_behind-self-inside-requires g c =
     let arm = (goal.at.left_behind-self-inside-requires g c).In-Some in
     let at = c.self.inside.at in
     left_small c.args.space.now c.self.inside.writer _ _ (may g arm).room c.component-pages.ensures.counted (omega (arith, c.requires.pages, c.pages-pages.ensures.pages, c.pages-pages.ensures.bound))
-    (omega (arith, component_few at (g.N.Newer.run c.go_above.new.self) (g.N.Newer.table c.go_above.new.self), c.in_ok-go_above.ensures.ready.1, c.in_ok-go_above-2.ensures.ready.1))
+    (omega (arith, component_few at (g.N.Newer.run c.go_above.new.self) (g.N.Newer.table c.go_above.new.self), c.in_ok-go_above.ensures.ready.1, c.in_ok-walk_above.ensures.ready.1))
 
-works : (g : _) (c : After-put g) → Grows c.args.geo.now (newer_calls (g.N.Newer.run c.args.newer.now) + 1) c.args.space.now c.args.space.now c.self.inside.writer c.self.inside.writer (g.D.Disk.state c.args.disk.now) (g.D.Disk.state c.go_above-2.new.disk)
+works : (g : _) (c : After-put g) → Grows c.args.geo.now (newer_calls (g.N.Newer.run c.args.newer.now) + 1) c.args.space.now c.args.space.now c.self.inside.writer c.self.inside.writer (g.D.Disk.state c.args.disk.now) (g.D.Disk.state c.walk_above.new.disk)
     → Grows c.args.geo.now (group_calls (g.N.Newer.run c.args.newer.now)) c.args.space.now c.put.new.space c.self.inside.writer c.put.new.writer (g.D.Disk.state c.args.disk.now) (g.D.Disk.state c.put.new.disk)
 works g c read =
     let calls = newer_calls (g.N.Newer.run c.args.newer.now) + 1 in
     works_more c.args.geo.now (calls + 1) (group_calls (g.N.Newer.run c.args.newer.now)) c.args.space.now c.put.new.space c.self.inside.writer c.put.new.writer (g.D.Disk.state c.args.disk.now) (g.D.Disk.state c.put.new.disk) (omega (arith, group_is (g.N.Newer.run c.args.newer.now)))
-    (works_written c.args.geo.now calls c.args.space.now c.put.new.space c.self.inside.writer c.put.new.writer (g.D.Disk.state c.args.disk.now) (g.D.Disk.state c.go_above-2.new.disk) (g.D.Disk.state c.put.new.disk) c.put.result
-    (g.met.D.Disk.timed c.go_above-2.new.disk)
-    (c.go_above-2.ensures.reads.stands (calm_of c.go_above-2.result c.in_ok-go_above-2.was) ∙ c.go_above.ensures.reads.stands (calm_of c.go_above.result c.in_ok-go_above.was))
+    (works_written c.args.geo.now calls c.args.space.now c.put.new.space c.self.inside.writer c.put.new.writer (g.D.Disk.state c.args.disk.now) (g.D.Disk.state c.walk_above.new.disk) (g.D.Disk.state c.put.new.disk) c.put.result
+    (g.met.D.Disk.timed c.walk_above.new.disk)
+    (c.walk_above.ensures.reads.stands (calm_of c.walk_above.result c.in_ok-walk_above.was) ∙ c.go_above.ensures.reads.stands (calm_of c.go_above.result c.in_ok-go_above.was))
     read c.put.ensures.takes c.put.ensures.tagged c.put.ensures.opens c.put.ensures.writes)
 
 pub returns-in_err-put-clause-numbers : goal.returns-in_err-put-clause-numbers
 returns-in_err-put-clause-numbers g c =
     let arm = (goal.at.returns-in_err-put-clause-numbers g c).In-Some in
     let kept = ap (λ (w : WriterState). w.component.pages) c.in_err-put.ensures.kept in
-    told_err (err_from_is_err_and c.from_residual-in_err-put.result c.from_residual-in_err-put.ensures.1).1
-    (subst (λ (m : MergeState). Counts 1 (pages_ahead (cursors_with (g.N.Newer.run c.args.newer.now) m.older)) (pages_ahead (cursors_with (g.N.Newer.run c.go_above.new.self) c.go_above-2.new.cursor)) m.writer.component.pages c.put.new.writer.component.pages
+    let p = err_from_is_err_and c.from_residual-in_err-put.result c.from_residual-in_err-put.ensures.1 in
+    told_err p.1
+    (subst (λ (m : MergeState). Counts 1 (pages_ahead (cursors_with (g.N.Newer.run c.args.newer.now) m.older)) (pages_ahead (cursors_with (g.N.Newer.run c.go_above.new.self) c.walk_above.new.walk.cursor)) m.writer.component.pages c.put.new.writer.component.pages
     (g.D.Disk.state c.args.disk.now) (g.D.Disk.state c.put.new.disk)) c.self.view_is
-    (counts_written 1 (g.D.Disk.state c.args.disk.now) (g.D.Disk.state c.go_above-2.new.disk) (g.D.Disk.state c.put.new.disk) (counted g arm) (omega (arith, kept)) (omega (arith, kept, c.put.ensures.writes.effect.calls))))
+    (counts_written 1 (g.D.Disk.state c.args.disk.now) (g.D.Disk.state c.walk_above.new.disk) (g.D.Disk.state c.put.new.disk) (counted g arm) (omega (arith, kept)) (omega (arith, kept, c.put.ensures.writes.effect.calls))))
     (search rules) (search rules)
-    (subst (λ (s : MergeState). Grows c.args.geo.now (group_calls (g.N.Newer.run c.args.newer.now)) c.args.space.now c.put.new.space s.writer c.put.new.writer (g.D.Disk.state c.args.disk.now) (g.D.Disk.state c.put.new.disk)) c.self.view_is (works g (goal.at.returns-in_err-put-clause-numbers g c).After-put (reads_two g (goal.at.returns-in_err-put-clause-numbers g c).After-go_above-2)))
-    (search rules) (search rules)
+    (subst (λ (s : MergeState). Grows c.args.geo.now (group_calls (g.N.Newer.run c.args.newer.now)) c.args.space.now c.put.new.space s.writer c.put.new.writer (g.D.Disk.state c.args.disk.now) (g.D.Disk.state c.put.new.disk)) c.self.view_is (works g (goal.at.returns-in_err-put-clause-numbers g c).After-put (reads_two g (goal.at.returns-in_err-put-clause-numbers g c).After-walk_above)))
+    (search rules)
+    (record {
+      stands = λ other. absurd (other (p.1 ∙ ap Err p.2));
+      failed = λ same. subst (λ (n : ℕ). HasRisen n (g.D.Disk.state c.put.new.disk).faults)
+          (c.walk_above.ensures.reads.stands (calm_of c.walk_above.result c.in_ok-walk_above.was) ∙ c.go_above.ensures.reads.stands (calm_of c.go_above.result c.in_ok-go_above.was))
+          (c.in_err-put.ensures.writes.failed refl);
+    })
 
 pub returns-clause-numbers : goal.returns-clause-numbers
 returns-clause-numbers g c =
@@ -274,9 +291,9 @@ returns-clause-numbers g c =
     let at = c.self.inside.at in
     let input = g.N.Newer.run c.go_above.new.self in
     let table = g.N.Newer.table c.go_above.new.self in
-    let older = c.go_above-2.new.cursor in
+    let older = c.walk_above.new.walk.cursor in
     let ready_newer = c.in_ok-go_above.ensures.ready in
-    let ready_older = c.in_ok-go_above-2.ensures.ready in
+    let ready_older = c.in_ok-walk_above.ensures.ready in
     let third = c.put.ensures.writes.effect.goes_on in
     let key = c.in-Some.key.now in
     let rec = c.in-Some.rec.now in
@@ -291,8 +308,8 @@ returns-clause-numbers g c =
       older = older;
       at = Some k;
       closed = c.tell_closed.new.closed;
-      left
-          = c.left_behind-self-inside.result;
+      left = c.left_behind-self-inside.result;
+      rest = record { here = c.walk_above.new.walk.here; behind = c.part_behind-self-inside.result };
     }) input table) c.put.new.space c.put.new.filter c.put.new.fences (g.D.Disk.state c.put.new.disk))
     (Ok c.in-Some.weight)) (sym c.copy.ensures)
     (subst (λ (s : MergeState). MergesOn c.args.geo.now (group_calls (g.N.Newer.run c.args.newer.now)) TakesGroup (stage (progress s (g.N.Newer.run c.args.newer.now) (g.N.Newer.table c.args.newer.now)) c.args.space.now c.args.filter.now c.args.fences.now (g.D.Disk.state c.args.disk.now))
@@ -301,8 +318,8 @@ returns-clause-numbers g c =
       older = older;
       at = Some key;
       closed = c.tell_closed.new.closed;
-      left
-          = c.left_behind-self-inside.result;
+      left = c.left_behind-self-inside.result;
+      rest = record { here = c.walk_above.new.walk.here; behind = c.part_behind-self-inside.result };
     }) input table) c.put.new.space c.put.new.filter c.put.new.fences (g.D.Disk.state c.put.new.disk))
     (Ok c.in-Some.weight)) c.self.view_is
     (told_ok
@@ -322,9 +339,9 @@ returns-clause-numbers g c =
       room = c.in_ok-put.ensures.room _ (room_less c.args.space.now c.self.inside.writer _ _ less old.room);
     })
     c.in_ok-put.ensures.size
-    (counts_written 0 (g.D.Disk.state c.args.disk.now) (g.D.Disk.state c.go_above-2.new.disk) (g.D.Disk.state c.put.new.disk) (counted g arm) (omega (arith, pages, third.clock)) (omega (arith, pages)))
+    (counts_written 0 (g.D.Disk.state c.args.disk.now) (g.D.Disk.state c.walk_above.new.disk) (g.D.Disk.state c.put.new.disk) (counted g arm) (omega (arith, pages, third.clock)) (omega (arith, pages)))
     (search rules) (search rules)
-    (works g (goal.at.returns-clause-numbers g c).After-put (reads_two g (goal.at.returns-clause-numbers g c).After-go_above-2)) (search rules)))
+    (works g (goal.at.returns-clause-numbers g c).After-put (reads_two g (goal.at.returns-clause-numbers g c).After-walk_above)) (search rules)))
 
 pub returns-clause-lists : goal.returns-clause-lists
 returns-clause-lists g c = λ overs unders over under honest merging other.
@@ -333,11 +350,11 @@ returns-clause-lists g c = λ overs unders over under honest merging other.
     let space = c.args.space.now in
     let after_space = c.put.new.space in
     let before = g.D.Disk.state c.args.disk.now in
-    let mid = g.D.Disk.state c.go_above-2.new.disk in
+    let mid = g.D.Disk.state c.walk_above.new.disk in
     let after = g.D.Disk.state c.put.new.disk in
     let input = g.N.Newer.run c.go_above.new.self in
     let table = g.N.Newer.table c.go_above.new.self in
-    let older = c.go_above-2.new.cursor in
+    let older = c.walk_above.new.walk.cursor in
     let writer = c.self.inside.writer in
     let role = writer.role in
     let at = c.self.inside.at in
@@ -346,17 +363,17 @@ returns-clause-lists g c = λ overs unders over under honest merging other.
     let weighs = c.in-Some.weight in
     let settles = c.args.settles in
     let first = c.go_above.ensures.reads.effect in
-    let second = c.go_above-2.ensures.reads.effect in
+    let second = c.walk_above.ensures.reads.effect in
     let still = first.effect.goes_on.is_honest ∙ honest in
     let same = only_reads_same second still in
     let old = subst (λ (s : MergeState). IsMerging settles sizes before.bytes space s (g.N.Newer.run c.args.newer.now) (g.N.Newer.table c.args.newer.now) c.args.filter.now c.args.fences.now overs unders over under) (sym c.self.view_is) merging in
     let upper_mid = (c.go_above.ensures.input space role overs over honest old.newer_is (calm_of c.go_above.result c.in_ok-go_above.was)).1 in
-    let below = subst (λ (b : List ℕ). IsInput sizes b space role at c.self.inside.older unders under) (sym (only_reads_same first honest)) old.older_is in
-    let lower = (c.go_above-2.ensures.input space role unders under still below (calm_of c.go_above-2.result c.in_ok-go_above-2.was)).1 in
+    let below = subst (λ (b : List ℕ). IsInput sizes b space role at c.self.inside.older.cursor unders under) (sym (only_reads_same first honest)) old.older_is in
+    let lower = (c.walk_above.ensures.input space role unders under still below (calm_of c.walk_above.result c.in_ok-walk_above.was)).1 in
     let upper = subst (λ (b : List ℕ). IsNewer sizes b space role at input table overs over) (sym same) upper_mid in
     let both : group_of (first_of (above at over)) (first_of (above at under)) ≡ Some (key, rec, weighs) =
     ap (λ (x : Option (Key × Rec)). group_of x (first_of (above at under))) (newer_first sizes mid.bytes space role at input table overs over c.in_ok-go_above.ensures.ready.0 upper)
-    ∙ ap (group_of (first_of (above at (at_hand input table)))) (head_is sizes mid.bytes space role at older under c.in_ok-go_above-2.ensures.ready.0 lower) ∙ group g arm in
+    ∙ ap (group_of (first_of (above at (at_hand input table)))) (head_is sizes mid.bytes space role at older under c.in_ok-walk_above.ensures.ready.0 lower) ∙ group g arm in
     let sorted = newer_sorted sizes mid.bytes space role at input table overs over c.group_with-taken.ensures.sorted upper in
     let taken = goes_on at over under key rec weighs sorted lower.sorted both in
     let mid_honest : mid.is_honest ≡ true = second.effect.goes_on.is_honest ∙ still in
@@ -374,6 +391,16 @@ returns-clause-lists g c = λ overs unders over under honest merging other.
     turned_behind (component_left at input + left_in at older) c.self.inside.left _ c.component-pages.result.pages c.component.result.pages writer c.put.new.writer c.left_behind-self-inside.ensures
     (ap (λ (k : Component). k.pages) c.component-pages.ensures.component) (ap (λ (k : Component). k.pages) c.component.ensures.component) in
     let next : IsNext at (Some key) over under weighs = (key, rec, both, refl) in
+    let part_is =
+    turned_behind c.walk_above.new.walk.here c.self.inside.behind _ c.component-pages.result.pages c.component.result.pages writer c.put.new.writer c.part_behind-self-inside.ensures
+    (ap (λ (k : Component). k.pages) c.component-pages.ensures.component) (ap (λ (k : Component). k.pages) c.component.ensures.component) in
+    let table_was : input ≡ None → g.N.Newer.run c.args.newer.now ≡ None =
+    λ none. still_table (g.N.Newer.run c.args.newer.now) input c.go_above.ensures.same_kind none in
+    let here_mid : input ≡ None → IsInput sizes mid.bytes space role at (started c.walk_above.new.walk.here) unders under =
+    λ none. c.in_ok-walk_above.ensures.part space role unders under still below
+    (subst (λ (b : List ℕ). IsInput sizes b space role at (started c.self.inside.older.here) unders under) (sym (only_reads_same first honest)) (old.here_is (table_was none))) in
+    let stays : (k : Option Key) (part : Component) → IsInput sizes mid.bytes space role k (started part) unders under → IsInput sizes after.bytes after_space role k (started part) unders under =
+    λ k part there. input_kept sizes mid.bytes after.bytes space after_space role k (started part) unders under change takes there in
     subst (λ (k : Key). (n : ℕ) × (◌≡◌ {A = Result ℕ Broken} (Ok weighs) (Ok n))
     × IsMerging settles sizes after.bytes after_space (record {
       writer = c.put.new.writer;
@@ -382,6 +409,7 @@ returns-clause-lists g c = λ overs unders over under honest merging other.
       closed
           = c.tell_closed.new.closed;
       left = c.left_behind-self-inside.result;
+      rest = record { here = c.walk_above.new.walk.here; behind = c.part_behind-self-inside.result };
     }) input table c.put.new.filter c.put.new.fences overs unders over under
     × AreSorted over × (IsNext c.args.self.now.at (Some k) over under n ⊎ (NoneAbove c.args.self.now.at over under × (Some k ≡ c.args.self.now.at) × (n ≡ 0)))) (sym c.copy.ensures) (
       weighs,
@@ -408,8 +436,19 @@ returns-clause-lists g c = λ overs unders over under honest merging other.
             (λ (k : Option Key). kept settles (folded_over (up_to k over) (up_to k under))) behind (c.in_ok-put.ensures.closed out pushed) old.out_is old.closed_is;
         left_is = left_behind_is (has_turned writer c.put.new.writer) at c.self.inside.closed c.tell_closed.new.closed
             c.left_behind-self-inside.result _ c.self.inside.left (λ (k : Option Key). components_above k input over under) behind
-            left_is (components_are sizes mid.bytes space role at input table overs older over under c.in_ok-go_above.ensures.ready.0 upper c.in_ok-go_above-2.ensures.ready.0 lower)
+            left_is (components_are sizes mid.bytes space role at input table overs older over under c.in_ok-go_above.ensures.ready.0 upper c.in_ok-walk_above.ensures.ready.0 lower)
             (λ some. old.left_is some ∙ sym (same_above c.self.inside.closed (g.N.Newer.run c.args.newer.now) input over under c.go_above.ensures.same_kind));
+        here_is = λ none.
+            subst (λ (r : ℕ). IsInput sizes after.bytes after_space r (Some key) (started c.walk_above.new.walk.here) unders under) (sym c.put.ensures.role)
+            (input_further sizes after.bytes after_space role at key (started c.walk_above.new.walk.here) under taken.above_at (stays at c.walk_above.new.walk.here (here_mid none)));
+        behind_is = λ none.
+            subst (λ (r : ℕ). IsInput sizes after.bytes after_space r c.tell_closed.new.closed (started c.part_behind-self-inside.result) unders under) (sym c.put.ensures.role)
+            (part_told (has_turned writer c.put.new.writer) at c.self.inside.closed c.tell_closed.new.closed c.walk_above.new.walk.here c.self.inside.behind _
+            (λ (k : Option Key) (part : Component). IsInput sizes after.bytes after_space role k (started part) unders under) behind part_is
+            (stays at c.walk_above.new.walk.here (here_mid none))
+            (stays c.self.inside.closed c.self.inside.behind
+            (subst (λ (b : List ℕ). IsInput sizes b space role c.self.inside.closed (started c.self.inside.behind) unders under)
+            (sym (same ∙ only_reads_same first honest)) (old.behind_is (table_was none)))));
       },
       sorted,
       inl (subst (λ (k : Option Key). IsNext k (Some key) over under weighs) (ap (λ (s : MergeState). s.at) c.self.view_is) next),
@@ -430,9 +469,11 @@ returns-in_default-clause-covers g c = λ covers.
           omega (
             arith,
             old.left some,
-            c.in_ok-go_above-2.ensures.ready.1,
+            c.in_ok-walk_above.ensures.ready.1,
             same_left inside.at (g.N.Newer.run c.args.newer.now) (g.N.Newer.run c.go_above.new.self) (g.N.Newer.table c.args.newer.now) (g.N.Newer.table c.go_above.new.self) c.go_above.ensures.same_kind c.in_ok-go_above.ensures.ready.1,
           );
+      here = (c.in_ok-walk_above.ensures.in_part old.here).0;
+      behind = old.behind;
     }
 
 pub returns-clause-covers : goal.returns-clause-covers
@@ -447,18 +488,26 @@ returns-clause-covers g c = λ covers.
     let input = g.N.Newer.run c.go_above.new.self in
     let table = g.N.Newer.table c.go_above.new.self in
     let hand = at_hand input table in
-    let older = c.go_above-2.new.cursor in
+    let older = c.walk_above.new.walk.cursor in
     let old = subst (λ (s : MergeState). Covers c.args.settles s (g.N.Newer.run c.args.newer.now) (g.N.Newer.table c.args.newer.now)) (sym c.self.view_is) covers in
     let behind =
     turned_behind at closed _ c.component-pages.result.pages c.component.result.pages writer c.put.new.writer c.tell_closed.ensures
     (ap (λ (k : Component). k.pages) c.component-pages.ensures.component) (ap (λ (k : Component). k.pages) c.component.ensures.component) in
     let less = gave_less (taken g arm) (weighs_more g arm) in
+    let left_is =
+    turned_behind (component_left at input + left_in at older) c.self.inside.left _ c.component-pages.result.pages c.component.result.pages writer c.put.new.writer c.left_behind-self-inside.ensures
+    (ap (λ (k : Component). k.pages) c.component-pages.ensures.component) (ap (λ (k : Component). k.pages) c.component.ensures.component) in
+    let part_is =
+    turned_behind c.walk_above.new.walk.here c.self.inside.behind _ c.component-pages.result.pages c.component.result.pages writer c.put.new.writer c.part_behind-self-inside.ensures
+    (ap (λ (k : Component). k.pages) c.component-pages.ensures.component) (ap (λ (k : Component). k.pages) c.component.ensures.component) in
+    let walked = c.in_ok-walk_above.ensures.in_part old.here in
     subst (λ (k : Key). Covers c.args.settles (record {
       writer = c.put.new.writer;
       older = older;
       at = Some k;
       closed = c.tell_closed.new.closed;
       left = c.left_behind-self-inside.result;
+      rest = record { here = c.walk_above.new.walk.here; behind = c.part_behind-self-inside.result };
     }) input table) (sym c.copy.ensures)
     (record {
       up = closed_up_more turned at closed c.tell_closed.new.closed key behind (taken g arm).above_at old.up;
@@ -470,14 +519,16 @@ returns-clause-covers g c = λ covers.
           (old.light plain (still_table (g.N.Newer.run c.args.newer.now) input c.go_above.ensures.same_kind none)));
       left = left_covers turned at closed c.tell_closed.new.closed c.left_behind-self-inside.result (component_left at input + left_in at older)
           c.self.inside.left (component_left (Some key) input + left_in (Some key) older)
-          (component_left at (g.N.Newer.run c.args.newer.now) + left_in at c.self.inside.older) behind
-          (turned_behind (component_left at input + left_in at older) c.self.inside.left _ c.component-pages.result.pages c.component.result.pages writer c.put.new.writer c.left_behind-self-inside.ensures
-          (ap (λ (k : Component). k.pages) c.component-pages.ensures.component) (ap (λ (k : Component). k.pages) c.component.ensures.component))
+          (component_left at (g.N.Newer.run c.args.newer.now) + left_in at c.self.inside.older.cursor) behind
+          left_is
           (omega (arith, component_less at key input table (taken g arm).of_newer (taken g arm).newer_left, (taken g arm).older_left))
           (omega (
             arith,
-            c.in_ok-go_above-2.ensures.ready.1,
+            c.in_ok-walk_above.ensures.ready.1,
             same_left at (g.N.Newer.run c.args.newer.now) input (g.N.Newer.table c.args.newer.now) table c.go_above.ensures.same_kind c.in_ok-go_above.ensures.ready.1,
           ))
           old.left;
+      here = walked.0;
+      behind = part_covers turned at closed c.tell_closed.new.closed c.left_behind-self-inside.result (component_left at input + left_in at older)
+          c.self.inside.left c.walk_above.new.walk.here c.self.inside.behind _ behind left_is part_is (omega (arith, walked.0.on_page)) walked.1 old.behind;
     })

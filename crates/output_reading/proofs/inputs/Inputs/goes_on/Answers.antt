@@ -6,7 +6,7 @@ use Rattle.record_delta.specs.Entries.{Entries}
 use Rattle.page_file.specs.declared.file.Broken.{Broken}
 use Rattle.disk_trait.proofs.ReadLemmas.{only_reads_start}
 use Rattle.merge_ends.specs.Output.{IsUpTo}
-use Rattle.output_reading.specs.Output.{settled_fold, settled_up_to}
+use Rattle.tree_file.specs.Output.{settled_fold, settled_up_to}
 use Rattle.output_reading.specs.declared.inputs.Inputs.{Inputs}
 use Rattle.output_reading.specs.Walk.{AreInputs, pages_ahead}
 use Rattle.output_reading.proofs.CallsLemmas.{handed_on, ok_is_calm, ok_not_err, reads_after, reads_calm, reads_handed, same_error, still}

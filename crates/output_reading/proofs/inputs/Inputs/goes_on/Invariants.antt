@@ -3,7 +3,7 @@ use Rattle.disk_trait.specs.Reads.{OnlyReads}
 use Rattle.blsm_model.specs.Geometry.{file_length}
 use Rattle.record_delta.specs.Entries.{Entries}
 use Rattle.merge_ends.specs.Output.{IsUpTo}
-use Rattle.output_reading.specs.Output.{settled_up_to}
+use Rattle.tree_file.specs.Output.{settled_up_to}
 use Rattle.output_reading.specs.Walk.{AreBehind, AreInputs, left_of, pages_ahead}
 use Rattle.output_reading.proofs.inputs.Inputs.goes_on.Given as goal
 

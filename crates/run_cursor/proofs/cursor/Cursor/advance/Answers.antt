@@ -1,6 +1,7 @@
-use Rattle.std.proofs.Common.{◌≡◌, ◌<◌, ◌≤◌, ◌∙◌, [], Err, refl, ap, sym, subst, arith}
+use Rattle.std.proofs.Common.{◌≡◌, ◌+◌, ◌*◌, ◌-◌, ◌<◌, ◌≤◌, ◌∙◌, [], length, Err, refl, ap, sym, subst, arith}
 use Rattle.std.proofs.lemmas.Result.{err_from_is_err_and}
 use Rattle.disk_trait.proofs.ReadLemmas.{only_reads_start}
+use Rattle.blsm_model.specs.Format.{least_full}
 use Rattle.blsm_model.specs.Geometry.{page_count}
 use Rattle.blsm_model.specs.Components.{no_page}
 use Rattle.run_cursor.specs.Cursor.{CursorState, seen, IsStepped}
@@ -9,10 +10,12 @@ use Rattle.blsm_model.specs.declared.key.Key.{Key}
 use Rattle.record_delta.specs.declared.record.Rec.{Rec}
 use Rattle.run_cursor.specs.Given.{HasGiven, HasGivenMore}
 use Rattle.run_cursor.proofs.GivenLemmas.{given_step, given_on, given_end}
-use Rattle.run_cursor.proofs.CursorLemmas.{AheadAmong, stepped_ahead, ended_ahead, ended, through, turned_ahead, not_broken}
+use Rattle.run_cursor.proofs.CursorLemmas.{AheadAmong, left_enough, stepped_ahead, ended_ahead, ended, through, turned_ahead, not_broken}
 use Rattle.run_cursor.proofs.AheadLemmas.{advanced_wider}
-use Rattle.run_cursor.proofs.FullLemmas.{full_step, full_turn, step_some}
+use Rattle.run_cursor.proofs.FullLemmas.{full_step, full_turn, part_stepped, step_falls, step_some}
+use Rattle.page_file.specs.Page.{most_used}
 use Rattle.page_file.specs.Component.{numbers_of}
+use Rattle.page_file.proofs.ComponentLemmas.{weight_is_length}
 use Rattle.run_cursor.proofs.cursor.Cursor.advance.Goals as goal
 
 pub returns-then-self-clause-list : goal.returns-then-self-clause-list
@@ -107,6 +110,48 @@ pub returns-then-self-clause-turns : goal.returns-then-self-clause-turns
 returns-then-self-clause-turns g c = λ none more.
     let s = c.step.ensures.stepped in
     absurd (step_some c.args.self.now c.step.new.self s.0 s.1 none)
+
+pub returns-then-self-clause-part : goal.returns-then-self-clause-part
+returns-then-self-clause-part g c =
+    let s = c.step.ensures.stepped in
+    part_stepped c.args.self.now c.step.new.self s.0 s.1
+
+pub returns-then-self-eq0-clause-part : goal.returns-then-self-eq0-clause-part
+returns-then-self-eq0-clause-part g c =
+    let none : c.args.self.now.pages ≡ 0 = ap (λ (s : CursorState). s.pages) (sym c.self.view_is) ∙ c.if-self-eq0.true in
+    record {
+      enough = λ due some. absurd (omega (arith, none, some));
+      begins = λ due some. absurd (omega (arith, none, some));
+      stays = λ part rests on. subst (λ (s : CursorState). part + length s.behind ≤ s.weight + most_used) (sym c.self.view_is) on;
+    }
+
+pub returns-clause-part : goal.returns-clause-part
+returns-clause-part g c =
+    let f = c.self.inside in
+    let none : c.args.self.now.behind ≡ [] = ap (λ (s : CursorState). s.behind) (sym c.self.view_is) ∙ through f.page f.at f.end c.self.invariant.0 c.if-self.false in
+    let more : 0 < c.args.self.now.pages = subst (λ (s : CursorState). 0 < s.pages) c.self.view_is (omega (arith, c.if-self-eq0.false)) in
+    let t = c.in_ok-turn.ensures.turned in
+    let s = c.step-2.ensures.stepped in
+    let enough : least_full * (c.args.self.now.pages - 1) ≤ c.args.self.now.weight =
+    left_enough c.args.self.now t.0 t.1 t.2.numbers
+    (λ others. omega (
+      arith,
+      c.in_ok-turn.ensures.full (omega (arith, others, ap (λ (w : CursorState). w.pages) t.4)),
+      ap (λ (w : CursorState). length w.behind) t.4,
+      weight_is_length t.1,
+    ))
+    more in
+    record {
+      enough = λ due some. enough;
+      begins = λ due some.
+          omega (
+            arith,
+            c.in_ok-turn.ensures.fits,
+            ap (λ (w : CursorState). w.weight) t.4,
+            step_falls c.turn.new.self c.step-2.new.self s.0 s.1,
+          );
+      stays = λ part rests on. absurd (omega (arith, more, rests none));
+    }
 
 pub returns-clause-full : goal.returns-clause-full
 returns-clause-full g c = λ run full.

@@ -113,6 +113,12 @@ returns-clause-turned g c =
       },
     )
 
+pub returns-clause-fits : goal.returns-clause-fits
+returns-clause-fits g c =
+    let b = (goal.at.returns-clause-fits g c).After-number_of-self-inside in
+    let page = is_page g b in
+    omega (arith, page.2.content.head.fits, ap (λ (s : CursorState). length s.behind) (is_turned g b))
+
 pub returns-clause-full : goal.returns-clause-full
 returns-clause-full g c = λ more.
     let b = (goal.at.returns-clause-full g c).After-number_of-self-inside in

@@ -11,13 +11,14 @@ use Rattle.tree_runs.specs.Runs.{GuideState, RunsState, AreGuides, AreRuns, AreR
 use Rattle.tree_runs.specs.Holding.{AreOf, IsDeepOver, IsPassOver, KeepsOtherGuides}
 use Rattle.tree_runs.proofs.GuideLemmas.{all_guided_still, guides_emptied}
 use Rattle.tree_runs.proofs.KeptMerges.{elsewhere}
+use Rattle.tree_runs.proofs.PinLemmas.{pins_begun}
 use Rattle.tree_runs.proofs.runs.Runs.begin_pass.Goals as goal
 
 abbrev begun_with : RunsState → SnowState → List GuideState → RunsState
 begun_with runs snow guides = record runs { pass = Some snow; guides = guides }
 
 runs_begun : (runs : RunsState) (guides : List GuideState) → runs.pass ≡ None → AreRuns runs → AreGuides runs.sizes runs.tags guides → AreRuns (begun_with runs (started runs.tags.pass runs.catalogue.c1) guides)
-runs_begun runs guides rests are reserved = grind (arith, common_steps, nat_tests)
+runs_begun runs guides rests are reserved = grind (arith, common_steps, nat_tests, pins_begun)
 
 pub begin_snow-requires-clause-room : goal.begin_snow-requires-clause-room
 begin_snow-requires-clause-room c = subst (λ (s : RunsState). IsReserved (run_most s.sizes) (guide_at s.guides s.tags.pass))
@@ -74,4 +75,5 @@ returns-clause-lists c = λ tree a file is.
           (elsewhere runs.space runs.tags.c1 inside.pass tree.c1 are.one_tag (λ same. are.tags.c1_pass (same ∙ tagged)) is.c1)));
       deep = subst (λ (g : GuideState). IsDeepOver runs.sizes file runs.space g runs.deep tree.c1x tree.c2) (sym (others runs.tags.deep (λ is. are.tags.pass_deep (sym is)))) is.deep;
       guided = all_guided_still runs.guides guides runs.tags tree others are.tags.c1_pass are.tags.c1x_pass are.tags.c2_pass is.guided;
+      output = is.output;
     }))

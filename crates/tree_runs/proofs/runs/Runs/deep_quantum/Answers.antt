@@ -13,7 +13,7 @@ use Rattle.tree_runs.specs.Damage.{DeepMeetsDamage}
 use Rattle.tree_runs.specs.Writing.{region_of_deep}
 use Rattle.tree_runs.specs.Holding.{StandOver}
 use Rattle.tree_runs.proofs.GuideLemmas.{WritesGuide, guide_named, pages_within, writes_guide}
-use Rattle.tree_runs.proofs.QuantumLemmas.{DeepQuantum, deep_has_room, deep_light, deepened_is, deep_ran, deep_stands, deep_works, tree_stays, deep_is_run}
+use Rattle.tree_runs.proofs.QuantumLemmas.{DeepQuantum, deep_has_room, deep_light, deepened_is, deep_ran, deep_stands, deep_works, deep_stays}
 use Rattle.tree_runs.proofs.runs.Runs.deep_quantum.Goals as goal
 use Rattle.tree_runs.proofs.runs.Runs.deep_quantum.Goals.{After-pages-pages}
 
@@ -97,7 +97,7 @@ returns-clause-told g c =
     let sizes : c.self.inside.geometry ≡ runs.sizes = search rules in
     let is_new = deepened_is after (guides_after g c) next (returns-clause-others g c) refl refl refl in
     record {
-      stands = λ tree honest stand. tree_stays runs tree a runs.tags.deep (runs.sizes.quantum / 4 + 3) after old new are (deep_is_run runs are) c.pages-pages.ensures.shape works honest timed stand;
+      stands = λ tree honest stand. deep_stays runs tree a (runs.sizes.quantum / 4 + 3) after c.in-Some.deep next.writer old new (deep_is g c) are c.pages-pages.ensures.shape (quantum_is g c).on.works honest timed stand;
       lists = λ tree honest stand other.
           let stands = deep_stands runs after (guides_after g c) (guide_after g c) c.in-Some.deep next
           c.quantum-taken.result old new (deep_is g c) are c.pages-pages.ensures.shape (writes g c) (quantum_is g c) timed tree a honest stand other in

@@ -1,6 +1,7 @@
 use Rattle.std.proofs.Common.{◌≡◌, ◌∙◌, ◌∷◌, [], ℕ, Option, Some, ap, sym, subst}
 use Rattle.std.specs.Prelude.{IfOk}
 use Rattle.std.specs.List.{Contains}
+use Rattle.disk_trait.specs.Effects.{Affects}
 use Rattle.blsm_model.specs.Geometry.{page_count, file_length}
 use Rattle.bloom_bits.specs.Guides.{Guide}
 use Rattle.record_delta.specs.Entries.{folded_over, settled_entries}
@@ -14,6 +15,7 @@ use Rattle.merge_ends.specs.Progress.{IsRunning}
 use Rattle.tree_runs.specs.declared.runs.Merges.{Merges}
 use Rattle.tree_runs.specs.Runs.{RunsState, DeepRuns, DeepHasTag, fences_of_tag, filter_of, guide_at}
 use Rattle.tree_runs.specs.Holding.{AreTagged, IsDeepOver}
+use Rattle.tree_runs.specs.Writing.{open_of_deep}
 use Rattle.tree_runs.proofs.SwapRegions.{end_writes}
 use Rattle.tree_runs.proofs.runs.Runs.finish_deep.Goals as goal
 
@@ -51,3 +53,12 @@ returns-clause-writes g c =
     let here = subst (λ (s : RunsState). IsRunning s.sizes old.is_honest old.bytes now.space c.in-Some.deep.writer c.in-Some.deep.at (c.in-Some.deep.c1x ∷ c.in-Some.deep.c2 ∷ []) (filter_of now now.tags.deep) (fences_of_tag now now.tags.deep)) (sym c.self.view_is) runs in
     subst (λ (s : RunsState). Writes (role_region s.sizes now.space now.tags.deep) (file_length s.sizes) c.finish.result old new) c.self.view_is
     (subst (λ (r : ℕ). Writes (role_region c.self.inside.geometry now.space r) (file_length c.self.inside.geometry) c.finish.result old new) role (end_writes here.run.pushed c.finish.ensures.writes))
+
+pub returns-clause-opens : goal.returns-clause-opens
+returns-clause-opens g c =
+    let now = c.args.self.now in
+    let old = g.D.Disk.state c.args.disk.now in
+    let new = g.D.Disk.state c.finish.new.disk in
+    let is : now.deep ≡ Some c.in-Some.deep = sym (ap (λ (s : RunsState). s.deep) c.self.view_is) ∙ sym (ap (λ (m : Merges). m.deep) c.deref_mut-merges.ensures.value) ∙ c.in-Some.is in
+    subst (λ (s : RunsState). Affects (open_of_deep s.sizes now.deep) (file_length s.sizes) 1 old new) c.self.view_is
+    (subst (λ (d : Option DeepState). Affects (open_of_deep c.self.inside.geometry d) (file_length c.self.inside.geometry) 1 old new) (sym is) c.finish.ensures.writes.effect)

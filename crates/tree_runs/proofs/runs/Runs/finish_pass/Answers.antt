@@ -7,7 +7,7 @@ use Rattle.record_delta.specs.Entries.{folded_over}
 use Rattle.page_space.specs.Space.{HasRole}
 use Rattle.page_file.specs.Component.{HasList, entries_of, numbers_of}
 use Rattle.page_file.specs.File.{Writes}
-use Rattle.run_writer.specs.Writer.{IsInside, role_region}
+use Rattle.run_writer.specs.Writer.{IsInside, open_region, role_region}
 use Rattle.run_writer.proofs.RegionLemmas.{open_inside}
 use Rattle.snow_merge.specs.Pass.{SnowState, IsPass}
 use Rattle.merge_ends.specs.Progress.{IsRunning}
@@ -15,6 +15,8 @@ use Rattle.tree_runs.specs.declared.runs.Merges.{Merges}
 use Rattle.tree_runs.specs.Runs.{RunsState, PassRuns, PassHasTag, fences_of_tag, filter_of, guide_at}
 use Rattle.tree_runs.specs.Holding.{AreTagged, IsPassOver}
 use Rattle.tree_runs.proofs.SwapRegions.{end_writes}
+use Rattle.disk_trait.specs.Effects.{Affects}
+use Rattle.tree_runs.specs.Writing.{open_of_pass}
 use Rattle.tree_runs.proofs.runs.Runs.finish_pass.Goals as goal
 
 pub finish-requires-clause-inside : goal.finish-requires-clause-inside
@@ -51,3 +53,12 @@ returns-clause-writes g c =
     let here = subst (λ (s : RunsState). IsRunning s.sizes old.is_honest old.bytes now.space c.in-Some.snow.writer c.in-Some.snow.at (c.in-Some.snow.c1 ∷ []) (filter_of now now.tags.pass) (fences_of_tag now now.tags.pass)) (sym c.self.view_is) runs in
     subst (λ (s : RunsState). Writes (role_region s.sizes now.space now.tags.pass) (file_length s.sizes) c.finish.result old new) c.self.view_is
     (subst (λ (r : ℕ). Writes (role_region c.self.inside.geometry now.space r) (file_length c.self.inside.geometry) c.finish.result old new) role (end_writes here.run.pushed c.finish.ensures.writes))
+
+pub returns-clause-opens : goal.returns-clause-opens
+returns-clause-opens g c =
+    let now = c.args.self.now in
+    let old = g.D.Disk.state c.args.disk.now in
+    let new = g.D.Disk.state c.finish.new.disk in
+    let is : now.pass ≡ Some c.in-Some.snow = sym (ap (λ (s : RunsState). s.pass) c.self.view_is) ∙ sym (ap (λ (m : Merges). m.pass) c.deref_mut-merges.ensures.value) ∙ c.in-Some.is in
+    subst (λ (o : Option SnowState). Affects (open_of_pass now.sizes o) (file_length now.sizes) 1 old new) (sym is)
+    (subst (λ (s : RunsState). Affects (open_region s.sizes c.in-Some.snow.writer) (file_length s.sizes) 1 old new) c.self.view_is c.finish.ensures.writes.effect)

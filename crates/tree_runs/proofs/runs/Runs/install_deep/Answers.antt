@@ -20,8 +20,8 @@ gone_too c = let e = c.release-2.ensures in record { this = e.this; others = e.o
 pub returns-clause-runs : goal.returns-clause-runs
 returns-clause-runs c =
     let at = goal.at.returns-clause-runs c in
-    let was = subst (λ (s : RunsState). AreRuns s × (c.args.next.now ≡ with_deep_run (made_by_deep s.deep) s.catalogue)) (sym c.self.view_is) (c.requires.runs, c.requires.next) in
-    rw c.deref_mut-merges.ensures.value (runs_for_deep _ c.args.next.now c.release.new.self c.release-2.new.self was.0 (parts_of was.1) (gone at.After-release) (gone_too at.After-release-2))
+    let was = subst (λ (s : RunsState). AreRuns s × (c.args.next ≡ with_deep_run (made_by_deep s.deep) s.catalogue)) (sym c.self.view_is) (c.requires.runs, c.requires.next) in
+    rw c.deref_mut-merges.ensures.value (runs_for_deep _ c.args.next c.release.new.self c.release-2.new.self was.0 (parts_of was.1) (gone at.After-release) (gone_too at.After-release-2))
 
 pub returns-clause-goes_on : goal.returns-clause-goes_on
 returns-clause-goes_on c = λ honest file runs.
@@ -39,7 +39,7 @@ returns-clause-lists c = λ tree run a file holds c1 made guided guided_run over
     let at = goal.at.returns-clause-lists c in
     let first = gone at.After-release in
     let second = gone_too at.After-release-2 in
-    let was = subst (λ (s : RunsState). AreRuns s × HoldsTree s.sizes (with_components c.args.next.now tree.c1 [] run tree) file × AreTagged s.space s.tags.c1 tree.c1 × AreTagged s.space s.tags.deep run
+    let was = subst (λ (s : RunsState). AreRuns s × HoldsTree s.sizes (with_components c.args.next tree.c1 [] run tree) file × AreTagged s.space s.tags.c1 tree.c1 × AreTagged s.space s.tags.deep run
     × IsGuidedBy (guide_at s.guides s.tags.c1) tree.c1 × IsGuidedBy (guide_at s.guides s.tags.deep) run × IsPassOver s.sizes file s.space (guide_at s.guides s.tags.pass) s.pass a tree.c1)
     (sym c.self.view_is) (c.requires.runs, holds, c1, made, guided, guided_run, over) in
     let tags = was.0.tags in
@@ -55,4 +55,5 @@ returns-clause-lists c = λ tree run a file holds c1 made guided guided_run over
       pass = subst (λ (m : Merges). IsPassOver inside.geometry file c.release-2.new.self (guide_at inside.guides.items inside.pass) m.pass a tree.c1) (sym c.deref_mut-merges.ensures.value) still;
       deep = refl;
       guided = record { c1 = was.4; c1x = λ some. absurd (some refl); c2 = was.5 };
+      output = refl;
     }

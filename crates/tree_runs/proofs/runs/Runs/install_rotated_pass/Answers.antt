@@ -2,7 +2,8 @@ use Rattle.std.proofs.Common.{◌≡◌, true, [], Some, None, sym, subst, refl,
 use Rattle.tree_file.specs.Tree.{HoldsTree}
 use Rattle.tree_file.specs.Places.{with_pass}
 use Rattle.tree_runs.specs.Runs.{RunsState, AreRuns, DeepRuns, guide_at, made_by_pass}
-use Rattle.tree_runs.specs.Holding.{AreTagged, IsGuidedBy, with_pass_run, is_full}
+use Rattle.tree_runs.specs.Holding.{AreTagged, IsGuidedBy, progress_of, with_pass_run, is_full}
+use Rattle.tree_runs.proofs.FinishedLemmas.{nothing_finished}
 use Rattle.tree_runs.proofs.GuideLemmas.{guided_still, guides_emptied}
 use Rattle.tree_runs.proofs.ReleasedTags.{Released, has_still}
 use Rattle.tree_runs.proofs.InstallLemmas.{one_tag_still, runs_for_rotated_pass}
@@ -16,17 +17,17 @@ gone c = let e = c.release.ensures in record { this = e.this; others = e.others;
 
 pub returns-clause-runs : goal.returns-clause-runs
 returns-clause-runs c =
-    let was = subst (λ (s : RunsState). AreRuns s × (c.args.next.now ≡ with_pass_run s.sizes (made_by_pass s.pass) s.catalogue) × (is_full s.sizes (made_by_pass s.pass) ≡ true) × (s.deep ≡ None)) (sym c.self.view_is)
+    let was = subst (λ (s : RunsState). AreRuns s × (c.args.next ≡ with_pass_run s.sizes (made_by_pass s.pass) (progress_of s.catalogue s.deep) s.catalogue) × (is_full s.sizes (made_by_pass s.pass) ≡ true) × (s.deep ≡ None)) (sym c.self.view_is)
     (c.requires.runs, c.requires.next, c.requires.heavy, c.requires.rests) in
-    let parts = parts_of_pass c.self.inside.geometry (made_by_pass c.self.inside.merges.value.pass) c.self.inside.catalogue true was.1 was.2 in
+    let parts = parts_of_pass c.self.inside.geometry (made_by_pass c.self.inside.merges.value.pass) (progress_of c.self.inside.catalogue c.self.inside.merges.value.deep) c.self.inside.catalogue true was.1 was.2 in
     let reserved = guides_emptied c.self.inside.deep _ c.begin_deep.ensures.guides was.0.tags.deep_below was.0.guides in
-    rw c.begin_deep.ensures.started (runs_for_rotated_pass _ c.args.next.now c.release.new.self c.begin_deep.new.guides.items was.0 parts was.3 (gone (goal.at.returns-clause-runs c).After-release) reserved)
+    rw c.begin_deep.ensures.started (runs_for_rotated_pass _ c.args.next c.release.new.self c.begin_deep.new.guides.items was.0 parts was.3 (gone (goal.at.returns-clause-runs c).After-release) reserved)
 
 pub returns-clause-lists : goal.returns-clause-lists
 returns-clause-lists c = λ tree run a file holds c2 made guided_c2 guided_run.
     let inside = c.self.inside in
     let after = c.release.new.self in
-    let was = subst (λ (s : RunsState). AreRuns s × HoldsTree s.sizes (with_pass c.args.next.now [] run tree.c2 tree) file × AreTagged s.space s.tags.pass run × AreTagged s.space s.tags.c2 tree.c2
+    let was = subst (λ (s : RunsState). AreRuns s × HoldsTree s.sizes (with_pass c.args.next [] run tree.c2 [] tree) file × AreTagged s.space s.tags.pass run × AreTagged s.space s.tags.c2 tree.c2
     × IsGuidedBy (guide_at s.guides s.tags.pass) run × IsGuidedBy (guide_at s.guides s.tags.c2) tree.c2)
     (sym c.self.view_is) (c.requires.runs, holds, made, c2, guided_run, guided_c2) in
     let tags = was.0.tags in
@@ -48,6 +49,7 @@ returns-clause-lists c = λ tree run a file holds c2 made guided_c2 guided_run.
         c1x = guided_still inside.guides.items c.begin_deep.new.guides.items inside.pass run c.begin_deep.ensures.others tags.pass_deep was.4;
         c2 = guided_still inside.guides.items c.begin_deep.new.guides.items inside.c2 tree.c2 c.begin_deep.ensures.others tags.c2_deep was.5;
       };
+      output = nothing_finished c.release.new.self (Some c.begin_deep.result);
     }
 
 pub returns-clause-goes_on : goal.returns-clause-goes_on

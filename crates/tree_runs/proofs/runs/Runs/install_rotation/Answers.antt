@@ -4,6 +4,7 @@ use Rattle.tree_file.specs.Places.{with_components}
 use Rattle.tree_runs.specs.declared.runs.Merges.{Merges}
 use Rattle.tree_runs.specs.Runs.{RunsState, AreRuns, DeepRuns, guide_at}
 use Rattle.tree_runs.specs.Holding.{AreTagged, IsGuidedBy, IsPassOver, with_rotation}
+use Rattle.tree_runs.proofs.FinishedLemmas.{nothing_finished}
 use Rattle.tree_runs.proofs.GuideLemmas.{guided_still, guides_emptied}
 use Rattle.tree_runs.proofs.InstallLemmas.{runs_for_rotation}
 use Rattle.tree_runs.proofs.CatalogLemmas.{parts_of}
@@ -13,7 +14,7 @@ use Rattle.tree_runs.proofs.runs.Runs.install_rotation.Goals as goal
 pub returns-clause-lists : goal.returns-clause-lists
 returns-clause-lists c = λ tree a file holds c1 c2 guided_c1 guided_c2.
     let inside = c.self.inside in
-    let was = subst (λ (s : RunsState). AreRuns s × HoldsTree s.sizes (with_components c.args.next.now [] tree.c1 tree.c2 tree) file × AreTagged s.space s.tags.c1 tree.c1 × AreTagged s.space s.tags.c2 tree.c2
+    let was = subst (λ (s : RunsState). AreRuns s × HoldsTree s.sizes (with_components c.args.next [] tree.c1 tree.c2 tree) file × AreTagged s.space s.tags.c1 tree.c1 × AreTagged s.space s.tags.c2 tree.c2
     × IsGuidedBy (guide_at s.guides s.tags.c1) tree.c1 × IsGuidedBy (guide_at s.guides s.tags.c2) tree.c2 × (s.pass ≡ None))
     (sym c.self.view_is) (c.requires.runs, holds, c1, c2, guided_c1, guided_c2, c.requires.rests.0) in
     let are = was.0 in
@@ -32,6 +33,7 @@ returns-clause-lists c = λ tree a file holds c1 c2 guided_c1 guided_c2.
         c1x = guided_still inside.guides.items c.begin_deep.new.guides.items inside.c1 tree.c1 c.begin_deep.ensures.others are.tags.c1_deep was.4;
         c2 = guided_still inside.guides.items c.begin_deep.new.guides.items inside.c2 tree.c2 c.begin_deep.ensures.others are.tags.c2_deep was.5;
       };
+      output = nothing_finished inside.space (Some c.begin_deep.result);
     }
 
 pub returns-clause-goes_on : goal.returns-clause-goes_on
@@ -41,6 +43,6 @@ returns-clause-goes_on c = λ honest file.
 
 pub returns-clause-runs : goal.returns-clause-runs
 returns-clause-runs c =
-    let was = subst (λ (s : RunsState). AreRuns s × (c.args.next.now ≡ with_rotation s.catalogue) × (s.deep ≡ None)) (sym c.self.view_is) (c.requires.runs, c.requires.next, c.requires.rests.1) in
+    let was = subst (λ (s : RunsState). AreRuns s × (c.args.next ≡ with_rotation s.catalogue) × (s.deep ≡ None)) (sym c.self.view_is) (c.requires.runs, c.requires.next, c.requires.rests.1) in
     let reserved = guides_emptied c.self.inside.deep _ c.begin_deep.ensures.guides was.0.tags.deep_below was.0.guides in
-    rw (c.begin_deep.ensures.started, c.deref_mut-merges.ensures.value) (runs_for_rotation _ c.args.next.now c.begin_deep.new.guides.items was.0 (parts_of was.1) was.2 reserved)
+    rw (c.begin_deep.ensures.started, c.deref_mut-merges.ensures.value) (runs_for_rotation _ c.args.next c.begin_deep.new.guides.items was.0 (parts_of was.1) was.2 reserved)

@@ -7,13 +7,13 @@ use Rattle.blsm_model.specs.Sizes.{Sizes}
 use Rattle.merge_ends.specs.Quantum.{Works}
 use Rattle.merge_ends.specs.Progress.{MayGoOn, stage}
 use Rattle.snow_merge.specs.Pass.{SnowState, progress_of_pass}
-use Rattle.scan_view.proofs.StayLemmas.{writes_beside}
-use Rattle.tree_runs.specs.Runs.{GuideState, RunsState, AreRunning, PassRuns, guide_at, left_for_pass, run_most}
+use Rattle.tree_runs.proofs.PinLemmas.{grown_beside}
+use Rattle.tree_runs.specs.Runs.{GuideState, RunsState, AreRunning, PassRuns, PinsOfPass, guide_at, left_for_pass, run_most}
 use Rattle.tree_runs.specs.Damage.{PassMeetsDamage}
 use Rattle.tree_runs.specs.Writing.{region_of_pass}
 use Rattle.tree_runs.specs.Holding.{PassTakes, StandOver}
 use Rattle.tree_runs.proofs.GuideLemmas.{WritesGuide, guide_named, pages_within, writes_guide}
-use Rattle.tree_runs.proofs.QuantumLemmas.{PassQuantum, pass_has_room, pass_light, passed_is, pass_ran, pass_stands, pass_works, tree_stays, pass_is_run}
+use Rattle.tree_runs.proofs.QuantumLemmas.{PassQuantum, pass_has_room, pass_light, passed_is, pass_ran, pass_stands, pass_works, pass_stays}
 use Rattle.tree_runs.proofs.runs.Runs.pass_quantum.Goals as goal
 use Rattle.tree_runs.proofs.runs.Runs.pass_quantum.Goals.{After-pages-pages}
 
@@ -103,10 +103,11 @@ returns-clause-told g c =
     let next = c.quantum-taken.new.self in
     let timed = g.met.D.Disk.timed c.quantum-taken.new.disk in
     let works = works_are g c in
+    let grows = (quantum_is g c).on.works in
     let sizes : c.self.inside.geometry ≡ runs.sizes = search rules in
     let is_new = passed_is after (guides_after g c) next (returns-clause-others g c) refl refl refl in
     record {
-      stands = λ tree honest stand. tree_stays runs tree a runs.tags.pass (runs.sizes.quantum / 7 + 2) after old new are (pass_is_run runs are) c.pages-pages.ensures.shape works honest timed stand;
+      stands = λ tree honest stand. pass_stays runs tree a (runs.sizes.quantum / 7 + 2) after old new are c.pages-pages.ensures.shape works honest timed stand;
       lists = λ tree honest stand other.
           let stands = pass_stands runs after (guides_after g c) (guide_after g c) c.in-Some.snow next a
           c.quantum-taken.result old new (pass_is g c) are c.pages-pages.ensures.shape (writes g c) (quantum_is g c) timed tree honest stand other in
@@ -118,6 +119,6 @@ returns-clause-told g c =
       damaged = λ n is tells.
           subst (λ (r : RunsState). PassMeetsDamage r.sizes r.pass n new.bytes) (sym is_new)
           (subst (λ (s : Sizes). PassMeetsDamage s (Some next) n new.bytes) sizes (c.quantum-taken.ensures.numbers.damaged n is tells));
-      effect = affects_wider (writes_beside runs.sizes runs.space after runs.tags.pass works.takes are.pass_unpinned) (omega arith) (omega arith) works.effect;
+      effect = affects_wider (grown_beside runs.sizes runs.space after c.in-Some.snow grows.takes (subst (PinsOfPass runs.space) (pass_is g c) are.open_unpinned)) (omega arith) (omega arith) grows.effect;
       faults = c.quantum-taken.ensures.numbers.faults;
     }

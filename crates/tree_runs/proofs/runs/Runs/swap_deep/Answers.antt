@@ -17,8 +17,7 @@ use Rattle.tree_runs.specs.Holding.{AreTagged, IsGuidedBy, IsPassOver, with_deep
 use Rattle.tree_runs.specs.Holding.{StandOver, commit_region}
 use Rattle.tree_runs.proofs.PinLemmas.{run_beside, swap_beside}
 use Rattle.tree_runs.proofs.KeptMerges.{pass_runs_still, pass_over_still}
-use Rattle.tree_runs.proofs.QuantumLemmas.{deep_is_run}
-use Rattle.tree_runs.proofs.SwapLemmas.{stands_finished, leaves_swapped, leaves_unswapped, swap_effect, swap_keeps, swap_pages}
+use Rattle.tree_runs.proofs.SwapLemmas.{stands_behind_deep, leaves_swapped, leaves_unswapped, swap_effect, swap_keeps, swap_pages}
 use Rattle.tree_runs.proofs.Swapped.{Switches, IsFinished, DeepCommitted, deep_becomes, deep_unswapped}
 use Rattle.tree_runs.proofs.runs.Runs.swap_deep.Goals as goal
 use Rattle.tree_runs.proofs.runs.Runs.swap_deep.Goals.{After-commit_next}
@@ -30,7 +29,7 @@ pub returns-in_err-made-clause-lists : goal.returns-in_err-made-clause-lists
 returns-in_err-made-clause-lists g c = λ tree a honest over.
     let now = c.args.self.now in
     let are = c.requires.running.in_order in
-    let stands = stands_finished now now.tags.deep are (deep_is_run now are) over c.finish_deep.ensures.writes.effect honest (g.met.D.Disk.timed c.finish_deep.new.disk) in
+    let stands = stands_behind_deep now c.requires.running over c.finish_deep.ensures.opens honest (g.met.D.Disk.timed c.finish_deep.new.disk) in
     let p = err_from_is_err_and c.from_residual.result c.from_residual.ensures.1 in
     (_, deep_unswapped tree, leaves_unswapped now c.finish_deep.new.self tree _ stands.0 stands.1 (λ well. false≢true (sym (ap is_ok p.1) ∙ well)))
 
@@ -64,7 +63,7 @@ committed : (g : _) (c : After-commit_next g) (tree : Tree) (a : Entries) → Is
 committed g c tree a honest over =
     let now = c.args.self.now in
     let finished : IsFinished now tree a now.tags.deep (g.D.Disk.state c.args.disk.now) (g.D.Disk.state c.finish_deep.new.disk) =
-    record { end = file_length now.sizes; running = c.requires.running; over = over; few = c.requires.version; effect = c.finish_deep.ensures.writes.effect; honest = honest; timed = g.met.D.Disk.timed c.finish_deep.new.disk } in
+    record { end = file_length now.sizes; running = c.requires.running; over = over; few = c.requires.version; effect = c.finish_deep.ensures.writes.effect; honest = honest; timed = g.met.D.Disk.timed c.finish_deep.new.disk; stands = stands_behind_deep now c.requires.running over c.finish_deep.ensures.opens honest (g.met.D.Disk.timed c.finish_deep.new.disk) } in
     let switches = subst (λ (s : RunsState). Switches s.sizes s.catalogue c.after_deep-next.result c.commit_next.result (g.D.Disk.state c.finish_deep.new.disk) (g.D.Disk.state c.commit_next.new.disk)) (c.self.view_is ∙ c.finish_deep.ensures.same) (record { becomes = c.commit_next.ensures.becomes }) in
     let next_is = subst (λ (s : RunsState). c.after_deep-next.result ≡ with_deep_run c.in_ok-made.made s.catalogue) c.finish_deep.ensures.same c.after_deep-next.ensures.next in
     let list = c.in_ok-made.ensures.list tree.c1x tree.c2 honest over.are_of.deep in

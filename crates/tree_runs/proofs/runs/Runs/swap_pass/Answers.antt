@@ -1,4 +1,4 @@
-use Rattle.std.proofs.Common.{◌≡◌, ◌∙◌, ℕ, Bool, true, false, [], IsTrue, Option, nat_le, ap, sym, subst, refl, arith}
+use Rattle.std.proofs.Common.{◌≡◌, ◌∙◌, ⊎_elim, ℕ, Bool, true, false, [], IsTrue, Option, nat_le, ap, sym, subst, refl, arith}
 use Rattle.std.specs.Prelude.{is_ok}
 use Rattle.std.proofs.lemmas.Result.{err_from_is_err_and}
 use Rattle.std.proofs.lemmas.Bool.{false≢true, le-leb, lt-leb}
@@ -15,12 +15,11 @@ use Rattle.snow_merge.specs.Pass.{SnowState}
 use Rattle.tree_file.specs.Tree.{Tree, HoldsTree}
 use Rattle.tree_file.specs.Places.{with_pass, StandsOn}
 use Rattle.tree_runs.specs.Runs.{RunsState, PassRuns, DeepRuns, guide_at, made_by_pass}
-use Rattle.tree_runs.specs.Holding.{AreTagged, IsDeepOver, IsGuidedBy, with_pass_run, is_full}
+use Rattle.tree_runs.specs.Holding.{AreFinished, AreTagged, IsDeepOver, IsGuidedBy, progress_of, with_pass_run, is_full}
 use Rattle.tree_runs.specs.Holding.{StandOver, commit_region}
-use Rattle.tree_runs.proofs.PinLemmas.{run_beside, swap_beside}
+use Rattle.tree_runs.proofs.PinLemmas.{commit_beside, pass_beside}
 use Rattle.tree_runs.proofs.KeptMerges.{deep_runs_still, deep_over_still}
-use Rattle.tree_runs.proofs.QuantumLemmas.{pass_is_run}
-use Rattle.tree_runs.proofs.SwapLemmas.{stands_finished, leaves_swapped, leaves_unswapped, swap_effect, swap_keeps, swap_pages, one_page, one_page_entries}
+use Rattle.tree_runs.proofs.SwapLemmas.{stands_behind_pass, leaves_swapped, leaves_unswapped, both_effects, swap_effect, swap_keeps, swap_pages, one_page, one_page_entries}
 use Rattle.tree_runs.proofs.Swapped.{Switches, IsFinished, PassCommitted, next_version, pass_becomes, pass_swapped}
 use Rattle.tree_runs.proofs.NextTrees.{pass_tree}
 use Rattle.tree_runs.proofs.runs.Runs.swap_pass.Goals as goal
@@ -34,19 +33,19 @@ returns-in_err-made-clause-lists g c = λ tree honest over.
     let now = c.args.self.now in
     let are = c.requires.running.in_order in
     let a = c.args.a.now.entries in
-    let stands = stands_finished now now.tags.pass are (pass_is_run now are) over c.finish_pass.ensures.writes.effect honest (g.met.D.Disk.timed c.finish_pass.new.disk) in
+    let stands = stands_behind_pass now are over c.finish_pass.ensures.writes.effect honest (g.met.D.Disk.timed c.finish_pass.new.disk) in
     let p = err_from_is_err_and c.from_residual.result c.from_residual.ensures.1 in
     let out = folded_over a (entries_of tree.c1) in
     let full = is_full now.sizes (made_by_pass now.pass) in (
-      pass_tree full (next_version tree.catalogue) (one_page out) tree,
-      pass_swapped full a tree (next_version tree.catalogue) (one_page out) (one_page_entries out) refl,
-      λ table. leaves_unswapped now c.finish_pass.new.self tree (pass_tree full (next_version tree.catalogue) (one_page out) tree) stands.0 stands.1 (λ well. false≢true (sym (ap is_ok p.1) ∙ well)),
+      pass_tree full (next_version tree.catalogue) (one_page out) [] tree,
+      pass_swapped full a tree (next_version tree.catalogue) (one_page out) [] (one_page_entries out) refl,
+      λ table. leaves_unswapped now c.finish_pass.new.self tree (pass_tree full (next_version tree.catalogue) (one_page out) [] tree) stands.0 stands.1 (λ well. false≢true (sym (ap is_ok p.1) ∙ well)),
     )
 
 pub returns-in_err-made-clause-effect : goal.returns-in_err-made-clause-effect
 returns-in_err-made-clause-effect g c =
     let now = c.args.self.now in
-    affects_wider (run_beside now.sizes now.space now.tags.pass c.requires.running.in_order.pass_unpinned) (omega arith) (omega arith) c.finish_pass.ensures.writes.effect
+    affects_wider (pass_beside now c.requires.running) (omega arith) (omega arith) c.finish_pass.ensures.opens
 
 pub returns-in_err-made-clause-faults : goal.returns-in_err-made-clause-faults
 returns-in_err-made-clause-faults g c =
@@ -65,7 +64,10 @@ effect_beside : (g : _) (c : After-commit_next g) → Affects (beside_pins c.arg
 effect_beside g c =
     let now = c.args.self.now in
     let are = c.requires.running.in_order in
-    affects_wider (swap_beside now.sizes now.space now.tags.pass now.catalogue are.geometry c.requires.roles are.pass_unpinned) (omega arith) (omega arith) (effect g c)
+    affects_wider (λ i here. ⊎_elim (pass_beside now c.requires.running i) (commit_beside now.sizes now.space.pins now.catalogue are.geometry c.requires.roles i) here)
+    (omega arith) (omega arith)
+    (both_effects now (g.met.D.Disk.timed c.finish_pass.new.disk) c.in_ok-made.ensures.writes.stands c.finish_pass.ensures.opens
+    (subst (λ (s : RunsState). Affects (commit_region s.sizes s.catalogue) (file_length s.sizes) 8 (g.D.Disk.state c.finish_pass.new.disk) (g.D.Disk.state c.commit_next.new.disk)) (c.self.view_is ∙ c.finish_pass.ensures.same) c.commit_next.ensures.effect))
 
 committed : (g : _) (c : After-commit_next g) (b : Bool) → is_full c.args.self.now.sizes (made_by_pass c.args.self.now.pass) ≡ b → (tree : Tree) → IsTrue (g.D.Disk.state c.args.disk.now).is_honest
     → StandOver c.args.self.now tree c.args.a.now.entries (g.D.Disk.state c.args.disk.now)
@@ -73,11 +75,11 @@ committed : (g : _) (c : After-commit_next g) (b : Bool) → is_full c.args.self
 committed g c b full tree honest over =
     let now = c.args.self.now in
     let finished : IsFinished now tree c.args.a.now.entries now.tags.pass (g.D.Disk.state c.args.disk.now) (g.D.Disk.state c.finish_pass.new.disk) =
-    record { end = file_length now.sizes; running = c.requires.running; over = over; few = c.requires.version; effect = c.finish_pass.ensures.writes.effect; honest = honest; timed = g.met.D.Disk.timed c.finish_pass.new.disk } in
+    record { end = file_length now.sizes; running = c.requires.running; over = over; few = c.requires.version; effect = c.finish_pass.ensures.writes.effect; honest = honest; timed = g.met.D.Disk.timed c.finish_pass.new.disk; stands = stands_behind_pass now c.requires.running.in_order over c.finish_pass.ensures.writes.effect honest (g.met.D.Disk.timed c.finish_pass.new.disk) } in
     let switches = subst (λ (s : RunsState). Switches s.sizes s.catalogue c.after_pass-next.result c.commit_next.result (g.D.Disk.state c.finish_pass.new.disk) (g.D.Disk.state c.commit_next.new.disk)) (c.self.view_is ∙ c.finish_pass.ensures.same) (record { becomes = c.commit_next.ensures.becomes }) in
-    let next_is = subst (λ (s : RunsState). c.after_pass-next.result ≡ with_pass_run s.sizes c.in_ok-made.made s.catalogue) c.finish_pass.ensures.same c.after_pass-next.ensures.next in
+    let next_is = subst (λ (s : RunsState). c.after_pass-next.result ≡ with_pass_run s.sizes c.in_ok-made.made (progress_of s.catalogue s.deep) s.catalogue) c.finish_pass.ensures.same c.after_pass-next.ensures.next in
     let list = c.in_ok-made.ensures.list tree.c1 honest over.are_of.pass in
-    pass_becomes now tree c.in_ok-made.made c.after_pass-next.result b full finished c.in_ok-made.ensures.component list.0 list.1 list.2 next_is switches
+    pass_becomes now tree c.in_ok-made.made c.after_pass-next.result b full (λ heavy. c.requires.way (full ∙ heavy)) c.requires.roles finished c.in_ok-made.ensures.component list.0 list.1 list.2 next_is switches
 
 -- ---- the commit failed
 
@@ -117,7 +119,7 @@ returns-then-rotates-clause-lists g c = λ tree honest over.
     let full = subst (λ (s : RunsState). is_full s.sizes made ≡ true) (c.self.view_is ∙ c.finish_pass.ensures.same) marked in
     let full_now : is_full now.sizes (made_by_pass now.pass) ≡ true = ap (λ (k : Component). is_full now.sizes k) (sym c.in_ok-made.ensures.component) ∙ full in
     let done = committed g (goal.at.returns-then-rotates-clause-lists g c).After-commit_next true full_now tree honest over in
-    let next_tree = with_pass c.after_pass-next.result [] done.list.pages tree.c2 tree in
+    let next_tree = with_pass c.after_pass-next.result [] done.list.pages tree.c2 [] tree in
     let stands = done.becomes.stands (ap is_ok c.in_ok-commit_next.was) in
     let found = subst (λ (s : RunsState). HoldsTree s.sizes next_tree new.bytes × AreTagged s.space s.tags.c2 tree.c2 × AreTagged s.space s.tags.pass done.list.pages
     × IsGuidedBy (guide_at s.guides s.tags.c2) tree.c2 × IsGuidedBy (guide_at s.guides s.tags.pass) done.list.pages)
@@ -166,7 +168,7 @@ returns-else-rotates-clause-lists g c = λ tree honest over.
     let light = subst (λ (s : RunsState). is_full s.sizes made ≡ false) (c.self.view_is ∙ c.finish_pass.ensures.same) marked in
     let light_now : is_full now.sizes (made_by_pass now.pass) ≡ false = ap (λ (k : Component). is_full now.sizes k) (sym c.in_ok-made.ensures.component) ∙ light in
     let done = committed g (goal.at.returns-else-rotates-clause-lists g c).After-commit_next false light_now tree honest over in
-    let next_tree = with_pass c.after_pass-next.result done.list.pages tree.c1x tree.c2 tree in
+    let next_tree = with_pass c.after_pass-next.result done.list.pages tree.c1x tree.c2 done.output tree in
     let stands = done.becomes.stands (ap is_ok c.in_ok-commit_next.was) in
     let deep = deep_over_still (guide_at now.guides now.tags.deep) now.deep tree.c1x tree.c2
     (swap_keeps true now now.tags.pass now.tags.deep (λ told. honest) are c.requires.roles are.tags.pass_deep (effect g (goal.at.returns-else-rotates-clause-lists g c).After-commit_next))
@@ -174,12 +176,12 @@ returns-else-rotates-clause-lists g c = λ tree honest over.
     (swap_pages now now.tags.pass now.tags.c2 are c.requires.roles (λ is. are.tags.c2_pass (sym is))) are.deep_tag over.are_of.c1x over.are_of.c2 over.are_of.deep in
     let found = subst (λ (s : RunsState). HoldsTree s.sizes next_tree new.bytes × AreTagged s.space s.tags.c1x tree.c1x × AreTagged s.space s.tags.c2 tree.c2 × AreTagged s.space s.tags.pass done.list.pages
     × IsGuidedBy (guide_at s.guides s.tags.pass) done.list.pages × IsGuidedBy (guide_at s.guides s.tags.c1x) tree.c1x × IsGuidedBy (guide_at s.guides s.tags.c2) tree.c2
-    × IsDeepOver s.sizes new.bytes s.space (guide_at s.guides s.tags.deep) s.deep tree.c1x tree.c2)
-    (sym c.finish_pass.ensures.same) (stands.reads, over.are_of.c1x, over.are_of.c2, done.tagged, λ some. done.guided, over.are_of.guided.c1x, over.are_of.guided.c2, deep) in (
+    × IsDeepOver s.sizes new.bytes s.space (guide_at s.guides s.tags.deep) s.deep tree.c1x tree.c2 × AreFinished s.space s.deep done.output)
+    (sym c.finish_pass.ensures.same) (stands.reads, over.are_of.c1x, over.are_of.c2, done.tagged, λ some. done.guided, over.are_of.guided.c1x, over.are_of.guided.c2, deep, done.finished) in (
       next_tree,
       done.swapped,
       λ table. leaves_swapped now after tree next_tree done.first done.becomes (λ well. record {
         stands = subst (λ (s : Sizes). StandsOn s next_tree new) (sym (c.install_pass.ensures.swaps.sizes ∙ ap (λ (s : RunsState). s.sizes) c.finish_pass.ensures.same)) stands;
-        are_of = c.install_pass.ensures.lists tree done.list.pages table new.bytes found.0 found.1 found.2 found.3 found.4 found.5 found.6 found.7;
+        are_of = c.install_pass.ensures.lists tree done.list.pages done.output table new.bytes found.0 found.1 found.2 found.3 found.4 found.5 found.6 found.7 found.8;
       }),
     )
