@@ -1,32 +1,5 @@
 -- What the images show of a write that is appended.
-use Rattle.std.proofs.Common.{
-  ◌≡◌,
-  ◌∙◌,
-  ℕ,
-  ◌+◌,
-  ◌≤◌,
-  Bool,
-  true,
-  false,
-  cond,
-  ◌&&◌,
-  List,
-  [],
-  ◌∷◌,
-  ◌++◌,
-  flat_map,
-  length,
-  None,
-  Option,
-  ⊎_elim,
-  refl,
-  ap,
-  sym,
-  subst,
-  append-nil,
-  length-append,
-  arith,
-}
+use Rattle.std.proofs.Common.{◌≡◌, ◌∙◌, ℕ, ◌+◌, ◌≤◌, Bool, true, false, cond, ◌&&◌, List, [], ◌∷◌, ◌++◌, flat_map, length, None, ⊎_elim, refl, ap, sym, subst, append-nil, length-append, arith}
 use Rattle.std.proofs.lemmas.Grind.{common_steps}
 use Rattle.std.proofs.lemmas.Bool.Decides.{nat_tests}
 use Rattle.std.specs.Prelude.{nat_lt}
@@ -43,7 +16,6 @@ use Rattle.blsm_model.specs.declared.op.Op.{Op}
 use Rattle.blsm_model.specs.declared.op.Write.{Write}
 use Rattle.blsm_model.specs.declared.history.Entry.{Entry}
 use Rattle.blsm_model.specs.declared.history.Reply.TheVariants.{Done, FaultUnsure, Full}
-use Rattle.blsm_model.specs.declared.history.Why.{Why}
 use Rattle.blsm_model.specs.Histories.{writes_of, counted, counted_writes, written}
 use Rattle.blsm_model.specs.Images.{counted_with}
 use Rattle.blsm_model.specs.Legal.{is_write, total_weight, is_del}

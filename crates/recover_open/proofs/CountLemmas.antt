@@ -195,6 +195,13 @@ counts_from (Ok ready) found begun some head ahead runs_are log_are none_dropped
     (ap (λ (n : ℕ). most_merges n (entries_weight begun.log.b.entries)) listed ∙ ap (most_merges (entries_weight found.a.entries)) other) counts.0)
 counts_from (Err why) found begun some head ahead runs_are log_are none_dropped bound_is counts = tt
 
+-- components that had counted none count these quanta alone
+pub counted_first : (result : Result Begun Unreadable) (begun : Begun) → begun.runs.quanta ≡ 0
+    → IfOk result (λ ready. begun.runs.quanta ≡ 0 → ready.runs.quanta ≡ ready.settled.quanta)
+    → IfOk result (λ ready. ready.runs.quanta ≡ ready.settled.quanta)
+counted_first (Ok ready) begun none counted = counted none
+counted_first (Err why) begun none counted = tt
+
 -- where no deep merge runs C1' is empty
 rests_empty : (runs : RunsState) → runs.deep ≡ None → RestsEmpty runs.deep runs.catalogue.c1x → runs.catalogue.c1x ≡ empty_component
 rests_empty runs is rests = subst (λ merge. RestsEmpty merge runs.catalogue.c1x) is rests

@@ -84,6 +84,7 @@ fn settle_begun<D: Disk>(disk: &mut D, begun: Begun) -> Result<Begun, Unreadable
     ensures counts { IfOk result (λ ready. CountsQuanta (1 + most_merges (listed_in_a begun.log) (entries_weight begun.log.b.entries))
         (settling_least begun.runs begun.log) (settling_due begun.runs begun.log) begun.runs ready.runs ready.settled.quanta
         × (ready.settled.bound ≡ begun.settled.bound) × (ready.settled.version ≡ ready.runs.catalogue.version)) }
+    ensures counted { IfOk result (λ ready. begun.runs.quanta ≡ 0 → ready.runs.quanta ≡ ready.settled.quanta) }
     ensures why { (pairs : List (Key × Value)) → IsTrue (D.state disk.old).is_honest → ShowsMap begun.runs begun.log pairs (D.state disk.old)
         → IfErr result (λ why. why ≡ Unreadable.Fault) }
     ensures faults { TellsFaultsBy (Err Unreadable.Fault) result (D.state disk.old) (D.state disk.new) }
@@ -120,6 +121,7 @@ pub(crate) fn settle_found<D: Disk>(
     ensures counts { IfOk result (λ begun. SettlesWithin found.geometry found.catalogue (entries_weight found.a.entries)
         (entries_weight found.b.entries)
         begun.runs.catalogue begun.settled) }
+    ensures counted { IfOk result (λ begun. begun.runs.quanta ≡ begun.settled.quanta) }
     ensures tells { IsTrue (D.state disk.old).is_honest → Only (D.state disk.old).bytes (D.state disk.old).images → (holds : HoldsFound found (D.state disk.old).bytes)
         → TellsSettled found.geometry holds.tree result (D.state disk.old) (D.state disk.new) }
     ensures effect { Affects anywhere (file_length found.geometry) (settling_calls found.geometry (weight_found found)) (D.state disk.old)

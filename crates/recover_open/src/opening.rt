@@ -105,6 +105,7 @@ fn open_tree<D: Disk>(
     ensures spares { IsTrue (D.state disk.old).is_honest → IfErr result (λ why. SparesImages why (D.state disk.old) (D.state disk.new)) }
     ensures takes { IfOk result (λ begun. TakesFew begun.runs.sizes (D.state disk.old) (D.state disk.new)) }
     ensures counts { IfOk result (λ begun. CountsSettling begun.runs.sizes begun.runs.catalogue begun.settled (D.state disk.old) (D.state disk.new)) }
+    ensures counted { IfOk result (λ begun. begun.runs.quanta ≡ begun.settled.quanta) }
     ensures effect { StaysInside (D.state disk.old) (D.state disk.new) }
     ensures faults { TellsFaultsBy (Err Unreadable.Fault) result (D.state disk.old) (D.state disk.new) }
 {
@@ -168,6 +169,8 @@ pub fn open_store<D: Disk + Drop>(
     // And no more quanta than the bound, by the weights of what was found, as the core tells them.
     ensures counts { IfOk result (λ core. CountsSettling core.held.runs.sizes core.held.runs.catalogue core.held.settled (D.state disk)
         (D.state core.disk)) }
+    // These are the quanta that went well since its components were opened, as they count them.
+    ensures counted { IfOk result (λ core. core.held.runs.quanta ≡ core.held.settled.quanta) }
     ensures effect { StaysInside (D.state disk) (D.state (disk_of result)) }
     ensures faults { TellsFaultsBy (Some Unreadable.Fault) (why_of result) (D.state disk) (D.state (disk_of result)) }
 {

@@ -48,7 +48,7 @@ one_tag_still is once page one other has also = once page one other (has_before 
 
 pub runs_for_deep : (old : RunsState) (next : Catalog) (mid after : SpaceState) → AreRuns old → HasParts next old.catalogue.c1 empty_component (made_by_deep old.deep) None
     → Released old.tags.c1x old.space mid → Released old.tags.c2 mid after
-    → AreRuns (record { sizes = old.sizes; catalogue = next; space = after; tags = record old.tags { c2 = old.tags.deep; deep = old.tags.c2 }; pass = old.pass; deep = None; guides = old.guides })
+    → AreRuns (record { sizes = old.sizes; catalogue = next; space = after; tags = record old.tags { c2 = old.tags.deep; deep = old.tags.c2 }; pass = old.pass; deep = None; guides = old.guides; quanta = old.quanta })
 runs_for_deep old next mid after are parts first second = record {
   geometry = are.geometry;
   pages = second.pages ∙ first.pages ∙ are.pages;
@@ -98,7 +98,7 @@ runs_for_deep old next mid after are parts first second = record {
 
 pub runs_for_pass : {progress : Option Progress} (old : RunsState) (next : Catalog) (after : SpaceState) → AreRuns old → HasParts next (made_by_pass old.pass) old.catalogue.c1x old.catalogue.c2 progress
     → Released old.tags.c1 old.space after
-    → AreRuns (record { sizes = old.sizes; catalogue = next; space = after; tags = record old.tags { c1 = old.tags.pass; pass = old.tags.c1 }; pass = None; deep = old.deep; guides = old.guides })
+    → AreRuns (record { sizes = old.sizes; catalogue = next; space = after; tags = record old.tags { c1 = old.tags.pass; pass = old.tags.c1 }; pass = None; deep = old.deep; guides = old.guides; quanta = old.quanta })
 runs_for_pass old next after are parts gone = record {
   geometry = are.geometry;
   pages = gone.pages ∙ are.pages;
@@ -155,6 +155,7 @@ pub runs_for_rotated_pass : {progress : Option Progress} (old : RunsState) (next
       pass = None;
       deep = Some (deep_started old.tags.deep next.c1x next.c2);
       guides = guides;
+      quanta = old.quanta;
     })
 runs_for_rotated_pass old next after guides are parts rests gone reserved = record {
   geometry = are.geometry;
@@ -209,5 +210,6 @@ pub runs_for_rotation : (old : RunsState) (next : Catalog) (guides : List GuideS
       pass = old.pass;
       deep = Some (deep_started old.tags.deep next.c1x next.c2);
       guides = guides;
+      quanta = old.quanta;
     })
 runs_for_rotation old next guides are parts rests reserved = grind (arith, common_steps, nat_tests)

@@ -1,5 +1,6 @@
 -- A quantum of a merge: what the components, the other merge and the tree keep, and what the one that took it has.
-use Rattle.std.specs.Prelude.{◌≡◌, ◌≢◌, ℕ, ◌+◌, ◌/◌, ◌<◌, ◌≤◌, Bool, IsTrue, List, Option, Some, Result, Ok, Err, OnOk}
+use Rattle.std.specs.Int.{from_bool}
+use Rattle.std.specs.Prelude.{◌≡◌, ◌≢◌, ℕ, ◌+◌, ◌-◌, ◌/◌, ◌^◌, ◌<◌, ◌≤◌, Bool, IsTrue, List, Option, Some, Result, Ok, Err, OnOk, is_ok, min}
 use Rattle.std.proofs.lemmas.Grind.{common_steps}
 use Rattle.std.proofs.lemmas.Bool.Decides.{nat_tests}
 use Rattle.std.proofs.Common.{◌∙◌, ap, sym, subst, arith}
@@ -103,14 +104,20 @@ pass_has_room runs snow a is are fits = grind (arith, common_steps, nat_tests)
 pub deep_has_room : (runs : RunsState) (merge : DeepState) (a : Entries) → runs.deep ≡ Some merge → AreRuns runs → Fits runs a → HasRoom runs.space merge.writer (left_for_deep (Some merge))
 deep_has_room runs merge a is are fits = grind (arith, common_steps, nat_tests)
 
+-- one that went well is counted
+pub counted_one : (result : Result ℕ Broken) (more old new : ℕ) → more ≡ from_bool (is_ok result) → new ≡ min (old + more) (2 ^ 64 - 1)
+    → OnOk result (old + 1 < 2 ^ 64 → new ≡ old + 1)
+counted_one (Ok n) more old new is counted = λ small. omega (arith, is, counted, small)
+counted_one (Err e) more old new is counted = tt
+
 -- ---- the pass
 
-abbrev pub passed : RunsState → SpaceState → List GuideState → SnowState → RunsState
-passed runs space guides snow = record runs { space = space; pass = Some snow; guides = guides }
+abbrev pub passed : RunsState → SpaceState → List GuideState → ℕ → SnowState → RunsState
+passed runs space guides quanta snow = record runs { space = space; pass = Some snow; guides = guides; quanta = quanta }
 
-pub passed_is : {old new : RunsState} (space : SpaceState) (guides : List GuideState) (snow : SnowState) → KeepsAllButPass old new → new.space ≡ space → new.guides ≡ guides → new.pass ≡ Some snow
-    → new ≡ passed old space guides snow
-passed_is space guides snow keeps s g p = λ j. record { sizes = keeps.sizes j; catalogue = keeps.catalogue j; space = s j; tags = keeps.tags j; pass = p j; deep = keeps.deep j; guides = g j }
+pub passed_is : {old new : RunsState} (space : SpaceState) (guides : List GuideState) (quanta : ℕ) (snow : SnowState) → KeepsAllButPass old new → new.space ≡ space → new.guides ≡ guides → new.quanta ≡ quanta → new.pass ≡ Some snow
+    → new ≡ passed old space guides quanta snow
+passed_is space guides quanta snow keeps s g q p = λ j. record { sizes = keeps.sizes j; catalogue = keeps.catalogue j; space = s j; tags = keeps.tags j; pass = p j; deep = keeps.deep j; guides = g j; quanta = q j }
 
 -- what its quantum ensures
 pub record PassQuantum (sizes : Sizes) (space after : SpaceState) (guide guide_after : GuideState) (snow next : SnowState) (a : Entries) (result : Result ℕ Broken) (old new : DiskState) : Type 0 where
@@ -127,11 +134,11 @@ pub pass_works : (runs : RunsState) (after : SpaceState) (guide guide_after : Gu
 pass_works runs after guide guide_after snow next a result old new is are quantum =
     subst (λ (r : ℕ). Works runs.sizes r (runs.sizes.quantum / 7 + 2) runs.space after old new) (pass_role runs snow is are) (works_of quantum.on.works)
 
-pass_in_order : (runs : RunsState) (after : SpaceState) (guides : List GuideState) (snow next : SnowState) → runs.pass ≡ Some snow → AreRuns runs → IsSpace after
+pass_in_order : (runs : RunsState) (after : SpaceState) (guides : List GuideState) (quanta : ℕ) (snow next : SnowState) → runs.pass ≡ Some snow → AreRuns runs → IsSpace after
     → TakesPages runs.tags.pass runs.space after → role_size after runs.tags.pass + snow.writer.component.pages ≡ role_size runs.space runs.tags.pass + next.writer.component.pages
     → next.writer.role ≡ runs.tags.pass → IsFilled next.writer.component → AreGuides runs.sizes runs.tags guides
-    → ((n : ℕ) → IsClosedPage runs.space snow.writer n → IsClosedPage after next.writer n) → AreRuns (passed runs after guides next)
-pass_in_order runs after guides snow next is are shape takes size role filled reserved still =
+    → ((n : ℕ) → IsClosedPage runs.space snow.writer n → IsClosedPage after next.writer n) → AreRuns (passed runs after guides quanta next)
+pass_in_order runs after guides quanta snow next is are shape takes size role filled reserved still =
     let made = ap (λ (p : Option SnowState). (made_by_pass p).pages) is in
     record {
       geometry = are.geometry;
@@ -150,19 +157,19 @@ pass_in_order runs after guides snow next is are shape takes size role filled re
       open_unpinned = pins_on runs.space after snow next (role ∙ sym (pass_role runs snow is are))
           (subst (λ (r : ℕ). TakesPages r runs.space after) (sym (pass_role runs snow is are)) takes) still (subst (PinsOfPass runs.space) is are.open_unpinned);
       deep_unpinned = unpinned_on runs.space after runs.tags.pass runs.tags.deep takes are.deep_unpinned;
-      within = within_more snow.writer.component.pages next.writer.component.pages (pages_in_use runs) (pages_in_use (passed runs after guides next)) (page_share runs.sizes) takes are.tags.pass_below size (omega (arith, made)) are.within;
+      within = within_more snow.writer.component.pages next.writer.component.pages (pages_in_use runs) (pages_in_use (passed runs after guides quanta next)) (page_share runs.sizes) takes are.tags.pass_below size (omega (arith, made)) are.within;
       guides = reserved;
     }
 
 -- On any disk.
-pub pass_ran : (runs : RunsState) (after : SpaceState) (guides : List GuideState) (guide : GuideState) (snow next : SnowState) (a : Entries) (result : Result ℕ Broken) (old new : DiskState) → runs.pass ≡ Some snow
+pub pass_ran : (runs : RunsState) (after : SpaceState) (guides : List GuideState) (quanta : ℕ) (guide : GuideState) (snow next : SnowState) (a : Entries) (result : Result ℕ Broken) (old new : DiskState) → runs.pass ≡ Some snow
     → AreRunning old.is_honest old.bytes runs → IsSpace after → WritesGuide runs.sizes runs.tags runs.tags.pass runs.guides guides guide
     → PassQuantum runs.sizes runs.space after (guide_at runs.guides runs.tags.pass) guide snow next a result old new
-    → OnOk result (AreRunning new.is_honest new.bytes (passed runs after guides next))
-pass_ran runs after guides guide snow next a result old new is running shape writes quantum =
+    → OnOk result (AreRunning new.is_honest new.bytes (passed runs after guides quanta next))
+pass_ran runs after guides quanta guide snow next a result old new is running shape writes quantum =
     both_ok result quantum.on.runs quantum.on.size
     (λ goes size. record {
-      in_order = pass_in_order runs after guides snow next is running.in_order shape works.takes
+      in_order = pass_in_order runs after guides quanta snow next is running.in_order shape works.takes
           (subst (λ (r : ℕ). role_size after r + snow.writer.component.pages ≡ role_size runs.space r + next.writer.component.pages) role size) (quantum.on.role ∙ role)
           (run_filled runs.sizes new.is_honest new.bytes after next.writer guide.filter guide.fences goes.running.run.out goes.running.run.pushed) writes.reserved
           (keeps_closed quantum.on.role quantum.on.works).still;
@@ -181,12 +188,12 @@ pass_ran runs after guides guide snow next a result old new is running shape wri
     works = pass_works runs after (guide_at runs.guides runs.tags.pass) guide snow next a result old new is running.in_order quantum
 
 -- On an honest disk.
-pub pass_stands : (runs : RunsState) (after : SpaceState) (guides : List GuideState) (guide : GuideState) (snow next : SnowState) (a : Entries) (result : Result ℕ Broken) (old new : DiskState) → runs.pass ≡ Some snow → AreRuns runs → IsSpace after
+pub pass_stands : (runs : RunsState) (after : SpaceState) (guides : List GuideState) (quanta : ℕ) (guide : GuideState) (snow next : SnowState) (a : Entries) (result : Result ℕ Broken) (old new : DiskState) → runs.pass ≡ Some snow → AreRuns runs → IsSpace after
     → WritesGuide runs.sizes runs.tags runs.tags.pass runs.guides guides guide
     → PassQuantum runs.sizes runs.space after (guide_at runs.guides runs.tags.pass) guide snow next a result old new → IsTimed new → (tree : Tree)
     → IsTrue old.is_honest → StandOver runs tree a old → result ≢ Err Fault
-    → (n : ℕ) × (result ≡ Ok n) × StandOver (passed runs after guides next) tree a new × PassTook runs.sizes.quantum runs.pass (Some next) a (entries_of tree.c1) n
-pass_stands runs after guides guide snow next a result old new is are shape writes quantum timed tree honest stand other =
+    → (n : ℕ) × (result ≡ Ok n) × StandOver (passed runs after guides quanta next) tree a new × PassTook runs.sizes.quantum runs.pass (Some next) a (entries_of tree.c1) n
+pass_stands runs after guides quanta guide snow next a result old new is are shape writes quantum timed tree honest stand other =
     let over = subst (λ (p : Option SnowState). IsPassOver runs.sizes old.bytes runs.space (guide_at runs.guides runs.tags.pass) p a tree.c1) is stand.are_of.pass in
     let took = quantum.took (numbers_of tree.c1) (entries_of tree.c1) honest over other in
     let stood = (pass_stays runs tree a (runs.sizes.quantum / 7 + 2) after old new are shape works honest timed stand).0 in (
@@ -219,12 +226,12 @@ pass_stands runs after guides guide snow next a result old new is are shape writ
 
 -- ---- the deep merge
 
-abbrev pub deepened : RunsState → SpaceState → List GuideState → DeepState → RunsState
-deepened runs space guides merge = record runs { space = space; deep = Some merge; guides = guides }
+abbrev pub deepened : RunsState → SpaceState → List GuideState → ℕ → DeepState → RunsState
+deepened runs space guides quanta merge = record runs { space = space; deep = Some merge; guides = guides; quanta = quanta }
 
-pub deepened_is : {old new : RunsState} (space : SpaceState) (guides : List GuideState) (merge : DeepState) → KeepsAllButDeep old new → new.space ≡ space → new.guides ≡ guides → new.deep ≡ Some merge
-    → new ≡ deepened old space guides merge
-deepened_is space guides merge keeps s g d = λ j. record { sizes = keeps.sizes j; catalogue = keeps.catalogue j; space = s j; tags = keeps.tags j; pass = keeps.pass j; deep = d j; guides = g j }
+pub deepened_is : {old new : RunsState} (space : SpaceState) (guides : List GuideState) (quanta : ℕ) (merge : DeepState) → KeepsAllButDeep old new → new.space ≡ space → new.guides ≡ guides → new.quanta ≡ quanta → new.deep ≡ Some merge
+    → new ≡ deepened old space guides quanta merge
+deepened_is space guides quanta merge keeps s g q d = λ j. record { sizes = keeps.sizes j; catalogue = keeps.catalogue j; space = s j; tags = keeps.tags j; pass = keeps.pass j; deep = d j; guides = g j; quanta = q j }
 
 -- what its quantum ensures
 pub record DeepQuantum (sizes : Sizes) (space after : SpaceState) (guide guide_after : GuideState) (merge next : DeepState) (result : Result ℕ Broken) (old new : DiskState) : Type 0 where
@@ -251,11 +258,11 @@ deep_stays runs tree a most after merge next old new is are shape grows honest t
     (finished_grown runs.sizes runs.space after merge tree.output (subst (λ (d : Option DeepState). AreFinished runs.space d tree.output) is stand.are_of.output))
     honest timed stand
 
-deep_in_order : (runs : RunsState) (after : SpaceState) (guides : List GuideState) (merge next : DeepState) → runs.deep ≡ Some merge → AreRuns runs → IsSpace after → TakesPages runs.tags.deep runs.space after
+deep_in_order : (runs : RunsState) (after : SpaceState) (guides : List GuideState) (quanta : ℕ) (merge next : DeepState) → runs.deep ≡ Some merge → AreRuns runs → IsSpace after → TakesPages runs.tags.deep runs.space after
     → role_size after runs.tags.deep + merge.writer.component.pages ≡ role_size runs.space runs.tags.deep + next.writer.component.pages
     → next.writer.role ≡ runs.tags.deep → IsFilled next.writer.component → AreGuides runs.sizes runs.tags guides
-    → AreRuns (deepened runs after guides next)
-deep_in_order runs after guides merge next is are shape takes size role filled reserved =
+    → AreRuns (deepened runs after guides quanta next)
+deep_in_order runs after guides quanta merge next is are shape takes size role filled reserved =
     let made = ap (λ (d : Option DeepState). (made_by_deep d).pages) is in
     record {
       geometry = are.geometry;
@@ -273,19 +280,19 @@ deep_in_order runs after guides merge next is are shape takes size role filled r
       rests = tt;
       open_unpinned = pins_beside runs.space after runs.tags.deep runs.tags.pass runs.pass are.pass_tag are.tags.pass_deep takes are.open_unpinned;
       deep_unpinned = unpinned_on runs.space after runs.tags.deep runs.tags.deep takes are.deep_unpinned;
-      within = within_more merge.writer.component.pages next.writer.component.pages (pages_in_use runs) (pages_in_use (deepened runs after guides next)) (page_share runs.sizes) takes are.tags.deep_below size (omega (arith, made)) are.within;
+      within = within_more merge.writer.component.pages next.writer.component.pages (pages_in_use runs) (pages_in_use (deepened runs after guides quanta next)) (page_share runs.sizes) takes are.tags.deep_below size (omega (arith, made)) are.within;
       guides = reserved;
     }
 
 -- On any disk.
-pub deep_ran : (runs : RunsState) (after : SpaceState) (guides : List GuideState) (guide : GuideState) (merge next : DeepState) (result : Result ℕ Broken) (old new : DiskState) → runs.deep ≡ Some merge
+pub deep_ran : (runs : RunsState) (after : SpaceState) (guides : List GuideState) (quanta : ℕ) (guide : GuideState) (merge next : DeepState) (result : Result ℕ Broken) (old new : DiskState) → runs.deep ≡ Some merge
     → AreRunning old.is_honest old.bytes runs → IsSpace after → WritesGuide runs.sizes runs.tags runs.tags.deep runs.guides guides guide
     → DeepQuantum runs.sizes runs.space after (guide_at runs.guides runs.tags.deep) guide merge next result old new
-    → OnOk result (AreRunning new.is_honest new.bytes (deepened runs after guides next))
-deep_ran runs after guides guide merge next result old new is running shape writes quantum =
+    → OnOk result (AreRunning new.is_honest new.bytes (deepened runs after guides quanta next))
+deep_ran runs after guides quanta guide merge next result old new is running shape writes quantum =
     both_ok result quantum.on.runs quantum.on.size
     (λ goes size. record {
-      in_order = deep_in_order runs after guides merge next is running.in_order shape works.takes
+      in_order = deep_in_order runs after guides quanta merge next is running.in_order shape works.takes
           (subst (λ (r : ℕ). role_size after r + merge.writer.component.pages ≡ role_size runs.space r + next.writer.component.pages) role size) (quantum.on.role ∙ role)
           (run_filled runs.sizes new.is_honest new.bytes after next.writer guide.filter guide.fences goes.running.run.out goes.running.run.pushed) writes.reserved;
       pass = subst (λ (g : GuideState). PassRuns runs.sizes new.is_honest new.bytes after g runs.pass) (sym (writes.others runs.tags.pass running.in_order.tags.pass_deep))
@@ -303,12 +310,12 @@ deep_ran runs after guides guide merge next result old new is running shape writ
     works = deep_works runs after (guide_at runs.guides runs.tags.deep) guide merge next result old new is running.in_order quantum
 
 -- On an honest disk.
-pub deep_stands : (runs : RunsState) (after : SpaceState) (guides : List GuideState) (guide : GuideState) (merge next : DeepState) (result : Result ℕ Broken) (old new : DiskState) → runs.deep ≡ Some merge → AreRuns runs → IsSpace after
+pub deep_stands : (runs : RunsState) (after : SpaceState) (guides : List GuideState) (quanta : ℕ) (guide : GuideState) (merge next : DeepState) (result : Result ℕ Broken) (old new : DiskState) → runs.deep ≡ Some merge → AreRuns runs → IsSpace after
     → WritesGuide runs.sizes runs.tags runs.tags.deep runs.guides guides guide
     → DeepQuantum runs.sizes runs.space after (guide_at runs.guides runs.tags.deep) guide merge next result old new → IsTimed new
     → (tree : Tree) (a : Entries) → IsTrue old.is_honest → StandOver runs tree a old → result ≢ Err Fault
-    → (n : ℕ) × (result ≡ Ok n) × StandOver (deepened runs after guides next) tree a new × DeepTook runs.sizes.quantum runs.deep (Some next) (entries_of tree.c1x) (entries_of tree.c2) n
-deep_stands runs after guides guide merge next result old new is are shape writes quantum timed tree a honest stand other =
+    → (n : ℕ) × (result ≡ Ok n) × StandOver (deepened runs after guides quanta next) tree a new × DeepTook runs.sizes.quantum runs.deep (Some next) (entries_of tree.c1x) (entries_of tree.c2) n
+deep_stands runs after guides quanta guide merge next result old new is are shape writes quantum timed tree a honest stand other =
     let over = subst (λ (d : Option DeepState). IsDeepOver runs.sizes old.bytes runs.space (guide_at runs.guides runs.tags.deep) d tree.c1x tree.c2) is stand.are_of.deep in
     let took = quantum.took (numbers_of tree.c1x) (numbers_of tree.c2) (entries_of tree.c1x) (entries_of tree.c2) honest over other in
     let stood = (deep_stays runs tree a (runs.sizes.quantum / 4 + 3) after merge next.writer old new is are shape quantum.on.works honest timed stand).0 in (

@@ -1,6 +1,6 @@
 -- What the components and merges of a tree are on an honest disk, whose file holds the tree.
 use Rattle.std.specs.Prelude.{◌≡◌, ◌≢◌, ◌⊎◌, ⊤, ℕ, Bool, IsTrue, ◌+◌, List, [], ◌∷◌, Option, Some, None, Result, Ok, Err, OnOk, if◌then◌else◌, nat_le}
-use Rattle.std.specs.Prelude.{◌-◌, ◌^◌, min, nat_eq, option_map}
+use Rattle.std.specs.Prelude.{◌-◌, ◌<◌, ◌^◌, min, nat_eq, option_map}
 use Rattle.std.specs.List.{Contains}
 use Rattle.disk_trait.specs.Region.{Region, span}
 use Rattle.disk_trait.specs.Disk.{DiskState, TellsFaultsBy}
@@ -169,8 +169,12 @@ commit_region sizes now = λ i. prepared sizes now i ⊎ span (slot_of (now.vers
 abbrev pub KeepsOtherGuides : ℕ → List GuideState → List GuideState → Type 0
 KeepsOtherGuides tag old new = (other : ℕ) → other ≢ tag → guide_at new other ≡ guide_at old other
 
--- A quantum of the pass changes the pass alone, the pages that it takes, and its run's filter and fences. So the other merge and the catalogue are
--- as they were.
+-- So many quanta more went well, where their number keeps within 64 bits.
+abbrev pub CountsMore : ℕ → (old new : RunsState) → Type 0
+CountsMore quanta old new = old.quanta + quanta < 2 ^ 64 → new.quanta ≡ old.quanta + quanta
+
+-- A quantum of the pass changes the pass alone, the pages that it takes, its run's filter and fences, and how many went well. So the other merge and
+-- the catalogue are as they were.
 pub record KeepsAllButPass (old new : RunsState) : Type 0 where
   pub sizes : new.sizes ≡ old.sizes
   pub catalogue : new.catalogue ≡ old.catalogue
@@ -244,6 +248,7 @@ pub record SwapsDeep (old new : RunsState) : Type 0 where
   pub deep : new.deep ≡ None
   pub pins : new.space.pins ≡ old.space.pins
   pub guides : new.guides ≡ old.guides
+  pub quanta : new.quanta ≡ old.quanta
 
 -- C1 is C1' now, and a deep merge begins
 pub record Rotates (old new : RunsState) : Type 0 where
@@ -254,6 +259,7 @@ pub record Rotates (old new : RunsState) : Type 0 where
   pub deep : new.deep ≡ Some (deep_started old.tags.deep old.catalogue.c1 old.catalogue.c2)
   pub pins : new.space.pins ≡ old.space.pins
   pub guides : new.guides ≡ emptied old.tags.deep (deep_bits old.sizes old.catalogue.c1 old.catalogue.c2) old.guides
+  pub quanta : new.quanta ≡ old.quanta
 
 -- the pass's run is C1 now, or C1' with a deep merge that begins
 abbrev pub tags_after_pass : Bool → Tags → Tags
@@ -269,6 +275,7 @@ pub record SwapsPass (old new : RunsState) : Type 0 where
   pub pins : new.space.pins ≡ old.space.pins
   pub guides : new.guides
       ≡ (if is_full old.sizes (made_by_pass old.pass) then emptied old.tags.deep (deep_bits old.sizes (made_by_pass old.pass) old.catalogue.c2) old.guides else old.guides)
+  pub quanta : new.quanta ≡ old.quanta
 
 -- what a swap leaves of the disk: the old tree or the next, in each image of each moment; once it is done the disk stands on the next
 pub record LeavesSwapped (old new : RunsState) (one next : Tree) (a : Entries) (done : Bool) (before after : DiskState) : Type 0 where

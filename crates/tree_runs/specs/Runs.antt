@@ -35,8 +35,8 @@ pub record GuideState : Type 0 where
   pub filter : BitState
   pub fences : FencesState
 
--- The sizes of the store; its catalogue as last committed; the free-page map and what its tags stand for; the merges that run; and, by their
--- tags, the filters and fences of the components and of the runs.
+-- The sizes of the store; its catalogue as last committed; the free-page map and what its tags stand for; the merges that run; by their tags, the
+-- filters and fences of the components and of the runs; and how many quanta went well since the components were opened.
 pub record RunsState : Type 0 where
   pub sizes : Sizes
   pub catalogue : Catalog
@@ -45,6 +45,7 @@ pub record RunsState : Type 0 where
   pub pass : Option SnowState
   pub deep : Option DeepState
   pub guides : List GuideState
+  pub quanta : ℕ
 
 -- ---- filters and fences, by tag
 
@@ -132,6 +133,7 @@ opened sizes catalogue space guides = record {
   pass = None;
   deep = due_deep first_tags.deep catalogue;
   guides = due_guides sizes catalogue guides;
+  quanta = 0;
 }
 
 -- the same with a deep merge that may be taken up
@@ -144,6 +146,7 @@ opened_from sizes catalogue space guides ahead = record {
   pass = None;
   deep = due_from first_tags.deep catalogue ahead;
   guides = guides_from sizes catalogue ahead guides;
+  quanta = 0;
 }
 
 -- a pass over C1 begins, beside a memory table of this weight

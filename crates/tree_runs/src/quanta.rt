@@ -1,12 +1,12 @@
 //! Quanta of the merges.
-ghost use Rattle.std.specs.Prelude.{◌≡◌, ◌+◌, ◌/◌, length, IsTrue, IsErr, IsSome, IfOk};
+ghost use Rattle.std.specs.Prelude.{◌≡◌, ◌+◌, ◌/◌, length, IsTrue, IsErr, IsSome, IfOk, OnOk};
 ghost use Rattle.disk_trait.specs.Effects.{Affects};
 ghost use Rattle.blsm_model.specs.Geometry.{file_length};
 ghost use Rattle.page_file.specs.Component.{entries_of};
 ghost use Rattle.tree_runs.specs.Runs.{AreRunning, Fits};
 ghost use Rattle.tree_runs.specs.Damage.{PassMeetsDamage, DeepMeetsDamage};
 ghost use Rattle.tree_runs.specs.Writing.{region_of_pass, region_of_deep};
-ghost use Rattle.tree_runs.specs.Holding.{KeepsAllButPass, KeepsAllButDeep, PassTakes, PassTook, DeepTakes, DeepTook, TellsQuantum, cursor_of_pass, cursor_of_deep};
+ghost use Rattle.tree_runs.specs.Holding.{CountsMore, KeepsAllButPass, KeepsAllButDeep, PassTakes, PassTook, DeepTakes, DeepTook, TellsQuantum, cursor_of_pass, cursor_of_deep};
 
 use crate::runs::Runs;
 use disk_trait::Disk;
@@ -36,6 +36,7 @@ impl Runs {
         ensures kept { IsErr result → cursor_of_pass self.new.pass ≡ cursor_of_pass self.old.pass }
         ensures runs { IsSome self.new.pass }
         ensures others { KeepsAllButPass self.old self.new }
+        ensures counted { OnOk result (CountsMore 1 self.old self.new) }
     {
         let merges = &mut *self.merges;
         match &mut merges.pass {
@@ -51,6 +52,7 @@ impl Runs {
                 );
                 // A map keeps its shape.
                 let _pages = self.space.pages();
+                self.quanta = self.quanta.saturating_add(u64::from(taken.is_ok()));
                 taken
             }
             None => unreachable!(),
@@ -74,6 +76,7 @@ impl Runs {
         ensures kept { IsErr result → cursor_of_deep self.new.deep ≡ cursor_of_deep self.old.deep }
         ensures runs { IsSome self.new.deep }
         ensures others { KeepsAllButDeep self.old self.new }
+        ensures counted { OnOk result (CountsMore 1 self.old self.new) }
     {
         let merges = &mut *self.merges;
         match &mut merges.deep {
@@ -87,6 +90,7 @@ impl Runs {
                     &mut guide.fences,
                 );
                 let _pages = self.space.pages();
+                self.quanta = self.quanta.saturating_add(u64::from(taken.is_ok()));
                 taken
             }
             None => unreachable!(),

@@ -65,6 +65,8 @@ pub struct Runs {
     pub(crate) merges: Box<Merges>,
     // For each tag, those of the pages that have it.
     pub(crate) guides: Vec<Guide>,
+    // How many quanta went well since the opening.
+    pub(crate) quanta: u64,
 }
 
 impl Model for Runs {
@@ -80,6 +82,7 @@ impl Model for Runs {
       pass = r.merges.value.pass;
       deep = r.merges.value.deep;
       guides = r.guides.items;
+      quanta = r.quanta;
     } };
 }
 
@@ -130,6 +133,7 @@ impl Runs {
             deep,
             merges,
             guides,
+            quanta: 0,
         }
     }
 

@@ -34,6 +34,7 @@ use Rattle.blsm_model.specs.Format.{most_weight}
 use Rattle.blsm_model.specs.Geometry.{c1_mark, capacity}
 use Rattle.deep_merge.specs.Merge.{DeepState}
 use Rattle.tree_runs.specs.Runs.{RunsState, left_for_deep}
+use Rattle.tree_runs.specs.Holding.{CountsMore}
 use Rattle.tree_settling.specs.Settling.{components_of}
 use Rattle.mem_table.specs.Tables.{IsWhole}
 use Rattle.record_delta.specs.Entries.{entries_weight}
@@ -98,6 +99,11 @@ all_quanta sizes first left quanta none so_far = record {
   enough = ⊎_elim (λ all. omega (arith, all)) (λ last. omega (arith, last.1)) so_far.enough;
 }
 
+pub counted_then : (q q' : ℕ) (old mid new : RunsState) → CountsMore q old mid → CountsMore q' mid new → CountsMore (q + q') old new
+counted_then q q' old mid new one two = λ small.
+    let first = one (omega (arith, small)) in
+    omega (arith, first, two (omega (arith, small, first)))
+
 -- ---- merge by merge
 
 pub none_left : (merge : Option DeepState) → is_some merge ≡ false → left_for_deep merge ≡ 0
@@ -120,6 +126,7 @@ quanta_sum sizes m m' q q' t t' one two = record {
 -- nothing was due
 pub counts_none : (merges least most : ℕ) (runs : RunsState) → least ≡ 0 → CountsQuanta merges least most runs runs 0
 counts_none merges least most runs none = record {
+  counted = λ small. omega arith;
   taken = 0;
   takes = record { some = omega arith; light = omega arith; enough = omega arith };
   all = omega (arith, none);
@@ -131,6 +138,7 @@ pub counts_then : {m m' l l' w w' q q' : ℕ} {old mid new : RunsState} → mid.
     → CountsQuanta m' l' w' mid new q'
     → CountsQuanta (m + m') (l + l') (w + w') old new (q + q')
 counts_then {m} {m'} {l} {l'} {w} {w'} {q} {q'} {old} {mid} {new} same one two = record {
+  counted = counted_then q q' old mid new one.counted two.counted;
   taken = one.taken + two.taken;
   all = omega (arith, one.all, two.all);
   takes = quanta_sum old.sizes m m' q q' one.taken two.taken one.takes (subst (λ (s : Sizes). TakeQuanta s m' q' two.taken) same two.takes);
@@ -141,6 +149,7 @@ counts_then {m} {m'} {l} {l'} {w} {w'} {q} {q'} {old} {mid} {new} same one two =
 pub counts_wider : {m m' l l' w w' q : ℕ} {old new : RunsState} → m ≤ m' → l' ≤ l → w ≤ w' → CountsQuanta m l w old new q
     → CountsQuanta m' l' w' old new q
 counts_wider {m} {m'} {l} {l'} {w} {w'} {q} {old} merges least weight counts = record {
+  counted = counts.counted;
   taken = counts.taken;
   all = omega (arith, counts.all, least);
   takes = record {

@@ -27,7 +27,7 @@ use Rattle.tree_file.specs.Places.{HoldsEither, StandsOn, TurnsRoles}
 use Rattle.tree_log.specs.Log.{LogState, IsLogOf, listed_in_a, turned_log, weight_of_tables}
 use Rattle.tree_log.proofs.RestLemmas.{whole_list}
 use Rattle.tree_runs.specs.Runs.{GuideState, RunsState, AreRunning, Fits, guide_at, left_for_deep, left_for_pass, made_by_deep, made_by_pass, pass_begun}
-use Rattle.tree_runs.specs.Holding.{AreOf, IsDeepOver, IsPassOver, IsPassSwapped, LeavesSwapped, StandOver, SwapsPass, is_full, progress_of, with_pass_run}
+use Rattle.tree_runs.specs.Holding.{AreOf, CountsMore, IsDeepOver, IsPassOver, IsPassSwapped, LeavesSwapped, StandOver, SwapsPass, is_full, progress_of, with_pass_run}
 use Rattle.tree_settling.specs.Counting.{CountsQuanta, HasPassed, TakeQuanta}
 use Rattle.tree_settling.specs.Settling.{
   CallsFew,
@@ -294,9 +294,13 @@ module _ {done : Bool} {memory : ℕ} {a : Contents} {runs begun mid new : RunsS
       omega (arith, begun_all memory runs begun a.entries swap.begins, ap (λ (t : Contents). entries_weight t.entries) swap.table, swap.whole.1)
 
   pub pass_counts : SwapsPass mid new → (quanta : ℕ) → TakeQuanta begun.sizes 1 quanta (left_for_pass begun.pass a.entries)
+      → CountsMore quanta begun mid
       → CountsQuanta 1 (runs.catalogue.c1.weight + listed_in_a log) (runs.catalogue.c1.weight + listed_in_a log) runs new
       quanta
-  pass_counts swaps quanta takes = record {
+  pass_counts swaps quanta takes counted = record {
+    counted = λ small.
+        let begins = ap (λ (r : RunsState). r.quanta) swap.begins in
+        omega (arith, begins, swaps.quanta, counted (omega (arith, begins, small)));
     taken = left_for_pass begun.pass a.entries;
     takes = subst (λ (s : Sizes). TakeQuanta s 1 quanta (left_for_pass begun.pass a.entries)) (ap (λ (r : RunsState). r.sizes) swap.begins) takes;
     all = left_all;

@@ -7,6 +7,7 @@ use Rattle.catalog_swap.specs.declared.catalog.Catalog.{Catalog}
 use Rattle.record_delta.specs.Entries.{entries_weight}
 use Rattle.tree_log.specs.Log.{LogState, listed_in_a, weight_of_tables}
 use Rattle.tree_runs.specs.Runs.{RunsState, left_for_deep}
+use Rattle.tree_runs.specs.Holding.{CountsMore}
 use Rattle.tree_settling.specs.Settling.{components_of, taken_before}
 
 -- How much one quantum takes at most: all but the last byte of what is asked for may be there already when it takes a group of two records more.
@@ -20,8 +21,10 @@ pub record TakeQuanta (sizes : Sizes) (merges quanta taken : ℕ) : Type 0 where
   pub light : taken ≤ most_taken sizes * quanta
   pub enough : sizes.quantum * quanta ≤ taken + merges * sizes.quantum
 
--- Settling took so many quanta, of so many merges at most, and in all from so much to so much. By what they took the components may weigh more.
+-- Settling took so many quanta, as the components count them, of so many merges at most, and in all from so much to so much. By what they took the
+-- components may weigh more.
 pub record CountsQuanta (merges least most : ℕ) (old new : RunsState) (quanta : ℕ) : Type 0 where
+  pub counted : CountsMore quanta old new
   pub taken : ℕ
   pub takes : TakeQuanta old.sizes merges quanta taken
   pub all : least ≤ taken

@@ -119,6 +119,8 @@ pub fn settle<D: Disk>(disk: &mut D, runs: &mut Runs, log: &mut LoggedTables) ->
     // On any disk:
     ensures counts { IfOk result (CountsQuanta (1 + most_merges (listed_in_a log.old) (entries_weight log.old.b.entries))
         (settling_least runs.old log.old) (settling_due runs.old log.old) runs.old runs.new) }
+    // Components that had counted none count as many now.
+    ensures counted { IfOk result (λ quanta. runs.old.quanta ≡ 0 → runs.new.quanta ≡ quanta) }
     ensures settled { OnOk result (IsSettled runs.new log.new) }
 {
     let deep = due_deep(disk, runs, log)?;

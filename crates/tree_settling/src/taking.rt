@@ -3,6 +3,7 @@ ghost use Rattle.std.specs.Prelude.{◌≡◌, length, is_some, IsTrue, IsSome, 
 ghost use Rattle.blsm_model.specs.Geometry.{file_length};
 ghost use Rattle.tree_settling.specs.Counting.{TakeQuanta};
 ghost use Rattle.tree_settling.specs.Settling.{TakesAll};
+ghost use Rattle.tree_runs.specs.Holding.{CountsMore};
 ghost use Rattle.tree_runs.specs.Runs.{AreRunning, Fits, left_for_deep, left_for_pass};
 
 use disk_trait::Disk;
@@ -18,6 +19,7 @@ pub(crate) fn take_deep<D: Disk>(disk: &mut D, runs: &mut Runs, a: &Table) -> Re
     requires fits { Fits runs.old a.now.entries }
     ensures takes { TakesAll a.now.entries (left_for_deep runs.old.deep) runs.old runs.new result (D.state disk.old) (D.state disk.new) }
     ensures counts { IfOk result (λ quanta. TakeQuanta runs.old.sizes 1 quanta (left_for_deep runs.old.deep)) }
+    ensures counted { IfOk result (λ quanta. CountsMore quanta runs.old runs.new) }
     ensures done { OnOk result (IsTrue (is_some runs.new.deep) × (left_for_deep runs.new.deep ≡ 0)) }
     ensures pass { OnOk result (runs.new.pass ≡ runs.old.pass) }
 {
@@ -37,6 +39,7 @@ pub(crate) fn take_pass<D: Disk>(disk: &mut D, runs: &mut Runs, a: &Table) -> Re
     requires fits { Fits runs.old a.now.entries }
     ensures takes { TakesAll a.now.entries (left_for_pass runs.old.pass a.now.entries) runs.old runs.new result (D.state disk.old) (D.state disk.new) }
     ensures counts { IfOk result (λ quanta. TakeQuanta runs.old.sizes 1 quanta (left_for_pass runs.old.pass a.now.entries)) }
+    ensures counted { IfOk result (λ quanta. CountsMore quanta runs.old runs.new) }
     ensures done { OnOk result (IsTrue (is_some runs.new.pass) × (left_for_pass runs.new.pass a.now.entries ≡ 0)) }
     ensures deep { OnOk result (runs.new.deep ≡ runs.old.deep) }
 {

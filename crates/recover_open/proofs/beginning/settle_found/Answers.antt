@@ -2,7 +2,7 @@ use Rattle.std.proofs.Common.{◌∙◌, ap, arith, sym}
 use Rattle.blsm_model.specs.Geometry.{file_length}
 use Rattle.tree_log.specs.Log.{weight_of_tables}
 use Rattle.tree_runs.specs.Runs.{RunsState}
-use Rattle.recover_open.proofs.CountLemmas.{counts_from}
+use Rattle.recover_open.proofs.CountLemmas.{counted_first, counts_from}
 use Rattle.recover_open.proofs.SettledLemmas.{IsSettledFrom, may_settle, settled_effect, settled_ready, settled_tells}
 use Rattle.recover_open.proofs.beginning.settle_found.Goals as goal
 
@@ -44,3 +44,7 @@ returns-clause-counts g c =
     counts_from c.settle_begun.result c.args.found c.begin.result (omega (arith, head.geometry.quantum)) head c.requires.found.ahead
     c.begin.ensures.runs
     c.begin.ensures.log c.requires.found.whole_a.1 c.begin.ensures.bound c.settle_begun.ensures.counts
+
+pub returns-clause-counted : goal.returns-clause-counted
+returns-clause-counted g c =
+    counted_first c.settle_begun.result c.begin.result (ap (λ (r : RunsState). r.quanta) c.begin.ensures.runs) c.settle_begun.ensures.counted

@@ -67,5 +67,10 @@ returns-in-Some-clause-counts g c =
     (subst (λ (s : Settled). CountsSettling c.in-Ok-open_tree.begun.runs.sizes c.in-Ok-open_tree.begun.runs.catalogue s old
     (g.D.Disk.state c.open_tree.new.disk)) (sym c.assemble.ensures.settled) c.in-Ok-open_tree.ensures.counts))
 
+pub returns-in-Some-clause-counted : goal.returns-in-Some-clause-counted
+returns-in-Some-clause-counted g c =
+    ap (λ (r : RunsState). r.quanta) c.assemble.ensures.runs ∙ c.in-Ok-open_tree.ensures.counted
+    ∙ ap (λ (s : Settled). s.quanta) (sym c.assemble.ensures.settled)
+
 pub returns-in-Some-clause-charge : goal.returns-in-Some-clause-charge
 returns-in-Some-clause-charge g c = charge_opened _ _ c.assemble.result.held c.assemble.ensures.opened

@@ -56,6 +56,7 @@ returns-clause-counts g c =
     let swap = swap g (goal.at.returns-clause-counts g c).After-swap_deep in
     let light = c.requires.may.begun.deep in
     record {
+      counted = λ small. c.in_ok-swap_deep.ensures.swaps.quanta ∙ c.in_ok-quanta.ensures.counted small;
       taken = left_for_deep c.args.runs.now.deep;
       takes = c.in_ok-quanta.ensures.counts;
       all = omega arith;

@@ -99,7 +99,7 @@ returns-clause-step g c =
 pub returns-clause-counts : goal.returns-clause-counts
 returns-clause-counts g c =
     pass_counts (swap g (goal.at.returns-clause-counts g c).After-swap_pass) c.in_ok-swap_pass.ensures.swaps c.in_ok-quanta.quanta
-    c.in_ok-quanta.ensures.counts
+    c.in_ok-quanta.ensures.counts c.in_ok-quanta.ensures.counted
 
 pub returns-clause-passed : goal.returns-clause-passed
 returns-clause-passed g c =

@@ -69,6 +69,11 @@ returns-clause-counts g c =
     (omega (arith, ap (λ (c : Component). c.weight) one.c1)) two.c1 two.step.on.may.begun.whole_a two.a two.b
     one.counts two.counts c.in_ok-second.ensures.counts
 
+pub returns-clause-counted : goal.returns-clause-counted
+returns-clause-counted g c = λ none.
+    let counts = returns-clause-counts g c in
+    omega (arith, none, counts.counted (omega (arith, none, overflow_add-quanta g c)))
+
 pub returns-clause-settled : goal.returns-clause-settled
 returns-clause-settled g c =
     let last = c.in_ok-second.ensures in

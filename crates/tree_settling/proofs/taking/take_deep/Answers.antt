@@ -1,7 +1,7 @@
 use Rattle.std.proofs.Common.{◌∙◌, ◌+◌, ◌/◌, Option, refl, arith}
 use Rattle.snow_merge.specs.Pass.{SnowState}
 use Rattle.tree_runs.specs.Runs.{left_for_deep, left_for_pass, made_by_pass}
-use Rattle.tree_settling.proofs.CountLemmas.{all_quanta, capacity_small, no_quantum, one_quantum}
+use Rattle.tree_settling.proofs.CountLemmas.{all_quanta, capacity_small, counted_then, no_quantum, one_quantum}
 use Rattle.tree_settling.proofs.TakenLemmas.{
   deep_bound,
   begun,
@@ -25,6 +25,7 @@ loop-runs-init g c = record {
   goes_on = begun (g.met.D.Disk.timed c.args.disk.now) c.requires.running;
   calls = calls_none c.args.runs.now.sizes (left_for_deep c.args.runs.now.deep) (g.D.Disk.state c.args.disk.now);
   quanta = no_quantum c.args.runs.now.sizes (left_for_deep c.args.runs.now.deep);
+  counted = λ small. omega arith;
 }
 
 pub loop-runs-smaller : goal.loop-runs-smaller
@@ -55,6 +56,9 @@ loop-runs-preserved g c =
           c.loop-runs.invariant.runs) took.1
           (deep_bound c.loop-runs.runs.deep c.deep_quantum.new.self.deep c.loop-runs.runs.sizes.quantum c.in_ok-deep_quantum.field-0
           c.in_ok-deep_quantum.ensures.takes) took.2;
+      counted =
+          counted_then c.loop-runs.quanta 1 c.args.runs.now c.loop-runs.runs c.deep_quantum.new.self c.loop-runs.invariant.counted
+          c.in_ok-deep_quantum.ensures.counted;
     }
 
 pub overflow_add-quanta : goal.overflow_add-quanta

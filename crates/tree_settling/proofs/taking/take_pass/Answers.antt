@@ -1,7 +1,7 @@
 use Rattle.std.proofs.Common.{◌∙◌, ◌+◌, ◌/◌, Option, refl, arith}
 use Rattle.deep_merge.specs.Merge.{DeepState}
 use Rattle.tree_runs.specs.Runs.{left_for_deep, left_for_pass, made_by_deep}
-use Rattle.tree_settling.proofs.CountLemmas.{all_quanta, capacity_small, no_quantum, one_quantum}
+use Rattle.tree_settling.proofs.CountLemmas.{all_quanta, capacity_small, counted_then, no_quantum, one_quantum}
 use Rattle.tree_settling.proofs.TakenLemmas.{
   pass_bound,
   begun,
@@ -25,6 +25,7 @@ loop-runs-init g c = record {
   goes_on = begun (g.met.D.Disk.timed c.args.disk.now) c.requires.running;
   calls = calls_none c.args.runs.now.sizes (left_for_pass c.args.runs.now.pass c.args.a.now.entries) (g.D.Disk.state c.args.disk.now);
   quanta = no_quantum c.args.runs.now.sizes (left_for_pass c.args.runs.now.pass c.args.a.now.entries);
+  counted = λ small. omega arith;
 }
 
 pub loop-runs-smaller : goal.loop-runs-smaller
@@ -56,6 +57,9 @@ loop-runs-preserved g c =
           c.loop-runs.invariant.runs) took.1
           (pass_bound c.loop-runs.runs.pass c.pass_quantum.new.self.pass c.args.a.now.entries c.loop-runs.runs.sizes.quantum
           c.in_ok-pass_quantum.field-0 c.in_ok-pass_quantum.ensures.takes) took.2;
+      counted =
+          counted_then c.loop-runs.quanta 1 c.args.runs.now c.loop-runs.runs c.pass_quantum.new.self c.loop-runs.invariant.counted
+          c.in_ok-pass_quantum.ensures.counted;
     }
 
 pub overflow_add-quanta : goal.overflow_add-quanta

@@ -1,6 +1,7 @@
 use Rattle.std.proofs.Common.{◌≡◌}
 use Rattle.std.specs.Prelude.{IsSome}
 use Rattle.tree_runs.specs.Runs.{left_for_pass}
+use Rattle.tree_runs.specs.Holding.{CountsMore}
 use Rattle.tree_settling.specs.Settling.{MergesGoOn}
 use Rattle.tree_settling.proofs.CountLemmas.{QuantaSoFar}
 use Rattle.tree_settling.proofs.TakenLemmas.{CallsSoFar}
@@ -13,6 +14,7 @@ invariant-loop-runs g l = record {
   goes_on : MergesGoOn l.a.entries l.fn.runs l.runs (g.D.Disk.state l.fn.disk) (g.D.Disk.state l.disk);
   calls : CallsSoFar l.fn.runs.sizes (left_for_pass l.fn.runs.pass l.a.entries) (left_for_pass l.runs.pass l.a.entries) (g.D.Disk.state l.fn.disk) (g.D.Disk.state l.disk);
   quanta : QuantaSoFar l.fn.runs.sizes (left_for_pass l.fn.runs.pass l.a.entries) (left_for_pass l.runs.pass l.a.entries) l.quanta;
+  counted : CountsMore l.quanta l.fn.runs l.runs;
 }
 
 abbrev pub decreases-loop-runs : goal.decreases-loop-runs

@@ -1,4 +1,5 @@
 use Rattle.std.proofs.Common.{rules, ◌≡◌, ◌/◌, ◌+◌, Option, Some, OnOk, ◌∙◌, ap, sym, subst, refl, arith}
+use Rattle.std.specs.Int.{from_bool}
 use Rattle.std.specs.Prelude.{List, slice_set}
 use Rattle.disk_trait.specs.Effects.{Affects}
 use Rattle.disk_trait.proofs.EffectLemmas.{affects_wider}
@@ -13,7 +14,7 @@ use Rattle.tree_runs.specs.Damage.{DeepMeetsDamage}
 use Rattle.tree_runs.specs.Writing.{region_of_deep}
 use Rattle.tree_runs.specs.Holding.{StandOver}
 use Rattle.tree_runs.proofs.GuideLemmas.{WritesGuide, guide_named, pages_within, writes_guide}
-use Rattle.tree_runs.proofs.QuantumLemmas.{DeepQuantum, deep_has_room, deep_light, deepened_is, deep_ran, deep_stands, deep_works, deep_stays}
+use Rattle.tree_runs.proofs.QuantumLemmas.{DeepQuantum, counted_one, deep_has_room, deep_light, deepened_is, deep_ran, deep_stands, deep_works, deep_stays}
 use Rattle.tree_runs.proofs.runs.Runs.deep_quantum.Goals as goal
 use Rattle.tree_runs.proofs.runs.Runs.deep_quantum.Goals.{After-pages-pages}
 
@@ -81,10 +82,13 @@ returns-clause-writes g c =
     (sym (deep_is g arm)) (quantum_is g arm).on.works.effect
 
 pub returns-clause-others : goal.returns-clause-others
-returns-clause-others g c = record { sizes = search rules; catalogue = search rules; tags = search rules; pass = search rules; takes = (works_are g c).takes; guides = (writes g c).others }
+returns-clause-others g c =
+    let arm = (goal.at.returns-clause-others g c).After-pages-pages in
+    record { sizes = search rules; catalogue = search rules; tags = search rules; pass = search rules; takes = (works_are g arm).takes; guides = (writes g arm).others }
 
 pub returns-clause-told : goal.returns-clause-told
 returns-clause-told g c =
+    let arm = (goal.at.returns-clause-told g c).After-pages-pages in
     let runs = c.args.self.now in
     let are = c.requires.running.in_order in
     let a = c.args.a.now.entries in
@@ -93,22 +97,27 @@ returns-clause-told g c =
     let after = c.quantum-taken.new.space in
     let next = c.quantum-taken.new.self in
     let timed = g.met.D.Disk.timed c.quantum-taken.new.disk in
-    let works = works_are g c in
+    let works = works_are g arm in
     let sizes : c.self.inside.geometry ≡ runs.sizes = search rules in
-    let is_new = deepened_is after (guides_after g c) next (returns-clause-others g c) refl refl refl in
+    let is_new = deepened_is after (guides_after g arm) c.saturating_add-self-inside.result next (returns-clause-others g c) refl refl refl refl in
     record {
-      stands = λ tree honest stand. deep_stays runs tree a (runs.sizes.quantum / 4 + 3) after c.in-Some.deep next.writer old new (deep_is g c) are c.pages-pages.ensures.shape (quantum_is g c).on.works honest timed stand;
+      stands = λ tree honest stand. deep_stays runs tree a (runs.sizes.quantum / 4 + 3) after c.in-Some.deep next.writer old new (deep_is g arm) are c.pages-pages.ensures.shape (quantum_is g arm).on.works honest timed stand;
       lists = λ tree honest stand other.
-          let stands = deep_stands runs after (guides_after g c) (guide_after g c) c.in-Some.deep next
-          c.quantum-taken.result old new (deep_is g c) are c.pages-pages.ensures.shape (writes g c) (quantum_is g c) timed tree a honest stand other in
+          let stands = deep_stands runs after (guides_after g arm) c.saturating_add-self-inside.result (guide_after g arm) c.in-Some.deep next
+          c.quantum-taken.result old new (deep_is g arm) are c.pages-pages.ensures.shape (writes g arm) (quantum_is g arm) timed tree a honest stand other in
           (stands.0, stands.1, subst (λ (r : RunsState). StandOver r tree a new) (sym is_new) stands.2, stands.3);
       running =
           subst (λ (r : RunsState). OnOk c.quantum-taken.result (AreRunning new.is_honest new.bytes r)) (sym is_new)
-          (deep_ran runs after (guides_after g c) (guide_after g c) c.in-Some.deep next
-          c.quantum-taken.result old new (deep_is g c) c.requires.running c.pages-pages.ensures.shape (writes g c) (quantum_is g c));
+          (deep_ran runs after (guides_after g arm) c.saturating_add-self-inside.result (guide_after g arm) c.in-Some.deep next
+          c.quantum-taken.result old new (deep_is g arm) c.requires.running c.pages-pages.ensures.shape (writes g arm) (quantum_is g arm));
       damaged = λ n is tells.
           subst (λ (r : RunsState). DeepMeetsDamage r.sizes r.deep n new.bytes) (sym is_new)
           (subst (λ (s : Sizes). DeepMeetsDamage s (Some next) n new.bytes) sizes (c.quantum-taken.ensures.numbers.damaged n is tells));
       effect = affects_wider (writes_beside runs.sizes runs.space after runs.tags.deep works.takes are.deep_unpinned) (omega arith) (omega arith) works.effect;
       faults = c.quantum-taken.ensures.numbers.faults;
     }
+
+pub returns-clause-counted : goal.returns-clause-counted
+returns-clause-counted g c =
+    counted_one c.quantum-taken.result c.from.result c.args.self.now.quanta c.saturating_add-self-inside.result (c.from.ensures ∙ ap from_bool c.is_ok.ensures.value)
+    (omega (arith, c.saturating_add-self-inside.ensures, ap (λ (s : RunsState). s.quanta) c.self.view_is))

@@ -1,4 +1,5 @@
 use Rattle.std.proofs.Common.{rules, ◌≡◌, ◌/◌, ◌+◌, Option, Some, OnOk, ◌∙◌, ap, sym, subst, refl, arith}
+use Rattle.std.specs.Int.{from_bool}
 use Rattle.std.specs.Prelude.{List, IfOk, slice_set}
 use Rattle.disk_trait.specs.Effects.{Affects}
 use Rattle.disk_trait.proofs.EffectLemmas.{affects_wider}
@@ -13,7 +14,7 @@ use Rattle.tree_runs.specs.Damage.{PassMeetsDamage}
 use Rattle.tree_runs.specs.Writing.{region_of_pass}
 use Rattle.tree_runs.specs.Holding.{PassTakes, StandOver}
 use Rattle.tree_runs.proofs.GuideLemmas.{WritesGuide, guide_named, pages_within, writes_guide}
-use Rattle.tree_runs.proofs.QuantumLemmas.{PassQuantum, pass_has_room, pass_light, passed_is, pass_ran, pass_stands, pass_works, pass_stays}
+use Rattle.tree_runs.proofs.QuantumLemmas.{PassQuantum, counted_one, pass_has_room, pass_light, passed_is, pass_ran, pass_stands, pass_works, pass_stays}
 use Rattle.tree_runs.proofs.runs.Runs.pass_quantum.Goals as goal
 use Rattle.tree_runs.proofs.runs.Runs.pass_quantum.Goals.{After-pages-pages}
 
@@ -81,7 +82,9 @@ returns-clause-writes g c =
     (sym (pass_is g arm)) (quantum_is g arm).on.works.effect
 
 pub returns-clause-others : goal.returns-clause-others
-returns-clause-others g c = record { sizes = search rules; catalogue = search rules; tags = search rules; deep = search rules; takes = (works_are g c).takes; guides = (writes g c).others }
+returns-clause-others g c =
+    let arm = (goal.at.returns-clause-others g c).After-pages-pages in
+    record { sizes = search rules; catalogue = search rules; tags = search rules; deep = search rules; takes = (works_are g arm).takes; guides = (writes g arm).others }
 
 pub returns-clause-takes : goal.returns-clause-takes
 returns-clause-takes g c =
@@ -94,6 +97,7 @@ returns-clause-takes g c =
 
 pub returns-clause-told : goal.returns-clause-told
 returns-clause-told g c =
+    let arm = (goal.at.returns-clause-told g c).After-pages-pages in
     let runs = c.args.self.now in
     let are = c.requires.running.in_order in
     let a = c.args.a.now.entries in
@@ -102,23 +106,28 @@ returns-clause-told g c =
     let after = c.quantum-taken.new.space in
     let next = c.quantum-taken.new.self in
     let timed = g.met.D.Disk.timed c.quantum-taken.new.disk in
-    let works = works_are g c in
-    let grows = (quantum_is g c).on.works in
+    let works = works_are g arm in
+    let grows = (quantum_is g arm).on.works in
     let sizes : c.self.inside.geometry ≡ runs.sizes = search rules in
-    let is_new = passed_is after (guides_after g c) next (returns-clause-others g c) refl refl refl in
+    let is_new = passed_is after (guides_after g arm) c.saturating_add-self-inside.result next (returns-clause-others g c) refl refl refl refl in
     record {
       stands = λ tree honest stand. pass_stays runs tree a (runs.sizes.quantum / 7 + 2) after old new are c.pages-pages.ensures.shape works honest timed stand;
       lists = λ tree honest stand other.
-          let stands = pass_stands runs after (guides_after g c) (guide_after g c) c.in-Some.snow next a
-          c.quantum-taken.result old new (pass_is g c) are c.pages-pages.ensures.shape (writes g c) (quantum_is g c) timed tree honest stand other in
+          let stands = pass_stands runs after (guides_after g arm) c.saturating_add-self-inside.result (guide_after g arm) c.in-Some.snow next a
+          c.quantum-taken.result old new (pass_is g arm) are c.pages-pages.ensures.shape (writes g arm) (quantum_is g arm) timed tree honest stand other in
           (stands.0, stands.1, subst (λ (r : RunsState). StandOver r tree a new) (sym is_new) stands.2, stands.3);
       running =
           subst (λ (r : RunsState). OnOk c.quantum-taken.result (AreRunning new.is_honest new.bytes r)) (sym is_new)
-          (pass_ran runs after (guides_after g c) (guide_after g c) c.in-Some.snow next a
-          c.quantum-taken.result old new (pass_is g c) c.requires.running c.pages-pages.ensures.shape (writes g c) (quantum_is g c));
+          (pass_ran runs after (guides_after g arm) c.saturating_add-self-inside.result (guide_after g arm) c.in-Some.snow next a
+          c.quantum-taken.result old new (pass_is g arm) c.requires.running c.pages-pages.ensures.shape (writes g arm) (quantum_is g arm));
       damaged = λ n is tells.
           subst (λ (r : RunsState). PassMeetsDamage r.sizes r.pass n new.bytes) (sym is_new)
           (subst (λ (s : Sizes). PassMeetsDamage s (Some next) n new.bytes) sizes (c.quantum-taken.ensures.numbers.damaged n is tells));
-      effect = affects_wider (grown_beside runs.sizes runs.space after c.in-Some.snow grows.takes (subst (PinsOfPass runs.space) (pass_is g c) are.open_unpinned)) (omega arith) (omega arith) grows.effect;
+      effect = affects_wider (grown_beside runs.sizes runs.space after c.in-Some.snow grows.takes (subst (PinsOfPass runs.space) (pass_is g arm) are.open_unpinned)) (omega arith) (omega arith) grows.effect;
       faults = c.quantum-taken.ensures.numbers.faults;
     }
+
+pub returns-clause-counted : goal.returns-clause-counted
+returns-clause-counted g c =
+    counted_one c.quantum-taken.result c.from.result c.args.self.now.quanta c.saturating_add-self-inside.result (c.from.ensures ∙ ap from_bool c.is_ok.ensures.value)
+    (omega (arith, c.saturating_add-self-inside.ensures, ap (λ (s : RunsState). s.quanta) c.self.view_is))
