@@ -79,7 +79,9 @@ impl Annals {
         self.room.rows[seat as usize] -= count;
     }
 
+    // An entry takes a kilobyte, and a call would copy it once more.
     /// Notes an entry whose reply gives no rows, as `note` does.
+    #[inline(always)]
     pub fn note_short(&mut self, seat: u32, op: Op, reply: ShortReply)
         requires { HasRoom self.old.room (record { seat = seat; op = op; reply = as_reply reply }) }
         ensures { self.new ≡ noted self.old (record { seat = seat; op = op; reply = as_reply reply }) }

@@ -45,12 +45,19 @@ impl Write {
     }
 }
 
-// What copies a tail or a swap stays a call: a function zeroes all its locals at entry, and their texts would be such of each copy.
+// What copies a tail, a new or a swap stays a call: a function zeroes all its locals at entry, and their texts would be such of each copy.
 #[inline(never)]
 fn tail_of(key: &Key, tail: &Text) -> Op
     ensures { result ≡ op.Tail key.now tail.now }
 {
     Op::Tail(key.copy(), tail.copy())
+}
+
+#[inline(never)]
+fn new_of(key: &Key, value: &Value) -> Op
+    ensures { result ≡ op.New key.now value.now }
+{
+    Op::New(key.copy(), value.copy())
 }
 
 #[inline(never)]
@@ -103,7 +110,7 @@ impl Op {
             Op::Add(key, count) => Op::Add(key.copy(), *count),
             Op::Tail(key, tail) => tail_of(key, tail),
             Op::Del(key) => Op::Del(key.copy()),
-            Op::New(key, value) => Op::New(key.copy(), value.copy()),
+            Op::New(key, value) => new_of(key, value),
             Op::Swap(key, count, value) => swap_of(key, *count, value),
             Op::Get(key) => Op::Get(key.copy()),
             Op::Hold(low, high) => Op::Hold(low.copy(), high.copy()),

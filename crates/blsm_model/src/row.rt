@@ -22,10 +22,13 @@ impl Value {
     pub fn copy(&self) -> Value
         ensures { result ≡ self.now }
     {
-        Value {
+        let mut value = Value {
             count: self.count,
-            text: self.text.copy(),
-        }
+            text: Text::empty(),
+        };
+        // Its text is copied to where it stays.
+        value.text.set(self.text.as_bytes());
+        value
     }
 }
 

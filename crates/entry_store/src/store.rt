@@ -121,27 +121,24 @@ fn bytes_of_text(rec: &Rec) -> &[u8]
     }
 }
 
-// The bytes of a key and its text, behind one another, and the head of the record, whose bytes begin at a chunk.
-fn packed(key: &Key, rec: &Rec, first: u32) -> (Head, ArrayVec<u8, MOST>)
-    ensures head { IsHeadOf result.0 key.now rec.now first }
-    ensures bytes { result.1.items ≡ key.now ++ text_in rec.now }
+// Puts the bytes of a key and its text into an empty list, behind one another, and gives the head of the record, whose bytes begin at a chunk.
+fn pack(key: &Key, rec: &Rec, first: u32, bytes: &mut ArrayVec<u8, MOST>) -> Head
+    requires { bytes.old.items ≡ [] }
+    ensures head { IsHeadOf result key.now rec.now first }
+    ensures bytes { bytes.new.items ≡ key.now ++ text_in rec.now }
     ensures in_range { IsRecord rec.now }
 {
-    let mut bytes = ArrayVec::new();
     let (kind, count, text_len) = sort_of(rec);
     let key_bytes = key.as_bytes();
     let _ = bytes.try_extend_from_slice(key_bytes);
     let _ = bytes.try_extend_from_slice(bytes_of_text(rec));
-    (
-        Head {
-            count,
-            first,
-            text_len: text_len as u16,
-            key_len: key_bytes.len() as u8,
-            kind,
-        },
-        bytes,
-    )
+    Head {
+        count,
+        first,
+        text_len: text_len as u16,
+        key_len: key_bytes.len() as u8,
+        kind,
+    }
 }
 
 // The record of a head and its bytes.
@@ -254,7 +251,8 @@ impl Store {
         ensures added { self.new ≡ record { slots = self.old.slots ++ (key.now, rec.now) ∷ []; reserved = self.old.reserved } }
         ensures in_range { IsRecord rec.now }
     {
-        let (head, bytes) = packed(key, rec, self.free);
+        let mut bytes = ArrayVec::new();
+        let head = pack(key, rec, self.free, &mut bytes);
         self.free = fill(&mut self.chunks, self.free, bytes.as_slice());
         match self.heads.push(head) {
             Ok(()) => {}
@@ -320,7 +318,8 @@ impl Store {
     {
         let older = self.heads[place as usize];
         give_back(&mut self.chunks, older.first, older.chunks(), self.free);
-        let (head, bytes) = packed(key, rec, older.first);
+        let mut bytes = ArrayVec::new();
+        let head = pack(key, rec, older.first, &mut bytes);
         self.free = fill(&mut self.chunks, older.first, bytes.as_slice());
         self.heads[place as usize] = head;
     }

@@ -1,6 +1,6 @@
 //! The least key of two runs.
-ghost use Rattle.std.specs.Prelude.{◌≡◌, ◌≤◌, ◌+◌, ◌*◌, IfSome, Some, None, length, option_map};
-ghost use Rattle.blsm_model.specs.Format.{least_weight, most_weight, overhead};
+ghost use Rattle.std.specs.Prelude.{◌≡◌, ◌≤◌, ◌+◌, ◌*◌, IfSome, Some, None, option_map};
+ghost use Rattle.blsm_model.specs.Format.{least_weight, most_weight};
 ghost use Rattle.merge_step.specs.Group.{least_of, group_of, group_at};
 ghost use Rattle.merge_step.specs.declared.group.Taken.TheVariants.{InRoom};
 ghost use Rattle.record_delta.specs.Folding.{fold as fold_of};
@@ -10,7 +10,7 @@ ghost use Rattle.record_delta.specs.declared.record.Rec.{Rec};
 ghost use Rattle.record_delta.specs.Records.{weight as weight_with};
 
 use blsm_model::Key;
-use record_delta::{Rec, Stream, fold, weight};
+use record_delta::{Rec, Stream, fold, fold_over, weight};
 use std::cmp::Ordering;
 
 /// The least key of two runs, the newer run's record folded over the older one's where both have it, and the weight of the records
@@ -88,21 +88,39 @@ fn lesser(key: &Key, rec: &Rec, other: &Key, below: &Rec, room: &mut Option<(Key
     }
 }
 
-// What holds a record stays a call: a function zeroes all its locals at entry, and most groups are one entry of the older input.
-// An entry that is taken alone, in the room.
+// Puts an entry into the room, over what stands there.
+fn put_in(key: &Key, rec: &Rec, room: &mut Option<(Key, Rec)>)
+    ensures { room.new ≡ Some (key.now, rec.now) }
+{
+    if let Some((same, kept)) = room {
+        same.set(key.as_bytes());
+        kept.set(rec);
+        return;
+    }
+    put_first(key, rec, room);
+}
+
+// What holds a record stays a call, as a function zeroes all its locals at entry.
+// The same where the room is empty.
 #[inline(never)]
+fn put_first(key: &Key, rec: &Rec, room: &mut Option<(Key, Rec)>)
+    ensures { room.new ≡ Some (key.now, rec.now) }
+{
+    *room = Some((key.copy(), rec.copy()));
+}
+
+// An entry that is taken alone, in the room.
 fn copied(key: &Key, rec: &Rec, room: &mut Option<(Key, Rec)>) -> Taken
     ensures group { result ≡ InRoom (weight_with key.now rec.now) }
     ensures room { room.new ≡ Some (key.now, rec.now) }
     ensures some { least_weight ≤ weight_with key.now rec.now }
     ensures light { weight_with key.now rec.now ≤ most_weight }
 {
-    *room = Some((key.copy(), rec.copy()));
+    put_in(key, rec, room);
     Taken::InRoom(weight(key, rec))
 }
 
 // Two entries of one key, in the room.
-#[inline(never)]
 fn folded(key: &Key, rec: &Rec, other: &Key, below: &Rec, room: &mut Option<(Key, Rec)>) -> Taken
     requires { key_cmp key.now other.now ≡ Ordering.Equal }
     ensures group { result ≡ InRoom (weight_with key.now rec.now + weight_with other.now below.now) }
@@ -112,20 +130,12 @@ fn folded(key: &Key, rec: &Rec, other: &Key, below: &Rec, room: &mut Option<(Key
     ensures light { weight_with key.now (fold_of rec.now below.now) ≤ weight_with key.now rec.now + weight_with other.now below.now }
     ensures grows { weight_with key.now rec.now ≤ weight_with key.now (fold_of rec.now below.now) }
 {
-    *room = Some((key.copy(), fold_lent(rec, below)));
-    Taken::InRoom(weight(key, rec) + weight(other, below))
-}
-
-// A newer record over an older one, which is copied only where the newer one is a change of it.
-fn fold_lent(rec: &Rec, below: &Rec) -> Rec
-    ensures folded { result ≡ fold_of rec.now below.now }
-    ensures lighter { (key : Key) → weight_with key result + (overhead + length key) ≤ weight_with key rec.now + weight_with key below.now }
-    ensures grows { (key : Key) → weight_with key rec.now ≤ weight_with key result }
-{
-    match rec {
-        Rec::Base(_) | Rec::Tomb => rec.copy(),
-        Rec::Delta(_) => fold(rec.copy(), below.copy()),
+    put_in(key, rec, room);
+    match room {
+        Some((_, kept)) => fold_over(kept, below),
+        None => unreachable!(),
     }
+    Taken::InRoom(weight(key, rec) + weight(other, below))
 }
 
 /// The group that lies there, lent, with its weight in bytes.

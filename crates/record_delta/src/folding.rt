@@ -13,6 +13,7 @@ ghost use Rattle.record_delta.specs.Folding.{fold as fold_of, record_at, kept_af
 use crate::Rec;
 use crate::kinds::{AddPart, Both, Fold, TailPart};
 use blsm_model::{Key, Value, Write};
+use std::mem::replace;
 
 /// One record that stands for both: what the newer one makes of the older one.
 pub fn fold(newer: Rec, older: Rec) -> Rec
@@ -26,21 +27,45 @@ pub fn fold(newer: Rec, older: Rec) -> Rec
     // Where the older one stood for writes, the folded one stands for those and the newer one's.
     ensures stands { (key : Key) (writes : List Write) → StandsFor (Some older) writes key → StandsFor (Some result) (writes ++ writes_of_record key newer) key }
 {
-    combined(newer, older)
+    combined(newer, &older)
 }
 
 // What the newer record makes of the older one, pair by pair.
-fn combined(newer: Rec, older: Rec) -> Rec
-    ensures record { result ≡ fold_of newer older }
+fn combined(newer: Rec, older: &Rec) -> Rec
+    ensures record { result ≡ fold_of newer older.now }
     ensures in_range { IsRecord newer }
 {
     match (newer, older) {
         (Rec::Base(value), _) => Rec::Base(value),
-        (Rec::Delta(change), Rec::Base(value)) => Rec::Base(change.onto(&value)),
-        (Rec::Delta(newer), Rec::Delta(older)) => Rec::Delta(newer.over(&older)),
+        (Rec::Delta(change), Rec::Base(value)) => Rec::Base(change.onto(value)),
+        (Rec::Delta(newer), Rec::Delta(older)) => Rec::Delta(newer.over(older)),
         (Rec::Delta(change), Rec::Tomb) => Rec::Base(alone(&change)),
         (Rec::Tomb, _) => Rec::Tomb,
     }
+}
+
+/// Folds a record over an older one, where it lies. A base and a tombstone stay, and nothing is copied for them.
+pub fn fold_over(newer: &mut Rec, older: &Rec)
+    ensures folded { newer.new ≡ fold_of newer.old older.now }
+    ensures lighter { (key : Key) → weight_with key newer.new + (overhead + length key) ≤ weight_with key newer.old + weight_with key older.now }
+    ensures grows { (key : Key) → weight_with key newer.old ≤ weight_with key newer.new }
+{
+    match newer {
+        Rec::Base(_) => {}
+        Rec::Delta(_) => fold_delta(newer, older),
+        Rec::Tomb => {}
+    }
+}
+
+// The same of a delta, which is made anew. It stays a call, as a function zeroes all its locals at entry.
+#[inline(never)]
+#[tactic(auto, using(crate::proofs::FoldingLemmas::fold_grows))]
+fn fold_delta(newer: &mut Rec, older: &Rec)
+    ensures folded { newer.new ≡ fold_of newer.old older.now }
+    ensures lighter { (key : Key) → weight_with key newer.new + (overhead + length key) ≤ weight_with key newer.old + weight_with key older.now }
+    ensures grows { (key : Key) → weight_with key newer.old ≤ weight_with key newer.new }
+{
+    *newer = combined(replace(newer, Rec::Tomb), older);
 }
 
 // The value of a key that had nothing before it was changed so.

@@ -8,7 +8,7 @@ mod kinds;
 mod record;
 mod stream;
 
-pub use folding::{fold, fold_writes, settle};
+pub use folding::{fold, fold_over, fold_writes, settle};
 pub use kinds::{AddPart, Both, Fold, OfCount, OfText, TailPart};
 pub use record::{Rec, weight};
 pub use stream::Stream;

@@ -48,6 +48,19 @@ impl Rec {
         }
     }
 
+    /// Becomes the same as another one. Where both are bases, or both deltas, it copies the bytes of the text and no more.
+    pub fn set(&mut self, other: &Rec)
+        ensures { self.new ≡ other.now }
+    {
+        match other {
+            Rec::Base(value) => self.set_base(value.count, value.text.as_bytes()),
+            Rec::Delta(change) => {
+                self.set_delta(change.count.amount(), change.text.text().as_bytes())
+            }
+            Rec::Tomb => *self = Rec::Tomb,
+        }
+    }
+
     /// Becomes a base of this count and text, of at most 435 bytes. Where it was one, it copies these bytes and no more.
     pub fn set_base(&mut self, count: u64, text: &[u8])
         requires { length text.now ≤ most_text }

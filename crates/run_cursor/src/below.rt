@@ -3,11 +3,12 @@ ghost use Rattle.std.specs.Prelude.{◌≡◌, ℕ, List, IfSome, IfNone};
 ghost use Rattle.std.specs.FinMap.{find as find_in};
 ghost use Rattle.blsm_model.specs.Keys.{key_cmp};
 ghost use Rattle.record_delta.specs.Entries.{Entries};
+ghost use Rattle.entry_codec.specs.Spelling.{BeginsWith};
 ghost use Rattle.page_file.specs.Entry.{entries_bytes, AreEntries, AreRising};
 ghost use Rattle.run_cursor.specs.Below.{BeginsBelow, NoneBelow};
 
-use blsm_model::Key;
-use entry_codec::{decode, peek_key};
+use blsm_model::{Key, Text, Value};
+use entry_codec::{peek_key, read_over};
 use record_delta::Rec;
 
 // The length in bytes of the entry at the front, and the bytes behind it, if its key is below this one.
@@ -25,6 +26,20 @@ fn first_below<'a>(bytes: &'a [u8], key: &[u8]) -> Option<(usize, &'a [u8])>
     }
 }
 
+// The record of the entry at the front, whose key is this one. It is read over an empty base, since most are bases.
+fn read_record(bytes: &[u8], key: &Key) -> Rec
+    requires { (front : Key) × (rec : Rec) × BeginsWith bytes.now front rec }
+    ensures { (front : Key) (rec : Rec) → BeginsWith bytes.now front rec → result ≡ rec }
+{
+    let mut same = key.copy();
+    let mut rec = Rec::Base(Value {
+        count: 0,
+        text: Text::empty(),
+    });
+    read_over(bytes, &mut same, &mut rec);
+    rec
+}
+
 /// The record of a key among entries whose keys rise, if one of them has it.
 pub fn record_among(bytes: &[u8], key: &Key) -> Option<Rec>
     ensures { (entries : Entries) → AreEntries entries → AreRising entries → bytes.now ≡ entries_bytes entries → result ≡ find_in key_cmp key.now entries }
@@ -33,9 +48,9 @@ pub fn record_among(bytes: &[u8], key: &Key) -> Option<Rec>
     while let Some((_, behind)) = first_below(rest, key.as_bytes()) {
         rest = behind;
     }
-    let (found, rec, _) = decode(rest)?;
-    if key.cmp(&found).is_eq() {
-        Some(rec)
+    let (found, _) = peek_key(rest)?;
+    if key.as_bytes().cmp(&found).is_eq() {
+        Some(read_record(rest, key))
     } else {
         None
     }

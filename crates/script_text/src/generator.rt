@@ -84,7 +84,8 @@ fn push_put(lines: &mut Vec<Line>, key: Key, count: u64, place: u64, size: usize
     ensures lines { lines.new.items ≡ lines.old.items ++ record { seat = 0; op = Put key (record { count = count; text = text_at place size }) } ∷ [] }
     ensures capacity { vec_capacity lines.new ≡ vec_capacity lines.old }
 {
-    let text = make_text(place, size);
+    let mut text = Text::empty();
+    fill_text(&mut text, place, size);
     push(lines, Op::Put(key, Value { count, text }));
 }
 
@@ -123,15 +124,14 @@ fn make_key(place: u64) -> Key
     }
 }
 
-fn make_text(place: u64, size: usize) -> Text
+// Makes a text the one of a place that has this size.
+fn fill_text(text: &mut Text, place: u64, size: usize)
     requires { size ≤ longest_made }
-    ensures { result ≡ text_at place size }
+    ensures { text.new ≡ text_at place size }
 {
     let letter = b'a' + (place % 26) as u8;
     let bytes = [letter; MOST_TEXT];
-    let mut text = Text::empty();
     text.set(&bytes[..size]);
-    text
 }
 
 /// Makes the script of a seed: so many commands of the first caller, at most 65,536, on 1,500 keys. `NoMemory` where

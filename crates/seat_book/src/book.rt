@@ -263,7 +263,9 @@ impl SeatBook {
         self.annals
     }
 
+    // An entry takes a kilobyte, and a call would copy it once more.
     /// Notes an entry whose reply gives no rows.
+    #[inline(always)]
     pub fn note(&mut self, seat: u32, op: Op, reply: ShortReply)
         requires { HasRoom self.old.book.room (record { seat = seat; op = op; reply = as_reply reply }) }
         ensures { self.new ≡ noted_in seat op (as_reply reply) self.old }

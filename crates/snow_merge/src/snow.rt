@@ -4,7 +4,7 @@ ghost use Rattle.std.specs.List.{Contains};
 ghost use Rattle.blsm_model.specs.Components.{empty_component};
 ghost use Rattle.blsm_model.specs.declared.key.Key.{Key};
 ghost use Rattle.blsm_model.specs.Keys.{key_cmp};
-ghost use Rattle.blsm_model.specs.Format.{least_weight, most_weight, overhead};
+ghost use Rattle.blsm_model.specs.Format.{least_weight, most_weight};
 ghost use Rattle.blsm_model.specs.Sizes.{Sizes};
 ghost use Rattle.blsm_model.specs.Geometry.{page_count, file_length};
 ghost use Rattle.bloom_bits.specs.BitSet.{BitState, cleared};
@@ -33,7 +33,7 @@ use merge_ends::{Merge, Newer};
 use merge_step::{Taken, least_of_lent};
 use page_file::Broken;
 use page_space::{Role, Space};
-use record_delta::{Rec, fold, weight};
+use record_delta::{Rec, fold_over, weight};
 use refusal::Failed;
 use run_cursor::Cursor;
 use std::cmp::Ordering;
@@ -141,29 +141,6 @@ fn folded(first: &LentEntry, key: &Key, below: &Rec, room: &mut Option<(Key, Rec
         }
         None => unreachable!(),
     }
-}
-
-// Folds a record over an older one, where it lies. A base and a tombstone stay, and nothing is copied for them.
-fn fold_over(rec: &mut Rec, below: &Rec)
-    ensures folded { rec.new ≡ fold_of rec.old below.now }
-    ensures lighter { (key : Key) → weight_with key rec.new + (overhead + length key) ≤ weight_with key rec.old + weight_with key below.now }
-    ensures grows { (key : Key) → weight_with key rec.old ≤ weight_with key rec.new }
-{
-    match rec {
-        Rec::Base(_) => {}
-        Rec::Delta(_) => fold_delta(rec, below),
-        Rec::Tomb => {}
-    }
-}
-
-// The same of a delta, which is made anew.
-#[inline(never)]
-fn fold_delta(rec: &mut Rec, below: &Rec)
-    ensures folded { rec.new ≡ fold_of rec.old below.now }
-    ensures lighter { (key : Key) → weight_with key rec.new + (overhead + length key) ≤ weight_with key rec.old + weight_with key below.now }
-    ensures grows { (key : Key) → weight_with key rec.old ≤ weight_with key rec.new }
-{
-    *rec = fold(rec.copy(), below.copy());
 }
 
 impl Newer for InMemory<'_> {

@@ -68,8 +68,7 @@ fn append_to<D: Disk>(
     Ok(())
 }
 
-// A record over an older one, if there are both. It stays a call, as a function zeroes all its locals at entry, and table B seldom has the key.
-#[inline(never)]
+// A record over an older one, if there are both.
 fn over(newer: Option<Rec>, older: Option<Rec>) -> Option<Rec>
     ensures { result ≡ over_any newer older }
 {
@@ -148,11 +147,18 @@ impl LoggedTables {
     pub fn get(&self, key: &Key) -> Option<Rec>
         ensures { result ≡ over_any (record_of_key key.now self.now.b.entries) (record_of_key key.now self.now.a.entries) }
     {
-        let newer = self.b.get(key);
-        if newer.is_none() {
+        if self.b.place_of(key).is_none() {
             return self.a.get(key);
         }
-        over(newer, self.a.get(key))
+        self.get_over(key)
+    }
+
+    // The same where table B has one. It stays a call, as a function zeroes all its locals at entry, and table B seldom has the key.
+    #[inline(never)]
+    fn get_over(&self, key: &Key) -> Option<Rec>
+        ensures { result ≡ over_any (record_of_key key.now self.now.b.entries) (record_of_key key.now self.now.a.entries) }
+    {
+        over(self.b.get(key), self.a.get(key))
     }
 
     /// Takes a write: ahead of the pass to lane A and then to table A, else to lane B and then to table B. What goes to table A is above what

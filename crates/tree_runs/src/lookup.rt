@@ -2,7 +2,6 @@
 ghost use Rattle.std.specs.Prelude.{◌≡◌, ◌≢◌, ◌+◌, ◌↔◌, ℕ, List, Some, Ok, Err, length, IsTrue, IfOk};
 ghost use Rattle.blsm_model.specs.Geometry.{file_length};
 ghost use Rattle.record_delta.specs.Entries.{over_any, record_of_key};
-ghost use Rattle.record_delta.specs.Folding.{over};
 ghost use Rattle.page_space.specs.Space.{role_count};
 ghost use Rattle.page_file.specs.Component.{RunPage, ReadsAs, entries_of};
 ghost use Rattle.page_file.specs.File.{Reads};
@@ -17,16 +16,8 @@ use blsm_model::{Component, Key};
 use disk_trait::Disk;
 use page_file::Broken;
 use page_space::Role;
-use record_delta::{Rec, fold};
+use record_delta::{Rec, fold_over};
 use run_cursor::find;
-
-// A record over an older one. It stays a call, as a function zeroes all its locals at entry, and most lookups have nothing to fold.
-#[inline(never)]
-fn fold_over(newer: &mut Rec, older: Rec)
-    ensures { newer.new ≡ over newer.old (Some older) }
-{
-    *newer = fold(newer.copy(), older);
-}
 
 // What was found so far over an older record.
 #[inline(never)]
@@ -34,7 +25,7 @@ fn put_under(found: &mut Option<Rec>, older: Rec)
     ensures { found.new ≡ over_any found.old (Some older) }
 {
     match found {
-        Some(newer) => fold_over(newer, older),
+        Some(newer) => fold_over(newer, &older),
         None => *found = Some(older),
     }
 }

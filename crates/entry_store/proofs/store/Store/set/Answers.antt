@@ -36,10 +36,10 @@ lent_is : (c : After-as_slice) → take c.self.inside.chunks.len (c.give_back.ne
 lent_is c back = rw (c.deref_mut-2.ensures.value, back, c.give_back.ensures, c.deref_mut.ensures.value, c.chunks.ensures) refl
 
 bytes_are : (c : After-as_slice) → c.as_slice.result.now ≡ c.args.key.now ++ text_in c.args.rec.now
-bytes_are c = c.as_slice.ensures.value ∙ c.packed-bytes.ensures.bytes
+bytes_are c = c.as_slice.ensures.value ∙ c.pack-head.ensures.bytes
 
-count : (c : After-as_slice) → length c.as_slice.result.now ≡ len_of c.packed-bytes.result.0
-count c = ap length (bytes_are c) ∙ packed_len c.packed-bytes.result.0 c.args.key.now c.args.rec.now c.index.result.now.first c.packed-bytes.ensures.head
+count : (c : After-as_slice) → length c.as_slice.result.now ≡ len_of c.pack-head.result
+count c = ap length (bytes_are c) ∙ packed_len c.pack-head.result c.args.key.now c.args.rec.now c.index.result.now.first c.pack-head.ensures.head
 
 pub fill-self-inside-requires : goal.fill-self-inside-requires
 fill-self-inside-requires c =
@@ -47,16 +47,16 @@ fill-self-inside-requires c =
     let b = (goal.at.fill-self-inside-requires c).After-as_slice in
     rw (lent_is b (mid_back (goal.at.fill-self-inside-requires c).After-give_back), count b)
     (record {
-      inside = set_inside c.self.inside.chunks.items c.self.inside.heads.items c.self.inside.free _ _ c.self.invariant c.index.result.now c.args.place (size_of c.index.result.now - 1) (inside i) c.index.ensures (size_is i) c.args.key.now c.args.rec.now c.packed-bytes.result.0 c.packed-bytes.ensures.head (fits i);
-      apart = set_apart c.self.inside.chunks.items c.self.inside.heads.items c.self.inside.free _ _ c.self.invariant c.index.result.now c.args.place (size_of c.index.result.now - 1) (inside i) c.index.ensures (size_is i) c.args.key.now c.args.rec.now c.packed-bytes.result.0 c.packed-bytes.ensures.head (fits i);
+      inside = set_inside c.self.inside.chunks.items c.self.inside.heads.items c.self.inside.free _ _ c.self.invariant c.index.result.now c.args.place (size_of c.index.result.now - 1) (inside i) c.index.ensures (size_is i) c.args.key.now c.args.rec.now c.pack-head.result c.pack-head.ensures.head (fits i);
+      apart = set_apart c.self.inside.chunks.items c.self.inside.heads.items c.self.inside.free _ _ c.self.invariant c.index.result.now c.args.place (size_of c.index.result.now - 1) (inside i) c.index.ensures (size_is i) c.args.key.now c.args.rec.now c.pack-head.result c.pack-head.ensures.head (fits i);
       full = set_full c.self.inside.chunks.items c.self.inside.heads.items c.self.inside.free _ _ c.self.invariant c.index.result.now c.args.place (size_of c.index.result.now - 1) (inside i) c.index.ensures (size_is i);
     })
 
 done : (c : After-fill-self-inside) (cs : List Chunk) → c.deref_mut-2.result.now ≡ cs → c.as_slice.result.now ≡ c.args.key.now ++ text_in c.args.rec.now
-    → IsFilled cs c.fill-self-inside.new.chunks c.index.result.now.first (len_of c.packed-bytes.result.0) (c.args.key.now ++ text_in c.args.rec.now) c.fill-self-inside.result
+    → IsFilled cs c.fill-self-inside.new.chunks c.index.result.now.first (len_of c.pack-head.result) (c.args.key.now ++ text_in c.args.rec.now) c.fill-self-inside.result
 done c cs lent bytes_is =
     let f = c.fill-self-inside.ensures in
-    filled cs c.deref_mut-2.result.now _ _ _ _ _ c.as_slice.result.now _ c.packed-bytes.ensures.head
+    filled cs c.deref_mut-2.result.now _ _ _ _ _ c.as_slice.result.now _ c.pack-head.ensures.head
     (record { links = f.links; others = f.others; text = f.text; next = f.next; full = f.full; len = c.fill-self-inside.auto.chunks }) lent bytes_is
 
 back : (c : After-fill-self-inside) → take c.self.inside.chunks.len (c.give_back.new.chunks ++ drop (length c.give_back.new.chunks) c.self.inside.chunks.items) ≡ c.give_back.new.chunks
@@ -72,7 +72,7 @@ invariant_of-self c =
     let mid = mid_back (goal.at.invariant_of-self c).After-give_back in
     let d = (goal.at.invariant_of-self c).After-fill-self-inside in
     let f = done d _ (lent_is b mid) (bytes_are b) in
-    rw (back d mid, f.next) (store_changed c.self.inside.chunks.items c.self.inside.heads.items c.self.inside.free _ _ c.self.invariant c.index.result.now c.args.place (size_of c.index.result.now - 1) (inside i) c.index.ensures (size_is i) c.args.key.now c.args.rec.now c.packed-bytes.result.0 c.packed-bytes.ensures.head (fits i) c.fill-self-inside.new.chunks _ f)
+    rw (back d mid, f.next) (store_changed c.self.inside.chunks.items c.self.inside.heads.items c.self.inside.free _ _ c.self.invariant c.index.result.now c.args.place (size_of c.index.result.now - 1) (inside i) c.index.ensures (size_is i) c.args.key.now c.args.rec.now c.pack-head.result c.pack-head.ensures.head (fits i) c.fill-self-inside.new.chunks _ f)
 
 pub returns : goal.returns
 returns c =
@@ -82,4 +82,4 @@ returns c =
     let d = (goal.at.returns c).After-fill-self-inside in
     rw (← c.self.view_is, back d mid)
     (ap (λ (es : Entries). record { slots = es; reserved = c.self.inside.reserved })
-    (entries_changed c.self.inside.chunks.items c.self.inside.heads.items c.self.inside.free _ _ c.self.invariant c.index.result.now c.args.place (size_of c.index.result.now - 1) (inside i) c.index.ensures (size_is i) c.args.key.now c.args.rec.now c.packed-bytes.result.0 c.packed-bytes.ensures.head (fits i) c.fill-self-inside.new.chunks _ (done d _ (lent_is b mid) (bytes_are b))))
+    (entries_changed c.self.inside.chunks.items c.self.inside.heads.items c.self.inside.free _ _ c.self.invariant c.index.result.now c.args.place (size_of c.index.result.now - 1) (inside i) c.index.ensures (size_is i) c.args.key.now c.args.rec.now c.pack-head.result c.pack-head.ensures.head (fits i) c.fill-self-inside.new.chunks _ (done d _ (lent_is b mid) (bytes_are b))))

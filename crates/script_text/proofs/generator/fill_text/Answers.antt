@@ -1,7 +1,7 @@
 use Rattle.std.proofs.Common.{◌+◌, ◌%◌, ◌∙◌, arith}
 use Rattle.std.proofs.lemmas.List.{take-replicate}
 use Rattle.script_text.specs.Generated.{text_at}
-use Rattle.script_text.proofs.generator.make_text.Goals as goal
+use Rattle.script_text.proofs.generator.fill_text.Goals as goal
 
 pub returns : goal.returns
 unfolding text_at
