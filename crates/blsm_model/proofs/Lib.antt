@@ -16,6 +16,7 @@ pub mod HistoryLemmas
 pub mod HoldLemmas
 pub mod LegalLemmas
 pub mod PlainLemmas
+pub mod PackLemmas
 pub mod ScriptLemmas
 pub mod RowLemmas
 pub mod GeometryLemmas

@@ -28,6 +28,14 @@ least_weight = 14
 abbrev pub most_weight : ℕ
 most_weight = 512
 
+-- a batch has two writes at least
+abbrev pub most_writes : ℕ
+most_writes = 32
+
+-- how much the writes of a batch weigh together
+abbrev pub most_pack : ℕ
+most_pack = 1024
+
 -- how many rows one reply gives
 abbrev pub most_rows : ℕ
 most_rows = 32

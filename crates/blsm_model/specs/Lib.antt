@@ -5,6 +5,7 @@ pub mod Values
 pub mod Rows
 pub mod Histories
 pub mod Legal
+pub mod Packs
 pub mod Images
 pub mod Scripts
 pub mod Sizes

@@ -9,6 +9,8 @@ mod geometries;
 #[cfg(test)]
 mod model;
 #[cfg(test)]
+mod packs;
+#[cfg(test)]
 mod samples;
 #[cfg(test)]
 mod scripts;
