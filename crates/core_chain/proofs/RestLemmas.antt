@@ -1,5 +1,5 @@
 -- On an honest disk: which steps call no disk.
-use Rattle.std.proofs.Common.{◌≡◌, ◌∙◌, ℕ, ◌+◌, ◌<◌, Bool, true, false, not, ◌&&◌, ◌||◌, None, Some, refl, ap, sym, subst, arith}
+use Rattle.std.proofs.Common.{◌≡◌, ◌∙◌, ℕ, ◌+◌, ◌<◌, Bool, true, false, not, ◌&&◌, ◌||◌, cond, None, Some, refl, ap, sym, subst, arith}
 use Rattle.std.proofs.lemmas.Grind.{common_steps}
 use Rattle.std.proofs.lemmas.Bool.Decides.{nat_tests}
 use Rattle.std.proofs.lemmas.Bool.{false≢true, ltb-true}
@@ -20,10 +20,11 @@ use Rattle.disk_trait.specs.Disk.{DiskState}
 use Rattle.gear_sched.specs.Gears.{first_debt, second_debt, plan_for}
 use Rattle.gear_sched.specs.declared.Plan.{Plan}
 use Rattle.gear_sched.specs.declared.Plan.TheVariants.{Nothing}
-use Rattle.record_delta.specs.Entries.{Entries, over_any, record_of_key}
+use Rattle.record_delta.specs.Entries.{Entries, is_above, over_any, record_of_key, replayed}
 use Rattle.record_delta.specs.declared.record.Rec.{Rec}
 use Rattle.record_delta.specs.declared.record.Rec.TheVariants.{Base, Delta, Tomb}
 use Rattle.seat_book.specs.State.{BookState}
+use Rattle.tree_machine.proofs.CursorLemmas.{find-ahead}
 use Rattle.tree_machine.specs.Lists.{Lists}
 use Rattle.tree_machine.specs.Machine as machine
 use Rattle.tree_machine.specs.Machine.{Machine, Turned, charge, held_by, is_closed, owes}
@@ -52,7 +53,6 @@ use Rattle.core_pace.specs.Turns.{move_in}
 use Rattle.core_lists.specs.Steps.{choice_of}
 use Rattle.core_lists.proofs.StepLands.{choices_agree}
 use Rattle.core_lists.proofs.Terms.{chosen_by}
-use Rattle.core_lists.proofs.WeighLemmas.{table_a}
 use Rattle.tree_core.specs.Answers.{answer_to_pay, newest_in, reply_to_next}
 use Rattle.tree_core.specs.Calls.{Admits, Helps, IsCall, Looks, Pays, ReadsOn, TurnsOnce}
 use Rattle.tree_core.specs.Causes.{PaysNone, ScansNone, TurnsNone}
@@ -213,36 +213,45 @@ module _ {D : Type 0} (state : D → DiskState) (opening : List (Key × Value)) 
   kind_quiet kind.Leave call none = call.untouched
 
   -- the memory table has what hides all that is older
-  newest_hides : (key : Key) → is_in_memory m.lists (kind.Look (op.Get key)) ≡ true → HidesOlder (newest_in key old.held)
+  newest_hides : (key : Key) → is_in_memory old.held.log.a.floor m.lists (kind.Look (op.Get key)) ≡ true → HidesOlder (newest_in key old.held)
   newest_hides key found =
       let holds = (whole.runs runs).holds in
+      let list = replayed (whole.runs runs).tree.lane_a in
+      let floor = old.held.log.a.floor in
       let b = ap (λ (l : Lists). l.b) holds.lists ∙ sym holds.of_log.b in
-      let a = table_a old.held (whole.runs runs).tree m holds (keeps.holds.live runs).paced.one in
+      let a : cond (is_above floor key) (record_of_key key m.lists.a) None ≡ record_of_key key old.held.log.a.entries =
+      ap (λ (l : Lists). cond (is_above floor key) (record_of_key key l.a) None) holds.lists
+      ∙ sym (find-ahead floor list key) ∙ sym (ap (record_of_key key) holds.of_log.a.entries) in
       subst (λ (es : Entries). HidesOlder (over_any (record_of_key key es) (record_of_key key old.held.log.a.entries))) b
-      (subst (λ (es : Entries). HidesOlder (over_any (record_of_key key m.lists.b) (record_of_key key es))) a (hides (over_any (record_of_key key m.lists.b) (record_of_key key m.lists.a)) found))
+      (subst (λ (r : Option Rec). HidesOlder (over_any (record_of_key key m.lists.b) r)) a
+      (hides (over_any (record_of_key key m.lists.b) (cond (is_above floor key) (record_of_key key m.lists.a) None)) found))
 
-  look_quiet : (op : Op) (r : Reply) → Looks state seat op r old new → is_in_memory m.lists (kind.Look op) ≡ true → new.disk ≡ old.disk
+  look_quiet : (op : Op) (r : Reply) → Looks state seat op r old new → is_in_memory old.held.log.a.floor m.lists (kind.Look op) ≡ true
+      → new.disk ≡ old.disk
   look_quiet (op.Get key) r call found = call.call.2.hidden (newest_hides key found)
   look_quiet op r call found = absurd (false≢true found)
 
-  memory_quiet : (k : Kind) → IsCall state seat k old new → is_in_memory m.lists k ≡ true → new.disk ≡ old.disk
+  memory_quiet : (k : Kind) → IsCall state seat k old new → is_in_memory old.held.log.a.floor m.lists k ≡ true → new.disk ≡ old.disk
   memory_quiet (kind.Look op) call found = look_quiet op call.0 call.1 found
   memory_quiet k call found = absurd (false≢true found)
 
-  running_quiet : (k : Kind) → IsCall state seat k old new → (calls m seat k && not (is_in_memory m.lists k)) ≡ false → new.disk ≡ old.disk
+  running_quiet : (k : Kind) → IsCall state seat k old new → (calls m seat k && not (is_in_memory old.held.log.a.floor m.lists k)) ≡ false
+      → new.disk ≡ old.disk
   running_quiet k call none = by (calls m seat k) refl
     where
       by : (b : Bool) → calls m seat k ≡ b → new.disk ≡ old.disk
       by false is = kind_quiet k call is
-      by true is = memory_quiet k call (flipped (is_in_memory m.lists k) (sym (ap (λ (b : Bool). b && not (is_in_memory m.lists k)) is) ∙ none))
+      by true is = memory_quiet k call (flipped (is_in_memory old.held.log.a.floor m.lists k)
+          (sym (ap (λ (b : Bool). b && not (is_in_memory old.held.log.a.floor m.lists k)) is) ∙ none))
 
 -- A step that calls no disk by the machine's word leaves it.
 pub link_quiet : {D : Type 0} (state : D → DiskState) (opening : List (Key × Value)) (seat : ℕ) (k : Kind) (old new : CoreState D) (m : Machine) → IsCall state seat k old new → IsCore old.held (state old.disk) → IsTrue (state old.disk).is_honest
-    → StandsWhole state opening old m → calls_at m seat k ≡ false → new.disk ≡ old.disk
+    → StandsWhole state opening old m → calls_at old.held.log.a.floor m seat k ≡ false → new.disk ≡ old.disk
 link_quiet {D} state opening seat k old new m call keeps honest whole none = by old.held.book.stopped refl
   where
     by : (o : Option Why) → old.held.book.stopped ≡ o → new.disk ≡ old.disk
     by (Some why) is = link_rests state seat k old new call (subst (λ (o : Option Why). IsSome o) (sym is) refl)
     by None runs =
         let ran : m.stopped ≡ None = ap (λ (b : BookState). b.stopped) whole.book ∙ runs in
-        running_quiet state opening seat old new m keeps honest whole runs k call (sym (ap (λ (o : Option Why). not (is_some o) && (calls m seat k && not (is_in_memory m.lists k))) ran) ∙ none)
+        running_quiet state opening seat old new m keeps honest whole runs k call
+            (sym (ap (λ (o : Option Why). not (is_some o) && (calls m seat k && not (is_in_memory old.held.log.a.floor m.lists k))) ran) ∙ none)

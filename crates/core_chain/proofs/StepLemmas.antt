@@ -31,7 +31,8 @@ use Rattle.tree_core.specs.Holds.{StandsWhole}
 use Rattle.tree_core.specs.Steps.{IsPlayed, IsWholeStep}
 use Rattle.tree_core.proofs.BegunLemmas.{due_agree}
 use Rattle.tree_core.proofs.PlayLemmas.{history_grows, may_agrees, none_is_played, prefix_length}
-use Rattle.core_chain.specs.Steps.{Acknowledges, AllMay, AreTimed, ChainIsSteps, HasOwnSync, after_steps, calls_at, clock_after, most_calls_at, noted_after, outcomes_in}
+use Rattle.core_chain.specs.Steps.{Acknowledges, AllMay, AreTimed, ChainIsSteps, HasOwnSync, after_steps, calls_at, clock_after, floors_in}
+use Rattle.core_chain.specs.Steps.{most_calls_at, noted_after, outcomes_in}
 use Rattle.core_chain.specs.Tells.{calls_of}
 use Rattle.core_chain.proofs.LinkLemmas.{goes_of, link_keeps, link_rests}
 use Rattle.core_chain.proofs.RestLemmas.{link_quiet}
@@ -53,10 +54,11 @@ calls_of_kind {D} state opening seat k old new m call keeps honest whole =
 
 -- and not at all where it calls none
 few_calls : {D : Type 0} (state : D → DiskState) (opening : List (Key × Value)) (seat : ℕ) (k : Kind) (old new : CoreState D) (m : Machine) → IsCall state seat k old new → IsCore old.held (state old.disk) → IsTrue (state old.disk).is_honest
-    → StandsWhole state opening old m → (state new.disk).clock ≤ (state old.disk).clock + most_calls_at m seat k
-few_calls {D} state opening seat k old new m call keeps honest whole = by (calls_at m seat k) refl
+    → StandsWhole state opening old m → (state new.disk).clock ≤ (state old.disk).clock + most_calls_at old.held.log.a.floor m seat k
+few_calls {D} state opening seat k old new m call keeps honest whole = by (calls_at old.held.log.a.floor m seat k) refl
   where
-    by : (b : Bool) → calls_at m seat k ≡ b → (state new.disk).clock ≤ (state old.disk).clock + most_calls_at m seat k
+    by : (b : Bool) → calls_at old.held.log.a.floor m seat k ≡ b → (state new.disk).clock ≤ (state old.disk).clock + most_calls_at
+        old.held.log.a.floor m seat k
     by true is = subst (λ (n : ℕ). (state new.disk).clock ≤ (state old.disk).clock + n) (sym (ap (λ (b : Bool). cond b (calls_of m.gears.sizes (swaps_due m) k) 0) is)) (calls_of_kind state opening seat k old new m call keeps honest whole)
     by false is =
         subst (λ (n : ℕ). (state new.disk).clock ≤ (state old.disk).clock + n) (sym (ap (λ (b : Bool). cond b (calls_of m.gears.sizes (swaps_due m) k) 0) is))
@@ -107,7 +109,9 @@ module _ {D : Type 0} (state : D → DiskState) (opening : List (Key × Value)) 
 
 -- one call, and then the others
 module _ {D : Type 0} (state : D → DiskState) (opening : List (Key × Value)) (first : Step × CoreState D) (calls : List (Step × CoreState D)) (start end : CoreState D) (m : Machine) (timed : IsTimed (state end.disk))
-    (rises : (state start.disk).clock ≤ (state first.1.disk).clock) (few : (state first.1.disk).clock ≤ (state start.disk).clock + most_calls_at m first.0.seat first.0.kind) (faults : (state start.disk).faults ≤ (state first.1.disk).faults)
+    (rises : (state start.disk).clock ≤ (state first.1.disk).clock)
+    (few : (state first.1.disk).clock ≤ (state start.disk).clock + most_calls_at start.held.log.a.floor m first.0.seat first.0.kind)
+    (faults : (state start.disk).faults ≤ (state first.1.disk).faults)
     (book : m.book.entries ≡ start.held.book.book.entries)
     (ends : (e : Entry) → first.1.held.book.book.entries ≡ start.held.book.book.entries ++ e ∷ [] → is_write e.op ≡ true → e.reply ≡ Done
     → HasOwnSync (pages_first e.op) (swaps_due m) (state start.disk).clock (state first.1.disk).clock (state end.disk))
@@ -186,7 +190,8 @@ module _ {D : Type 0} (state : D → DiskState) (opening : List (Key × Value)) 
     made = made;
     steps_are = ap (λ (xs : List Step). first.0 ∷ xs) rest.steps_are;
     clocks_are = ap (λ (xs : List ℕ). (state first.1.disk).clock ∷ xs) rest.clocks_are;
-    timed = (rises, few, subst (λ (x : Machine). AreTimed x (state first.1.disk).clock rest.made (state end.disk).clock) (sym played_is) rest.timed);
+    timed = (rises, few, subst (λ (x : Machine). AreTimed x (floors_in first.1 calls) (state first.1.disk).clock rest.made (state end.disk).clock)
+        (sym played_is) rest.timed);
     may = (can, rest_may);
     told = ((state first.1.disk).faults, faults, λ can. one.possible, rest_told);
     whole = (one.whole, rest.whole);

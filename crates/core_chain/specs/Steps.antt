@@ -9,7 +9,7 @@ use Rattle.blsm_model.specs.declared.op.Op.TheVariants.{Get}
 use Rattle.blsm_model.specs.declared.row.Value.{Value}
 use Rattle.disk_trait.specs.Disk.{DiskState}
 use Rattle.disk_trait.specs.Moments.{LeavesOnly}
-use Rattle.record_delta.specs.Entries.{over_any, record_of_key}
+use Rattle.record_delta.specs.Entries.{is_above, over_any, record_of_key}
 use Rattle.record_delta.specs.declared.record.Rec.{Rec}
 use Rattle.record_delta.specs.declared.record.Rec.TheVariants.{Base, Delta, Tomb}
 use Rattle.tree_machine.specs.Lists.{Lists}
@@ -48,24 +48,31 @@ hides_older (Some (Base value)) = true
 hides_older (Some (Delta count)) = false
 hides_older (Some Tomb) = true
 
--- a get that the memory table answers
-abbrev pub is_in_memory : Lists → Kind → Bool
-is_in_memory lists (Look (Get key)) = hides_older (over_any (record_of_key key lists.b) (record_of_key key lists.a))
-is_in_memory lists _ = false
+-- a get that the memory table answers, whose table A has of its list what is above this floor, or all where it has none
+abbrev pub is_in_memory : Option Key → Lists → Kind → Bool
+is_in_memory floor lists (Look (Get key)) =
+    hides_older (over_any (record_of_key key lists.b) (if is_above floor key then record_of_key key lists.a else None))
+is_in_memory floor lists _ = false
 
 -- A step calls no disk where the store is stopped, where it is none that does, and where it is a lookup that is answered in memory.
-abbrev pub calls_at : Machine → ℕ → Kind → Bool
-calls_at m seat k = not (is_some m.stopped) && (calls m seat k && not (is_in_memory m.lists k))
+abbrev pub calls_at : Option Key → Machine → ℕ → Kind → Bool
+calls_at floor m seat k = not (is_some m.stopped) && (calls m seat k && not (is_in_memory floor m.lists k))
 
 -- how often a step calls it at most where the machine stands: with the swaps that are due there, or not at all
-abbrev pub most_calls_at : Machine → ℕ → Kind → ℕ
-most_calls_at m seat k = if calls_at m seat k then calls_of m.gears.sizes (swaps_due m) k else 0
+abbrev pub most_calls_at : Option Key → Machine → ℕ → Kind → ℕ
+most_calls_at floor m seat k = if calls_at floor m seat k then calls_of m.gears.sizes (swaps_due m) k else 0
 
--- Clocks rise, each by no more than its step may call the disk, so each stands that calls none.
-abbrev pub AreTimed : Machine → ℕ → List (Step × Outcome × ℕ) → ℕ → Type 0
-AreTimed m before [] after = after ≡ before
-AreTimed m before (one ∷ more) after =
-    (before ≤ one.2) × (one.2 ≤ before + most_calls_at m one.0.seat one.0.kind) × AreTimed (played_one m (one.0, one.1)) one.2 more after
+-- the floors of table A before each call of a chain
+abbrev pub floors_in : {D : Type 0} → CoreState D → List (Step × CoreState D) → List (Option Key)
+floors_in core [] = []
+floors_in core (one ∷ calls) = core.held.log.a.floor ∷ floors_in one.1 calls
+
+-- Clocks rise, each by no more than its step may call the disk with this floor of table A, so each stands that calls none.
+abbrev pub AreTimed : Machine → List (Option Key) → ℕ → List (Step × Outcome × ℕ) → ℕ → Type 0
+AreTimed m floors before [] after = after ≡ before
+AreTimed m [] before (one ∷ more) after = ⊥
+AreTimed m (floor ∷ floors) before (one ∷ more) after =
+    (before ≤ one.2) × (one.2 ≤ before + most_calls_at floor m one.0.seat one.0.kind) × AreTimed (played_one m (one.0, one.1)) floors one.2 more after
 
 -- each of them might be made where it stands
 abbrev pub AllMay : Machine → List (Step × Outcome) → Type 0
@@ -103,7 +110,7 @@ pub record ChainIsSteps {D : Type 0} (state : D → DiskState) (opening : List (
   pub made : List (Step × Outcome × ℕ)
   pub steps_are : map (λ one. one.0) made ≡ steps_of calls
   pub clocks_are : clocks_in made ≡ map (λ one. (state one.1.disk).clock) calls
-  pub timed : AreTimed m (state start.disk).clock made (state end.disk).clock
+  pub timed : AreTimed m (floors_in start calls) (state start.disk).clock made (state end.disk).clock
   -- none was passed over, the disk's count of faults tells the outcomes, and no page was found damaged
   pub may : AllMay m (outcomes_in made)
   pub told : AreTold m (state start.disk).faults (outcomes_in made) (state end.disk).faults

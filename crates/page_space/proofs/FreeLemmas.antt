@@ -141,6 +141,10 @@ pub free_after_claim : (old new : SpaceState) (role page : ℕ) → page < lengt
     → (other : ℕ) → IsFree new other ↔ (IsFree old other × (other ≢ page))
 free_after_claim old new role page h1 h2 h3 h4 h5 other = grind (arith, common_steps, nat_tests, has_kept, get_or, claimed_has, had_before)
 
+-- a seat that pins one page more pins that and those that it pinned
+pub pinned_more : (pins : Members) (page other : ℕ) → page < length pins → IsIn (with_page page pins) other ↔ (IsIn pins other ⊎ (other ≡ page))
+pinned_more pins page other h1 = grind (arith, common_steps, nat_tests, get_or, kept_with)
+
 -- a seat that pins the pages of three roles pins a page just where it has one of these
 pub pinned_just : (a b c : Members) (page : ℕ) → IsIn (union a (union b c)) page ↔ (IsIn a page ⊎ (IsIn b page ⊎ IsIn c page))
 pinned_just a b c page = grind (arith, common_steps, nat_tests, get_or, get_or-union, or_cases, or_true)

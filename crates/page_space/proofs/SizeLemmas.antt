@@ -1,7 +1,7 @@
 -- How many pages a set has.
 use Rattle.std.proofs.lemmas.Bool.Decides.{nat_tests}
 use Rattle.std.proofs.lemmas.Grind.{common_steps}
-use Rattle.std.proofs.Common.{◌≡◌, ℕ, ◌+◌, ◌<◌, ◌≤◌, ◌||◌, Bool, cond, [], ◌∷◌, length, arith}
+use Rattle.std.proofs.Common.{◌≡◌, ℕ, zero, suc, ◌+◌, ◌<◌, ◌≤◌, ◌||◌, Bool, true, cond, [], ◌∷◌, length, arith}
 use Rattle.std.proofs.lemmas.List.Sums.{sum_by-cons}
 use Rattle.page_space.specs.PageSet.{Members, IsIn, size, with_page, union}
 
@@ -19,3 +19,9 @@ size-union_le (x ∷ xs) (y ∷ ys) =
 
 pub size-with : (set : Members) (page : ℕ) → page < length set → (IsIn set page → ⊥) → size (with_page page set) ≡ size set + 1
 size-with set page h1 h2 = grind (arith, common_steps, nat_tests)
+
+-- or it was in the set before
+pub size-with_le : (set : Members) (page : ℕ) → size (with_page page set) ≤ size set + 1
+size-with_le [] page = omega arith
+size-with_le (x ∷ xs) zero = omega (arith, size-cons x xs, size-cons true xs)
+size-with_le (x ∷ xs) (suc page) = omega (arith, size-with_le xs page, size-cons x xs, size-cons x (with_page page xs))

@@ -3,7 +3,7 @@ use Rattle.std.proofs.lemmas.Bool.Decides.{nat_tests}
 use Rattle.std.proofs.lemmas.Grind.{common_steps}
 use Rattle.std.proofs.Common.{◌≡◌, ℕ, ◌<◌, List, [], length, get_or, set, arith}
 use Rattle.page_space.specs.PageSet.{Members, IsIn, with_page, union}
-use Rattle.page_space.specs.Space.{SpaceState, unused, pages_with, IsFree, IsSpace, role_count, seat_count}
+use Rattle.page_space.specs.Space.{SpaceState, unused, pages_with, pins_of, IsFree, IsSpace, role_count, seat_count}
 use Rattle.bit_set.proofs.BitLemmas.{length-union}
 
 -- a page that is in a set is below its number of pages, and only a set that there is has pages
@@ -27,6 +27,16 @@ free_before_claim space role page k free =
       in_range = free.in_range;
       no_role = λ r has. free.no_role r (kept_claimed space.roles role page r k has);
       no_pin = free.no_pin;
+    }
+
+-- and what is free once it is pinned
+pub free_before_pin : (space : SpaceState) (seat page k : ℕ)
+    → IsFree (record space { pins = set space.pins seat (with_page page (pins_of space seat)) }) k → IsFree space k
+free_before_pin space seat page k free =
+    record {
+      in_range = free.in_range;
+      no_role = free.no_role;
+      no_pin = λ s has. free.no_pin s (kept_claimed space.pins seat page s k has);
     }
 
 pub shape_unused : (pages : ℕ) → IsSpace (unused pages)

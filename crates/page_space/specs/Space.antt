@@ -89,3 +89,14 @@ pub record Claims (role page : ℕ) (old new : SpaceState) : Type 0 where
   pub tags : (tag k : ℕ) → HasRole new tag k ↔ (HasRole old tag k ⊎ ((tag ≡ role) × (k ≡ page)))
   pub free : (other : ℕ) → IsFree new other ↔ (IsFree old other × (other ≢ page))
   pub size : (HasRole old role page → ⊥) → role_size new role ≡ role_size old role + 1
+
+-- The seat pins one page more, and nothing else changes: no page is free that wasn't.
+pub record PinsMore (seat page : ℕ) (old new : SpaceState) : Type 0 where
+  pub this : pins_of new seat ≡ with_page page (pins_of old seat)
+  pub others : KeepsOtherPins seat old new
+  pub roles : new.roles ≡ old.roles
+  pub pages : new.pages ≡ old.pages
+  pub shape : IsSpace new
+  pub pinned : (other : ℕ) → IsPinnedBy new seat other ↔ (IsPinnedBy old seat other ⊎ (other ≡ page))
+  pub free : (other : ℕ) → IsFree new other → IsFree old other
+  pub size : pin_size new seat ≤ pin_size old seat + 1

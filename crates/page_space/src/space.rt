@@ -1,7 +1,8 @@
 //! Which pages have which tag, which are pinned, and which are free.
 ghost use Rattle.std.specs.Prelude.{◌≡◌, ◌<◌, ◌≤◌, ◌+◌, ◌↔◌, ◌⊎◌, ℕ, length, replicate, All, IsTrue, IfOk, IfSome, IfNone};
 ghost use Rattle.page_space.specs.PageSet.{IsInSome, none_of, union};
-ghost use Rattle.page_space.specs.Space.{pages_with, pins_of, HasRole, IsPinnedBy, IsFree, HasFree, IsLeastFree, IsSpace, unused, role_size, pin_size, Claims, KeepsOtherRoles, KeepsOtherPins};
+ghost use Rattle.page_space.specs.Space.{pages_with, pins_of, HasRole, IsPinnedBy, IsFree, HasFree, IsLeastFree, IsSpace, unused, role_size};
+ghost use Rattle.page_space.specs.Space.{pin_size, Claims, KeepsOtherRoles, KeepsOtherPins, PinsMore};
 
 use crate::Role;
 use bit_set::BitSet;
@@ -124,6 +125,16 @@ impl Space {
             &self.roles[c2.number() as usize],
         );
         self.in_use_below = 0;
+    }
+
+    /// Pins one page more for a seat, whatever tags the page has.
+    pub fn pin_page(&mut self, seat: u32, page: u32)
+        requires seat { seat < CALLERS }
+        requires page { page < self.old.pages }
+        ensures { PinsMore seat page self.old self.new }
+    {
+        let pins = &mut self.pins[seat as usize];
+        pins.insert(u64::from(page));
     }
 
     /// Drops all pins of a seat.

@@ -21,15 +21,16 @@ ghost use Rattle.page_space.specs.Space.{SpaceState, HasRole, IsFree};
 ghost use Rattle.page_file.specs.Component.{numbers_of, HasList};
 ghost use Rattle.page_file.specs.File.{Writes};
 ghost use Rattle.run_writer.specs.Writer.{IsInside, open_region};
+ghost use Rattle.merge_ends.specs.Merge.{finished_of};
 ghost use Rattle.merge_ends.specs.Quantum.{IsNext, NoneAbove, IsQuantum};
 ghost use Rattle.merge_ends.specs.Progress.{IsRunning, MayGoOn, MergesOn, TakesGroup, TakesQuantum, left_to_take, stage};
-ghost use Rattle.snow_merge.specs.Pass.{started, Covers, IsPass, progress_of_pass};
+ghost use Rattle.snow_merge.specs.Pass.{started, Covers, IsPass, merge_of, progress_of_pass};
 
 use bloom_bits::{Fences, Filter};
 use blsm_model::{Component, Geometry, Key};
 use disk_trait::Disk;
 use mem_table::{LentEntry, Table};
-use merge_ends::{Merge, Newer};
+use merge_ends::{Finished, Merge, Newer};
 use merge_step::{Taken, least_of_lent};
 use page_file::Broken;
 use page_space::{Role, Space};
@@ -210,18 +211,12 @@ impl Snow {
         self.merge.cursor()
     }
 
-    /// The greatest key up to which all that was taken is on closed pages of the run, which stay as they are; `None` where none is closed.
-    pub fn closed(&self) -> Option<Key>
-        ensures { result ≡ self.now.closed }
+    /// What is on closed pages of the run, which stay as they are, and up to which key: all that the pass took up to there. `None` where no page is
+    /// closed.
+    pub fn finished(&self) -> Option<Finished>
+        ensures { result ≡ finished_of (merge_of self.now) }
     {
-        self.merge.closed()
-    }
-
-    /// How much of C1 was left above that key when it was told, in bytes; 0 where no page is closed.
-    pub fn left(&self) -> u64
-        ensures { result ≡ self.now.left }
-    {
-        self.merge.left()
+        self.merge.finished()
     }
 
     /// C1 from the page on that had the head of its cursor when that key was told: what it has above the key is there. Where no page is closed it is

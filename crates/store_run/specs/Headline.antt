@@ -46,7 +46,8 @@ use Rattle.recover_open.specs.Opening.{KeepsMapOf, OpensAs, TakesFew, weight_of_
 use Rattle.core_chain.specs.Quanta.{helps_in}
 use Rattle.core_chain.specs.Start.{steps_of}
 use Rattle.core_chain.specs.Tells.{AreCalled}
-use Rattle.core_chain.specs.Steps.{Acknowledges, AllMay, AreTimed, HasOwnSync, after_steps, clock_after, clocks_in, noted_after, outcomes_in}
+use Rattle.core_chain.specs.Steps.{Acknowledges, AllMay, AreTimed, HasOwnSync}
+use Rattle.core_chain.specs.Steps.{after_steps, clock_after, clocks_in, floors_in, noted_after, outcomes_in}
 use Rattle.store_run.specs.Run.{HasCauses, HaveEnded, HaveRested, Run, finds_damage}
 
 -- The file is a store of these sizes that reads as this map, with a version that is taken.
@@ -127,8 +128,8 @@ pub record HaveMoments {D : Type 0} (state : D → DiskState) (calls : List (Ste
   pub steps : List (Step × Outcome × ℕ)
   pub same : outcomes_in steps ≡ made
   pub clocks_are : clocks_in steps ≡ map (λ one. (state one.1.disk).clock) calls
-  -- clocks rise, by no more than a step may call the disk there, and so stand where it calls none
-  pub timed : AreTimed begin (state opened.disk).clock steps last.clock
+  -- clocks rise, by no more than a step may call the disk there, with the floor of table A before its call, and so stand where it calls none
+  pub timed : AreTimed begin (floors_in opened calls) (state opened.disk).clock steps last.clock
   -- and, by the cores before and after it, by no more than its call may: a next that gives rows reads the pages that its hold passed, and three
   pub called : AreCalled state opened calls
   -- each might be made where it stands

@@ -28,7 +28,7 @@ told_first (Swap key count value) at held file found is told = subst (λ (k : Ke
 told_first _ at held file found is told = absurd is
 
 abbrev IsDamageAt : Key → Held → List ℕ → ℕ → Type 0
-IsDamageAt key held file page = IsDamageBelow held.runs.sizes key file (from_newest held.runs.catalogue held.runs.guides held.runs.tags)
+IsDamageAt key held file page = IsDamageBelow held.runs.sizes key file (from_newest held.log.a.floor key held.runs)
     (newest_in key held) page
 
 pub damage_first : (op : Op) (at : Key) (held : Held) (file : List ℕ) (page : ℕ) → IsAbout op at → IsDamageAt at held file page → IsDamageFirst op

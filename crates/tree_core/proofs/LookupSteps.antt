@@ -17,6 +17,7 @@ use Rattle.blsm_model.specs.Histories.{answer_to_get}
 use Rattle.disk_trait.specs.Disk.{DiskState}
 use Rattle.disk_trait.specs.Reads.{OnlyReads}
 use Rattle.disk_trait.specs.Moments.{IsTimed}
+use Rattle.record_delta.specs.Entries.{replayed}
 use Rattle.page_file.specs.File.{Reads}
 use Rattle.page_file.specs.declared.file.Broken.{Broken}
 use Rattle.seat_book.specs.State.{BookState, noted_in, may_note_in}
@@ -31,7 +32,7 @@ use Rattle.tree_machine.specs.Steps.{Outcome, Well, FailedAfter, Replied, replie
 use Rattle.tree_machine.specs.declared.step.Kind.TheVariants as kind
 use Rattle.tree_file.specs.Tree.{Tree, HoldsTree}
 use Rattle.tree_runs.specs.Holding.{AreGuided}
-use Rattle.tree_runs.specs.Lookups.{CountsYes, HidesOlder}
+use Rattle.tree_runs.specs.Lookups.{CountsYes, HidesOlder, IsFloorOf, first_tag}
 use Rattle.tree_runs.specs.Runs.{filter_of}
 use Rattle.core_moves.specs.declared.held.Held.{Held}
 use Rattle.core_moves.specs.Held.{IsOne}
@@ -41,7 +42,7 @@ use Rattle.core_lists.proofs.LookupLemmas.{lookup_is_the_machines}
 use Rattle.core_lists.proofs.ShowingLemmas.{quiet_entry_counts_none}
 use Rattle.tree_core.specs.declared.answers.Lookup.{Lookup}
 use Rattle.tree_core.specs.declared.answers.Lookup.TheVariants as lookup
-use Rattle.tree_core.specs.Answers.{reply_to_get, found_in, newest_in}
+use Rattle.tree_core.specs.Answers.{HasDropped, reply_to_get, found_in, newest_in}
 use Rattle.tree_core.specs.Calls.{BesideHolds, Gets, GoesOnAs, Looks}
 use Rattle.tree_core.specs.Causes.{CountsFilters, FindsBecause, LooksNone, IsLookOn}
 use Rattle.tree_core.specs.Core.{CoreState, IsCore}
@@ -65,13 +66,21 @@ pub three_count : (key : Key) (held : Held) → CountsFilters key held 3
 three_count key held = record { c1 = 1; c1x = 1; c2 = 1; first = inl (omega arith); second = inl (omega arith); third = inl (omega arith); all = refl }
 
 -- as many calls as filters say yes
-pub asked_few : {A : Type 0} {result : Result A Broken} {end : ℕ} {d d2 : DiskState} (key : Key) (held : Held)
-    → ((c1 c1x c2 : ℕ) → CountsYes (filter_of held.runs held.runs.tags.c1) key c1 → CountsYes (filter_of held.runs held.runs.tags.c1x) key c1x → CountsYes (filter_of held.runs held.runs.tags.c2) key c2 → Reads end (c1 + c1x + c2) result d d2)
+pub asked_few : {A : Type 0} {result : Result A Broken} {end : ℕ} {d d2 : DiskState} (key : Key) (held : Held) (floor : Option Key)
+    → floor ≡ held.log.a.floor
+    → ((c1 c1x c2 : ℕ) → CountsYes (filter_of held.runs (first_tag floor key held.runs)) key c1
+        → CountsYes (filter_of held.runs held.runs.tags.c1x) key c1x → CountsYes (filter_of held.runs held.runs.tags.c2) key c2
+        → Reads end (c1 + c1x + c2) result d d2)
     → (n : ℕ) → CountsFilters key held n → OnlyReads end n d d2
-asked_few {A} {result} {end} {d} {d2} key held asks n counts =
-    subst (λ (m : ℕ). OnlyReads end m d d2) (sym counts.all) (asks counts.c1 counts.c1x counts.c2 counts.first counts.second counts.third).effect
+asked_few {A} {result} {end} {d} {d2} key held floor is asks n counts =
+    let first = subst (λ (f : Option Key). CountsYes (filter_of held.runs (first_tag f key held.runs)) key counts.c1) (sym is) counts.first in
+    subst (λ (m : ℕ). OnlyReads end m d d2) (sym counts.all) (asks counts.c1 counts.c1x counts.c2 first counts.second counts.third).effect
 
 -- ---- on an honest one
+
+-- nothing was dropped of a table that is whole
+pub none_dropped : (held : Held) → IsOne held → (tree : Tree) (file : List ℕ) → HasDropped held tree file
+none_dropped held one tree file = subst (λ (f : Option Key). IsFloorOf f held.runs (replayed tree.lane_a) tree.c1 file) (sym one.whole_a.0) tt
 
 -- The machine's step, where it notes this reply.
 get_step : {end most : ℕ} {d d2 : DiskState} (opening : List (Key × Value)) (seat : ℕ) (key : Key) (r : Reply) (outcome : Outcome) (held : Held) (m : Machine) → OnlyReads end most d d2 → IsTrue d.is_honest
@@ -85,7 +94,9 @@ get_step opening seat key r outcome held m reads honest s can is possible whole 
 
 get_steps : {end most : ℕ} {d d2 : DiskState} (opening : List (Key × Value)) (seat : ℕ) (key : Key) (found : Lookup) (held : Held) (m : Machine) → (held.book.stopped ≡ None → IsOne held) → OnlyReads end most d d2 → IsTrue d.is_honest
     → FindsBecause found key held d d2 → (found ≡ lookup.Fault → d2.faults < 2 ^ 64)
-    → ((tree : Tree) → HoldsTree held.runs.sizes tree d.bytes → tree.catalogue ≡ held.runs.catalogue → AreGuided held.runs.guides held.runs.tags tree → held.book.stopped ≡ None → found ≢ lookup.Fault → reply_to_get found ≡ answer_to_get (found_in key held tree))
+    → ((tree : Tree) → HoldsTree held.runs.sizes tree d.bytes → tree.catalogue ≡ held.runs.catalogue → AreGuided held.runs.guides held.runs.tags tree
+        → HasDropped held tree d.bytes → held.book.stopped ≡ None → found ≢ lookup.Fault
+        → reply_to_get found ≡ answer_to_get (found_in key held tree))
     → StandsFor AnyRows opening held m d → may m seat (kind.Look (Get key)) ≡ true
     → IsStep AnyRows opening seat (kind.Look (Get key)) (Replied (reply_to_get found)) (with_book (noted_in seat (Get key) (reply_to_get found) held.book) held) d d2 m
 get_steps {end} {most} {d} {d2} opening seat key found held m one reads honest because counted value s can = by found because counted value
@@ -98,22 +109,30 @@ get_steps {end} {most} {d} {d2} opening seat key found held m one reads honest b
 
     -- what was found is what the machine has
     there : (r : Reply) → held.book.stopped ≡ None
-        → ((tree : Tree) → HoldsTree held.runs.sizes tree d.bytes → tree.catalogue ≡ held.runs.catalogue → AreGuided held.runs.guides held.runs.tags tree → r ≡ answer_to_get (found_in key held tree)) → r ≡ answer_to_get (value_in m.lists key)
+        → ((tree : Tree) → HoldsTree held.runs.sizes tree d.bytes → tree.catalogue ≡ held.runs.catalogue
+            → AreGuided held.runs.guides held.runs.tags tree → HasDropped held tree d.bytes → r ≡ answer_to_get (found_in key held tree))
+            → r ≡ answer_to_get (value_in m.lists key)
     there r none is =
         let over = s.runs none in
-        is over.tree over.over.stands.reads over.over.are_of.catalogue over.over.are_of.guided
-        ∙ ap answer_to_get (lookup_is_the_machines held over.tree m d.bytes key (one none) (record { are_of = over.over.are_of; holds = over.holds }))
+        is over.tree over.over.stands.reads over.over.are_of.catalogue over.over.are_of.guided (none_dropped held (one none) over.tree d.bytes)
+        ∙ ap answer_to_get (lookup_is_the_machines held over.tree m d.bytes key (record { are_of = over.over.are_of; holds = over.holds }))
 
     well : (r : Reply) → held.book.stopped ≡ None → r ≡ answer_to_get (value_in m.lists key)
         → IsStep AnyRows opening seat (kind.Look (Get key)) (Replied r) (with_book (noted_in seat (Get key) r held.book) held) d d2 m
     well r none is = get_step opening seat key r Well held m reads honest s can (running Well none ∙ ap (λ (x : Reply). replied seat (Get key) x m) (sym is)) tt refl
 
     by : (f : Lookup) → FindsBecause f key held d d2 → (f ≡ lookup.Fault → d2.faults < 2 ^ 64)
-        → ((tree : Tree) → HoldsTree held.runs.sizes tree d.bytes → tree.catalogue ≡ held.runs.catalogue → AreGuided held.runs.guides held.runs.tags tree → held.book.stopped ≡ None → f ≢ lookup.Fault → reply_to_get f ≡ answer_to_get (found_in key held tree))
+        → ((tree : Tree) → HoldsTree held.runs.sizes tree d.bytes → tree.catalogue ≡ held.runs.catalogue
+            → AreGuided held.runs.guides held.runs.tags tree → HasDropped held tree d.bytes → held.book.stopped ≡ None → f ≢ lookup.Fault
+            → reply_to_get f ≡ answer_to_get (found_in key held tree))
         → IsStep AnyRows opening seat (kind.Look (Get key)) (Replied (reply_to_get f)) (with_book (noted_in seat (Get key) (reply_to_get f) held.book) held) d d2 m
-    by (lookup.Is x) because counted is = well (reply.Is x) because.0 (there (reply.Is x) because.0 (λ tree holds catalogue guided. is tree holds catalogue guided because.0 (λ same. cc same)))
-    by lookup.Absent because counted is = well reply.Absent because.0 (there reply.Absent because.0 (λ tree holds catalogue guided. is tree holds catalogue guided because.0 (λ same. cc same)))
-    by (lookup.Damaged page) because counted is = well (reply.Damaged page) because.0 (there (reply.Damaged page) because.0 (λ tree holds catalogue guided. is tree holds catalogue guided because.0 (λ same. cc same)))
+    by (lookup.Is x) because counted is = well (reply.Is x) because.0 (there (reply.Is x) because.0
+        (λ tree holds catalogue guided dropped. is tree holds catalogue guided dropped because.0 (λ same. cc same)))
+    by lookup.Absent because counted is = well reply.Absent because.0 (there reply.Absent because.0
+        (λ tree holds catalogue guided dropped. is tree holds catalogue guided dropped because.0 (λ same. cc same)))
+    by (lookup.Damaged page) because counted is = well (reply.Damaged page) because.0
+        (there (reply.Damaged page) because.0 (λ tree holds catalogue guided dropped. is tree holds catalogue guided dropped because.0
+        (λ same. cc same)))
     by lookup.Fault because counted is =
         get_step opening seat key reply.Fault (FailedAfter 0 d2.faults) held m reads honest s can (running (FailedAfter 0 d2.faults) because.0)
         (ap (λ (o : Option Why). not (is_some o) && true) (stopped_is ∙ because.0), omega arith, rose d.faults d2.faults reads.effect.goes_on.faults (counted refl) because.1, refl) refl
@@ -125,7 +144,9 @@ get_steps {end} {most} {d} {d2} opening seat key found held m one reads honest b
 
 pub get_does : {D : Type 0} (state : D → DiskState) (seat : ℕ) (key : Key) (found : Lookup) (old : CoreState D) (disk : D) (b : BookState) → IsCore old.held (state old.disk) → IsTimed (state disk) → may_note_in seat 0 old.held.book ≡ true
     → FindsBecause found key old.held (state old.disk) (state disk) → (found ≡ lookup.Fault → (state disk).faults < 2 ^ 64)
-    → ((tree : Tree) → IsTrue (state old.disk).is_honest → HoldsTree old.held.runs.sizes tree (state old.disk).bytes → tree.catalogue ≡ old.held.runs.catalogue → AreGuided old.held.runs.guides old.held.runs.tags tree → old.held.book.stopped ≡ None
+    → ((tree : Tree) → IsTrue (state old.disk).is_honest → HoldsTree old.held.runs.sizes tree (state old.disk).bytes
+        → tree.catalogue ≡ old.held.runs.catalogue → AreGuided old.held.runs.guides old.held.runs.tags tree
+        → HasDropped old.held tree (state old.disk).bytes → old.held.book.stopped ≡ None
     → found ≢ lookup.Fault → reply_to_get found ≡ answer_to_get (found_in key old.held tree))
     → ((n : ℕ) → CountsFilters key old.held n → OnlyReads (file_length old.held.runs.sizes) n (state old.disk) (state disk)) → (HidesOlder (newest_in key old.held) → disk ≡ old.disk) → (LooksNone found → disk ≡ old.disk) → b ≡ noted_in seat (Get key) (reply_to_get found) old.held.book
     → Gets state seat key found old (record { disk = disk; held = with_book b old.held; holds = old.holds })

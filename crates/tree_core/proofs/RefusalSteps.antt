@@ -31,7 +31,7 @@ use Rattle.core_moves.specs.Moves.{with_book}
 use Rattle.core_lists.proofs.LookupLemmas.{lookup_is_the_machines}
 use Rattle.core_lists.proofs.ShowingLemmas.{quiet_entry_counts_none}
 use Rattle.tree_runs.specs.Holding.{AreGuided}
-use Rattle.tree_core.specs.Answers.{found_in}
+use Rattle.tree_core.specs.Answers.{HasDropped, found_in}
 use Rattle.tree_core.specs.Causes.{Finds}
 use Rattle.tree_core.specs.Standing.{AnyRows, RunsOver, StandsFor}
 use Rattle.tree_core.specs.Steps.{IsStep}
@@ -39,13 +39,14 @@ use Rattle.tree_core.specs.declared.admission.Tried.{Tried}
 use Rattle.tree_core.specs.declared.admission.Tried.TheVariants as tried
 use Rattle.tree_core.proofs.BoundLemmas.{rose}
 use Rattle.tree_core.proofs.QuietLemmas.{quiet_step}
+use Rattle.tree_core.proofs.LookupSteps.{none_dropped}
 
 -- what a lookup came to, over each tree that the file holds
 abbrev pub FindsOver : Tried → Op → Held → DiskState → Type 0
 FindsOver result op held d =
     (tree : Tree) → IsTrue d.is_honest → HoldsTree held.runs.sizes tree d.bytes → tree.catalogue ≡ held.runs.catalogue → AreGuided held.runs.guides
     held.runs.tags tree
-    → Finds result op (λ key. found_in key held tree)
+    → HasDropped held tree d.bytes → Finds result op (λ key. found_in key held tree)
 
 module _ {end most : ℕ} {d d2 : DiskState} (opening : List (Key × Value)) (seat : ℕ) (op : Op) (held : Held) (m : Machine)
     (reads : OnlyReads end most d d2) (honest : IsTrue d.is_honest)
@@ -92,10 +93,11 @@ module _ {end most : ℕ} {d d2 : DiskState} (opening : List (Key × Value)) (se
     over = s.runs ran
 
     same : (key : Key) → found_in key held over.tree ≡ value_in m.lists key
-    same key = lookup_is_the_machines held over.tree m d.bytes key one (record { are_of = over.over.are_of; holds = over.holds })
+    same key = lookup_is_the_machines held over.tree m d.bytes key (record { are_of = over.over.are_of; holds = over.holds })
 
     found : (result : Tried) → FindsOver result op held d → Finds result op (λ key. found_in key held over.tree)
     found result finds = finds over.tree honest over.over.stands.reads over.over.are_of.catalogue over.over.are_of.guided
+        (none_dropped held one over.tree d.bytes)
 
     -- its condition doesn't hold, by this value
     pub kept_steps : (value : Option Value) → FindsOver (tried.Kept value) op held d → IsRefused (Kept value)
@@ -129,6 +131,6 @@ met_behind {end} {most} {d} {d2} opening op held m reads honest s ran one finds 
     let before : IsTrue d.is_honest = subst IsTrue reads.effect.goes_on.is_honest honest in
     let over : RunsOver held m d2 = s.runs ran in
     sym (met_same op (λ key. found_in key held over.tree) (value_in m.lists)
-    (λ key. lookup_is_the_machines held over.tree m d2.bytes key one (record { are_of = over.over.are_of; holds = over.holds })))
+    (λ key. lookup_is_the_machines held over.tree m d2.bytes key (record { are_of = over.over.are_of; holds = over.holds })))
     ∙ finds over.tree before (subst (λ (file : List ℕ). HoldsTree held.runs.sizes over.tree file) (reads.same.same.bytes before)
-    over.over.stands.reads) over.over.are_of.catalogue over.over.are_of.guided
+    over.over.stands.reads) over.over.are_of.catalogue over.over.are_of.guided (none_dropped held one over.tree d.bytes)

@@ -1,12 +1,13 @@
 -- What the calls answer, in the words of the history and of the machine.
-use Rattle.std.specs.Prelude.{Option, if◌then◌else◌}
+use Rattle.std.specs.Prelude.{ℕ, List, Option, if◌then◌else◌}
 use Rattle.blsm_model.specs.declared.key.Key.{Key}
 use Rattle.blsm_model.specs.declared.row.Value.{Value}
 use Rattle.record_delta.specs.declared.record.Rec.{Rec}
 use Rattle.record_delta.specs.Records.{settled}
-use Rattle.record_delta.specs.Entries.{over_any, record_of_key}
+use Rattle.record_delta.specs.Entries.{over_any, record_of_key, replayed}
 use Rattle.page_file.specs.Component.{entries_of}
 use Rattle.tree_file.specs.Tree.{Tree}
+use Rattle.tree_runs.specs.Lookups.{IsFloorOf, first_record}
 use Rattle.core_moves.specs.declared.held.Held.{Held}
 use Rattle.blsm_model.specs.declared.history.Reply.{Reply}
 use Rattle.blsm_model.specs.declared.history.Reply.TheVariants as reply
@@ -70,8 +71,13 @@ reply_to_drop (release.Stopped why) = reply.Stopped why
 abbrev pub newest_in : Key → Held → Option Rec
 newest_in key held = over_any (record_of_key key held.log.b.entries) (record_of_key key held.log.a.entries)
 
--- and that over what the components of this tree have of it
+-- In this file what was dropped of table A, which is the tree's, is on the pass's finished pages.
+abbrev pub HasDropped : Held → Tree → List ℕ → Type 0
+HasDropped held tree file = IsFloorOf held.log.a.floor held.runs (replayed tree.lane_a) tree.c1 file
+
+-- and the memory table's record over what was dropped of table A and the components of this tree have of the key
 abbrev pub found_in : Key → Held → Tree → Option Value
 found_in key held tree =
     settled (over_any (newest_in key held)
-    (over_any (record_of_key key (entries_of tree.c1)) (over_any (record_of_key key (entries_of tree.c1x)) (record_of_key key (entries_of tree.c2)))))
+    (over_any (first_record held.log.a.floor key (replayed tree.lane_a) (entries_of tree.c1))
+    (over_any (record_of_key key (entries_of tree.c1x)) (record_of_key key (entries_of tree.c2)))))

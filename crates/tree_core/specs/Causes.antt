@@ -50,7 +50,7 @@ use Rattle.seat_book.specs.State.{is_closed_in, noted_in}
 use Rattle.tree_runs.specs.Runs.{RunsState, filter_of, left_for_pass, left_for_deep}
 use Rattle.tree_runs.specs.Damage.{DeepMeetsDamage, PassMeetsDamage}
 use Rattle.tree_runs.specs.Holding.{IsHeldFrom, PinsComponents}
-use Rattle.tree_runs.specs.Lookups.{AreToldBy, CountsYes, HidesOlder, IsDamageBelow, from_newest}
+use Rattle.tree_runs.specs.Lookups.{AreToldBy, CountsYes, HidesOlder, IsDamageBelow, first_tag, from_newest}
 use Rattle.core_moves.specs.declared.held.Held.{Held}
 use Rattle.core_moves.specs.Held.{charge_in}
 use Rattle.core_moves.specs.Moves.{with_book, with_debts_forgiven}
@@ -107,12 +107,13 @@ pub record FoundDamaged (plan : Plan) (page : ℕ) (old new : Held) (before afte
   pub stopped : new.book.stopped ≡ Some (why.BadPage page)
   pub ahead : IsTrue before.tells_bytes → IsDamageAhead plan new.runs page after.bytes
 
--- So many at least of the components may have the key, as their filters say: 0 is enough where each of them says no, and 3 is always.
+-- So many at least of the components may have the key, as their filters say: 0 is enough where each of them says no, and 3 is always. Where table A
+-- may have been dropped up to the key, the pass's finished pages are asked in place of C1.
 pub record CountsFilters (key : Key) (held : Held) (n : ℕ) : Type 0 where
   pub c1 : ℕ
   pub c1x : ℕ
   pub c2 : ℕ
-  pub first : CountsYes (filter_of held.runs held.runs.tags.c1) key c1
+  pub first : CountsYes (filter_of held.runs (first_tag held.log.a.floor key held.runs)) key c1
   pub second : CountsYes (filter_of held.runs held.runs.tags.c1x) key c1x
   pub third : CountsYes (filter_of held.runs held.runs.tags.c2) key c2
   pub all : n ≡ c1 + c1x + c2
@@ -120,8 +121,8 @@ pub record CountsFilters (key : Key) (held : Held) (n : ℕ) : Type 0 where
 -- in this file so much is told of the key by the pages that are asked for it, below the memory table's record
 abbrev pub IsToldOf : Key → Held → List ℕ → Option Value → Type 0
 IsToldOf key held file value =
-    (found : Option Rec) × AreToldBy held.runs.sizes key file (from_newest held.runs.catalogue held.runs.guides held.runs.tags) (newest_in key held)
-    found × (value ≡ settled found)
+    (found : Option Rec)
+    × AreToldBy held.runs.sizes key file (from_newest held.log.a.floor key held.runs) (newest_in key held) found × (value ≡ settled found)
 
 -- ---- what a lookup finds that comes before a write
 
@@ -134,9 +135,9 @@ IsToldFirst _ held file found = found ≡ None
 -- and this is the page that is asked for it and isn't valid
 abbrev pub IsDamageFirst : Op → Held → List ℕ → ℕ → Type 0
 IsDamageFirst (New key value) held file page = IsDamageBelow held.runs.sizes key file
-    (from_newest held.runs.catalogue held.runs.guides held.runs.tags) (newest_in key held) page
+    (from_newest held.log.a.floor key held.runs) (newest_in key held) page
 IsDamageFirst (Swap key count value) held file page = IsDamageBelow held.runs.sizes key file
-    (from_newest held.runs.catalogue held.runs.guides held.runs.tags) (newest_in key held) page
+    (from_newest held.log.a.floor key held.runs) (newest_in key held) page
 IsDamageFirst _ held file page = ⊥
 
 -- It found this value, by which its condition holds. On an honest disk that is what the pages say that were asked.
@@ -311,7 +312,7 @@ FindsBecause lookup.Absent key old before after = (old.book.stopped ≡ None) ×
 FindsBecause lookup.Fault key old before after = (old.book.stopped ≡ None) × HasRisen before.faults after.faults
 FindsBecause (lookup.Damaged page) key old before after =
     (old.book.stopped ≡ None) × (after.faults ≡ before.faults)
-    × (IsTrue before.is_honest → IsDamageBelow old.runs.sizes key before.bytes (from_newest old.runs.catalogue old.runs.guides old.runs.tags) (newest_in key old) page)
+    × (IsTrue before.is_honest → IsDamageBelow old.runs.sizes key before.bytes (from_newest old.log.a.floor key old.runs) (newest_in key old) page)
 FindsBecause (lookup.Stopped why) key old before after = (old.book.stopped ≡ Some why) × (after.faults ≡ before.faults)
 
 -- Whatever a command that only looks asks: no call of the disk failed unless its reply says so, and a stopped store replies that it is.

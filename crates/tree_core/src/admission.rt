@@ -25,7 +25,7 @@ ghost use Rattle.disk_trait.specs.Reads.{OnlyReads};
 ghost use Rattle.tree_file.specs.Tree.{HoldsTree, Tree};
 ghost use Rattle.tree_runs.specs.Holding.{AreGuided};
 ghost use Rattle.core_moves.specs.Needs.{IsOn};
-ghost use Rattle.tree_core.specs.Answers.{found_in, reply_to_write};
+ghost use Rattle.tree_core.specs.Answers.{HasDropped, found_in, reply_to_write};
 ghost use Rattle.tree_core.specs.Calls.{Admits, AdmitsMet, LooksFirst};
 ghost use Rattle.tree_core.specs.Causes.{CountsFirst, Finds, IsAbout, Tries, calls_to_admit, tried_by};
 ghost use Rattle.tree_core.specs.Ruling.{ruled_by};
@@ -185,7 +185,8 @@ fn try_first<D: Disk>(held: &Held, disk: &mut D, op: &Op) -> Tried
     ensures tries { Tries result op.now held.now (D.state disk.old) (D.state disk.new) }
     ensures finds { (tree : Tree) → IsTrue (D.state disk.old).is_honest → HoldsTree held.now.runs.sizes tree (D.state disk.old).bytes →
         tree.catalogue ≡ held.now.runs.catalogue
-        → AreGuided held.now.runs.guides held.now.runs.tags tree → Finds result op.now (λ key. found_in key held.now tree) }
+        → AreGuided held.now.runs.guides held.now.runs.tags tree → HasDropped held.now tree (D.state disk.old).bytes
+        → Finds result op.now (λ key. found_in key held.now tree) }
     ensures asks { (n : ℕ) → CountsFirst op.now held.now n → OnlyReads (file_length held.now.runs.sizes) n (D.state disk.old) (D.state disk.new) }
 {
     match look_up(held, disk, looked_key(op)) {

@@ -10,7 +10,7 @@ ghost use Rattle.tree_file.specs.Tree.{Tree, HoldsTree};
 ghost use Rattle.tree_runs.specs.Holding.{AreGuided};
 ghost use Rattle.tree_runs.specs.Lookups.{HidesOlder};
 ghost use Rattle.core_moves.specs.Needs.{IsOn};
-ghost use Rattle.tree_core.specs.Answers.{found_in, newest_in, reply_to_get};
+ghost use Rattle.tree_core.specs.Answers.{HasDropped, found_in, newest_in, reply_to_get};
 ghost use Rattle.tree_core.specs.Calls.{Gets};
 ghost use Rattle.tree_core.specs.Causes.{CountsFilters, FindsBecause, IsFound, LooksNone};
 ghost use Rattle.tree_core.specs.declared.answers.Lookup.TheVariants as lookup;
@@ -60,12 +60,13 @@ fn reply_of(lookup: &Lookup) -> ShortReply
 }
 
 // What the tables and the components have of the key: one page of each component is read at most, none where its filter says no, and none below
-// a base or a tombstone.
+// a base or a tombstone. Where table A may have been dropped up to the key, the pass's finished pages are asked in place of C1.
 pub(crate) fn look_up<D: Disk>(held: &Held, disk: &mut D, key: &Key) -> Lookup
     requires on { held.now.book.stopped ≡ None → IsOn held.now (D.state disk.old) }
     ensures cause { FindsBecause result key.now held.now (D.state disk.old) (D.state disk.new) }
     ensures value { (tree : Tree) → IsTrue (D.state disk.old).is_honest → HoldsTree held.now.runs.sizes tree (D.state disk.old).bytes → tree.catalogue ≡ held.now.runs.catalogue
-        → AreGuided held.now.runs.guides held.now.runs.tags tree → held.now.book.stopped ≡ None → result ≢ lookup.Fault → reply_to_get result ≡ answer_to_get (found_in key.now held.now tree) }
+        → AreGuided held.now.runs.guides held.now.runs.tags tree → HasDropped held.now tree (D.state disk.old).bytes → held.now.book.stopped ≡ None
+        → result ≢ lookup.Fault → reply_to_get result ≡ answer_to_get (found_in key.now held.now tree) }
     ensures counted { result ≡ lookup.Fault → (D.state disk.new).faults < 2 ^ 64 }
     ensures reads { (n : ℕ) → CountsFilters key.now held.now n → OnlyReads (file_length held.now.runs.sizes) n (D.state disk.old) (D.state disk.new) }
     ensures hidden { HidesOlder (newest_in key.now held.now) → disk.new ≡ disk.old }
@@ -75,7 +76,8 @@ pub(crate) fn look_up<D: Disk>(held: &Held, disk: &mut D, key: &Key) -> Lookup
         return Lookup::Stopped(why);
     }
     let mut found = held.log.get(key);
-    match held.runs.find(disk, key, &mut found) {
+    let floor = held.log.a().floor();
+    match held.runs.find(disk, key, floor, &mut found) {
         Ok(()) => answer(found),
         Err(Broken::Fault) => {
             // The disk's count is a number of 64 bits.
@@ -88,8 +90,8 @@ pub(crate) fn look_up<D: Disk>(held: &Held, disk: &mut D, key: &Key) -> Lookup
 
 impl<D: Disk + Drop> Core<D> {
     /// Looks a key up. It reads one page at most of each component whose filter may have the key, so three, and none where the memory table
-    /// has a base or a tombstone of the key. It notes one entry; a lookup that fails doesn't stop the store. `Damaged` names the first page
-    /// that it asks and that isn't valid.
+    /// has a base or a tombstone of the key. Where that may have dropped the key's record, the pass's finished pages are asked in place of C1. It
+    /// notes one entry; a lookup that fails doesn't stop the store. `Damaged` names the first page that it asks and that isn't valid.
     #[inline(never)]
     pub fn get(&mut self, seat: u32, key: &Key) -> Lookup
         requires { IsTrue (may_note_in seat 0 self.old.held.book) }

@@ -18,7 +18,7 @@ use Rattle.scan_view.specs.Hold.{HoldState, HasRows, pages_held}
 use Rattle.scan_view.specs.Holds.{pages_behind}
 use Rattle.scan_view.specs.Pins.{IsUnpinned, HasHeld, Pins}
 use Rattle.tree_file.specs.Tree.{Tree, live_pages}
-use Rattle.tree_runs.specs.Runs.{RunsState, AreRuns, AreRunning, PinsOfPass, guide_at, page_share}
+use Rattle.tree_runs.specs.Runs.{RunsState, AreRuns, AreRunning, PinsOfPass, guide_at, hold_share, page_share}
 use Rattle.tree_runs.specs.Holding.{AreOf, IsHeldFrom}
 use Rattle.tree_runs.proofs.FinishedLemmas.{finished_still}
 use Rattle.tree_runs.proofs.PartLemmas.{no_more_pages}
@@ -34,7 +34,7 @@ pub record Repinned (runs : RunsState) (after : SpaceState) : Type 0 where
   pub shape : IsSpace after
   pub open_unpinned : PinsOfPass after runs.pass
   pub deep_unpinned : IsUnpinned after runs.tags.deep
-  pub share : (seat : ℕ) → seat < seat_count → pin_size after seat ≤ page_share runs.sizes
+  pub share : (seat : ℕ) → seat < seat_count → pin_size after seat ≤ hold_share runs.sizes
 
 has_then : {runs : RunsState} {after : SpaceState} → Repinned runs after → (tag n : ℕ) → HasRole after tag n → HasRole runs.space tag n
 has_then is tag n has = subst (λ (sets : List Members). IsIn (slice_index_or sets tag []) n) is.roles has

@@ -5,6 +5,7 @@ mod KeptMerges
 mod StayLemmas
 mod FinishedLemmas
 mod QuantumLemmas
+pub mod ReleasedLemmas
 mod FindLemmas
 mod ToldLemmas
 pub mod GuideLemmas

@@ -1,17 +1,17 @@
 -- What the commit of a pass's swap names of the deep merge that runs: the finished pages of its run, on an honest disk.
-use Rattle.std.specs.Prelude.{◌≡◌, ◌≢◌, ◌⊎◌, ℕ, ◌+◌, ◌-◌, ◌<◌, ◌≤◌, ◌^◌, Bool, true, false, if◌then◌else◌, List, [], ◌∷◌, ◌++◌, length, take, min, nat_eq, nat_lt, Option, Some, None, IsSome, option_map, refl}
+use Rattle.std.specs.Prelude.{◌≡◌, ◌≢◌, ℕ, ◌+◌, ◌-◌, ◌<◌, ◌≤◌, ◌^◌, Bool, true, false, if◌then◌else◌, List, [], ◌∷◌, ◌++◌, length, take, min, nat_eq}
+use Rattle.std.specs.Prelude.{nat_lt, Option, Some, None, IsSome, option_map, refl}
 use Rattle.std.specs.List.{Contains, IsDistinct}
 use Rattle.std.proofs.lemmas.Grind.{common_steps}
 use Rattle.std.proofs.lemmas.Bool.Decides.{nat_tests}
 use Rattle.std.proofs.Common.{⊎_elim, sym, subst, ap, ◌∙◌, arith}
 use Rattle.std.proofs.lemmas.List.Elements.{Contains-append_left, Contains-append_right}
 use Rattle.std.proofs.Math.Seq.{take-length}
-use Rattle.blsm_model.specs.Components.{no_page}
 use Rattle.blsm_model.specs.Geometry.{page_count}
 use Rattle.blsm_model.specs.Sizes.{Sizes, IsGeometry}
 use Rattle.blsm_model.specs.declared.component.Component.{Component}
 use Rattle.blsm_model.specs.declared.key.Key.{Key}
-use Rattle.catalog_swap.specs.Text.{FitsProgress, HasKey, IsComponent, IsEmpty, IsInRange, IsProgressOf}
+use Rattle.catalog_swap.specs.Text.{HasKey, IsComponent, IsEmpty, IsInRange}
 use Rattle.catalog_swap.specs.declared.catalog.Catalog.{Catalog}
 use Rattle.catalog_swap.specs.declared.catalog.Progress.{Progress}
 use Rattle.record_delta.specs.Entries.{Entries, above, entries_weight, up_to}
@@ -24,14 +24,14 @@ use Rattle.run_writer.specs.Writer.{WriterState, closed_entries, closed_of, HasE
 use Rattle.run_writer.proofs.ClosedLemmas.{closed_are, closed_reads}
 use Rattle.merge_ends.specs.Closed.{AreClosed}
 use Rattle.merge_ends.specs.declared.finished.Finished.{Finished}
-use Rattle.deep_merge.specs.Merge.{DeepState, IsMerge}
+use Rattle.deep_merge.specs.Merge.{DeepState}
 use Rattle.tree_machine.proofs.QuantumLemmas.{weight_parts}
-use Rattle.tree_file.specs.Output.{IsOutputOf, settled_fold, settled_up_to, weight_up_to}
-use Rattle.tree_file.specs.Tree.{Tree, HasProgress, HoldsTree, IsNamed}
+use Rattle.tree_file.specs.Output.{settled_fold, settled_up_to, weight_up_to}
+use Rattle.tree_file.specs.Tree.{Tree, HasProgress, HoldsTree}
 use Rattle.tree_file.proofs.NextLemmas.{distinct_others, kept_apart}
 use Rattle.tree_runs.specs.Runs.{GuideState, DeepHasTag, made_by_deep}
 use Rattle.tree_runs.specs.Holding.{AreFinished, IsDeepOver, named_of, progress_of}
-use Rattle.tree_runs.proofs.CatalogLemmas.{HoldsLittle, SuitsNamed, holds_little, none_suits, some_in_range}
+use Rattle.tree_runs.proofs.CatalogLemmas.{SuitsNamed, holds_little, none_suits, some_in_range}
 use Rattle.tree_runs.proofs.FinishedLemmas.{nothing_finished}
 use Rattle.tree_runs.proofs.FrontLemmas.{no_longer}
 use Rattle.tree_runs.proofs.StayLemmas.{role_below}

@@ -1,6 +1,6 @@
 -- A quantum of a merge: what the components, the other merge and the tree keep, and what the one that took it has.
 use Rattle.std.specs.Int.{from_bool}
-use Rattle.std.specs.Prelude.{◌≡◌, ◌≢◌, ℕ, ◌+◌, ◌-◌, ◌/◌, ◌^◌, ◌<◌, ◌≤◌, Bool, IsTrue, List, Option, Some, Result, Ok, Err, OnOk, is_ok, min}
+use Rattle.std.specs.Prelude.{◌≡◌, ◌≢◌, ℕ, ◌+◌, ◌-◌, ◌*◌, ◌/◌, ◌^◌, ◌<◌, ◌≤◌, Bool, IsTrue, List, Option, Some, Result, Ok, Err, OnOk, is_ok, min}
 use Rattle.std.proofs.lemmas.Grind.{common_steps}
 use Rattle.std.proofs.lemmas.Bool.Decides.{nat_tests}
 use Rattle.std.proofs.Common.{◌∙◌, ap, sym, subst, arith}
@@ -8,16 +8,19 @@ use Rattle.disk_trait.specs.Disk.{DiskState}
 use Rattle.disk_trait.specs.Effects.{Affects}
 use Rattle.disk_trait.specs.Region.{Region, AreApart, IsWithin}
 use Rattle.disk_trait.specs.Moments.{IsTimed, LeavesOnly}
-use Rattle.blsm_model.specs.Sizes.{Sizes}
-use Rattle.blsm_model.specs.Geometry.{capacity}
+use Rattle.std.specs.Int.{div_ceil}
+use Rattle.blsm_model.specs.Format.{least_full}
+use Rattle.blsm_model.specs.Sizes.{IsGeometry, Sizes}
+use Rattle.blsm_model.specs.Geometry.{capacity, page_shares}
+use Rattle.blsm_model.specs.declared.component.Component.{Component}
 use Rattle.record_delta.specs.Entries.{Entries}
-use Rattle.page_space.specs.Space.{SpaceState, IsSpace, role_size, role_count}
+use Rattle.page_space.specs.Space.{SpaceState, IsSpace, role_size, role_count, seat_count}
 use Rattle.page_file.specs.declared.file.Broken.{Broken}
 use Rattle.page_file.specs.declared.file.Broken.TheVariants.{Fault}
 use Rattle.page_file.specs.Component.{RunPage, numbers_of, entries_of}
 use Rattle.page_file.specs.File.{pages_region}
 use Rattle.run_writer.specs.Writer.{WriterState, role_region}
-use Rattle.merge_ends.specs.Output.{HasRoom, TakesPages}
+use Rattle.merge_ends.specs.Output.{HasRoom, TakesPages, most_pages}
 use Rattle.merge_ends.proofs.ClosedLemmas.{keeps_closed}
 use Rattle.merge_ends.proofs.WorkLemmas.{works_of}
 use Rattle.run_writer.specs.Closed.{IsClosedPage}
@@ -29,7 +32,9 @@ use Rattle.tree_file.specs.Tree.{Tree, HoldsTree}
 use Rattle.tree_file.specs.Places.{StandsOn}
 use Rattle.tree_file.proofs.StandLemmas.{stands_beside}
 use Rattle.scan_view.proofs.StayLemmas.{unpinned_on}
-use Rattle.tree_runs.specs.Runs.{GuideState, RunsState, Tags, AreGuides, AreRuns, AreRunning, Fits, HasOneTag, IsFilled, PassRuns, DeepRuns, PassHasTag, PinsOfPass, DeepHasTag, guide_at, left_for_deep, left_for_pass, made_by_pass, made_by_deep, pages_in_use, page_share, run_most}
+use Rattle.tree_runs.specs.Runs.{GuideState, RunsState, Tags, AreGuides, AreRuns, AreRunning, Fits, HasOneTag, IsFilled, PassRuns, DeepRuns}
+use Rattle.tree_runs.specs.Runs.{PassHasTag, PinsOfPass, DeepHasTag, guide_at, left_for_deep, left_for_pass, made_by_pass, made_by_deep, pages_in_use}
+use Rattle.tree_runs.specs.Runs.{hold_share, run_most}
 use Rattle.tree_runs.specs.Holding.{AreFinished, IsPassOver, IsDeepOver, StandOver, KeepsAllButPass, KeepsAllButDeep, PassTook, DeepTook}
 use Rattle.tree_runs.proofs.CountLemmas.{within_more, other_size}
 use Rattle.tree_runs.proofs.GuideLemmas.{WritesGuide, all_guided_still}
@@ -97,12 +102,58 @@ pass_light runs snow a is fits = grind (arith, common_steps, nat_tests)
 pub deep_light : (runs : RunsState) (merge : DeepState) (a : Entries) → runs.deep ≡ Some merge → Fits runs a → merge.writer.component.weight + left_for_deep (Some merge) ≤ capacity runs.sizes
 deep_light runs merge a is fits = grind (arith, common_steps, nat_tests)
 
+-- so much weighs what the components may at least
+wide : (sizes : Sizes) → IsGeometry sizes → 139264 ≤ capacity sizes
+wide sizes h1 = grind (arith, common_steps, nat_tests)
+
+-- Three components, a run that is to grow, another one, and what all seats may pin have no more pages than there are.
+spare : (all first second third p q r weighs left other other_pages : ℕ) → 139264 ≤ all → least_full * (p - 1) ≤ first → least_full * (q - 1) ≤ second
+    → least_full * (r - 1) ≤ third → first + second + third ≤ all → least_full * (other_pages - 1) ≤ other → weighs + left + other ≤ all
+    → p + q + r + other_pages + most_pages (weighs + left) + seat_count * (all / least_full + 3 + 2) ≤ page_shares * (div_ceil all least_full + 3)
+spare all first second third p q r weighs left other other_pages h1 h2 h3 h4 h5 h6 h7 = omega (arith, h1, h2, h3, h4, h5, h6, h7)
+
 -- so there are pages for it
 pub pass_has_room : (runs : RunsState) (snow : SnowState) (a : Entries) → runs.pass ≡ Some snow → AreRuns runs → Fits runs a → HasRoom runs.space snow.writer (left_for_pass (Some snow) a)
-pass_has_room runs snow a is are fits = grind (arith, common_steps, nat_tests)
+pass_has_room runs snow a is are fits =
+    let made : (made_by_pass runs.pass) ≡ snow.writer.component = ap made_by_pass is in
+    let left : left_for_pass runs.pass a ≡ left_for_pass (Some snow) a = ap (λ (s : Option SnowState). left_for_pass s a) is in
+    let deep = made_by_deep runs.deep in
+    record {
+      live = pages_in_use runs;
+      share = hold_share runs.sizes;
+      within = are.within;
+      room = omega (
+        arith,
+        ap (λ (c : Component). c.pages) made,
+        are.pages,
+        spare (capacity runs.sizes) runs.catalogue.c1.weight runs.catalogue.c1x.weight runs.catalogue.c2.weight runs.catalogue.c1.pages
+            runs.catalogue.c1x.pages
+            runs.catalogue.c2.pages snow.writer.component.weight (left_for_pass (Some snow) a) deep.weight deep.pages (wide runs.sizes are.geometry)
+            are.c1.filled.full are.c1x.filled.full are.c2.filled.full fits.live are.deep.filled.full
+            (omega (arith, fits.made, ap (λ (c : Component). c.weight) made, left)),
+      );
+    }
 
 pub deep_has_room : (runs : RunsState) (merge : DeepState) (a : Entries) → runs.deep ≡ Some merge → AreRuns runs → Fits runs a → HasRoom runs.space merge.writer (left_for_deep (Some merge))
-deep_has_room runs merge a is are fits = grind (arith, common_steps, nat_tests)
+deep_has_room runs merge a is are fits =
+    let made : (made_by_deep runs.deep) ≡ merge.writer.component = ap made_by_deep is in
+    let left : left_for_deep runs.deep ≡ left_for_deep (Some merge) = ap left_for_deep is in
+    let pass = made_by_pass runs.pass in
+    record {
+      live = pages_in_use runs;
+      share = hold_share runs.sizes;
+      within = are.within;
+      room = omega (
+        arith,
+        ap (λ (c : Component). c.pages) made,
+        are.pages,
+        spare (capacity runs.sizes) runs.catalogue.c1.weight runs.catalogue.c1x.weight runs.catalogue.c2.weight runs.catalogue.c1.pages
+            runs.catalogue.c1x.pages
+            runs.catalogue.c2.pages merge.writer.component.weight (left_for_deep (Some merge)) pass.weight pass.pages (wide runs.sizes are.geometry)
+            are.c1.filled.full are.c1x.filled.full are.c2.filled.full fits.live are.pass.filled.full
+            (omega (arith, fits.made, ap (λ (c : Component). c.weight) made, left)),
+      );
+    }
 
 -- one that went well is counted
 pub counted_one : (result : Result ℕ Broken) (more old new : ℕ) → more ≡ from_bool (is_ok result) → new ≡ min (old + more) (2 ^ 64 - 1)
@@ -157,7 +208,9 @@ pass_in_order runs after guides quanta snow next is are shape takes size role fi
       open_unpinned = pins_on runs.space after snow next (role ∙ sym (pass_role runs snow is are))
           (subst (λ (r : ℕ). TakesPages r runs.space after) (sym (pass_role runs snow is are)) takes) still (subst (PinsOfPass runs.space) is are.open_unpinned);
       deep_unpinned = unpinned_on runs.space after runs.tags.pass runs.tags.deep takes are.deep_unpinned;
-      within = within_more snow.writer.component.pages next.writer.component.pages (pages_in_use runs) (pages_in_use (passed runs after guides quanta next)) (page_share runs.sizes) takes are.tags.pass_below size (omega (arith, made)) are.within;
+      within = within_more snow.writer.component.pages next.writer.component.pages (pages_in_use runs)
+          (pages_in_use (passed runs after guides quanta next)) (hold_share runs.sizes) takes are.tags.pass_below size
+          (omega (arith, made)) are.within;
       guides = reserved;
     }
 
@@ -280,7 +333,9 @@ deep_in_order runs after guides quanta merge next is are shape takes size role f
       rests = tt;
       open_unpinned = pins_beside runs.space after runs.tags.deep runs.tags.pass runs.pass are.pass_tag are.tags.pass_deep takes are.open_unpinned;
       deep_unpinned = unpinned_on runs.space after runs.tags.deep runs.tags.deep takes are.deep_unpinned;
-      within = within_more merge.writer.component.pages next.writer.component.pages (pages_in_use runs) (pages_in_use (deepened runs after guides quanta next)) (page_share runs.sizes) takes are.tags.deep_below size (omega (arith, made)) are.within;
+      within = within_more merge.writer.component.pages next.writer.component.pages (pages_in_use runs)
+          (pages_in_use (deepened runs after guides quanta next)) (hold_share runs.sizes) takes are.tags.deep_below size
+          (omega (arith, made)) are.within;
       guides = reserved;
     }
 

@@ -1,5 +1,5 @@
 -- What a lookup tells of the pages that it asks, in one component after the other.
-use Rattle.std.specs.Prelude.{◌≡◌, ℕ, List, [], ◌∷◌, IsTrue, Option, None, Result, Ok, Err, IfOk}
+use Rattle.std.specs.Prelude.{◌≡◌, ℕ, List, [], ◌∷◌, IsTrue, Option, Result, Ok, Err, IfOk}
 use Rattle.std.proofs.lemmas.Grind.{common_steps}
 use Rattle.std.proofs.lemmas.Bool.Decides.{nat_tests}
 use Rattle.std.proofs.Common.{arith}
@@ -12,7 +12,7 @@ use Rattle.blsm_model.specs.Sizes.{Sizes}
 use Rattle.record_delta.specs.declared.record.Rec.{Rec}
 use Rattle.page_file.specs.declared.file.Broken.{Broken}
 use Rattle.page_file.specs.declared.file.Broken.TheVariants.{Damaged}
-use Rattle.run_cursor.specs.Lookup.{IsDamaged, IsFoundBy}
+use Rattle.run_cursor.specs.Lookup.{IsDamaged}
 use Rattle.tree_runs.specs.Lookups.{AreToldBy, HidesOlder, IsDamageBelow, IsToldBy}
 use Rattle.tree_runs.specs.Runs.{GuideState}
 

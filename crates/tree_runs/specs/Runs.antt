@@ -1,7 +1,9 @@
 -- What contracts see of the components of a tree and of its merges, and what they keep on every disk. Weights are in bytes.
-use Rattle.std.specs.Prelude.{◌≡◌, ◌≢◌, ⊤, ℕ, ◌+◌, ◌-◌, ◌*◌, ◌/◌, ◌<◌, ◌≤◌, Bool, List, [], ◌∷◌, length, Option, Some, None, if◌then◌else◌, max, min, nat_eq, slice_index_or, slice_set}
+use Rattle.std.specs.Prelude.{◌≡◌, ◌≢◌, ⊤, ℕ, ◌+◌, ◌-◌, ◌*◌, ◌/◌, ◌<◌, ◌≤◌, Bool, List, [], ◌∷◌, length, Option, Some, None, if◌then◌else◌, max, min}
+use Rattle.std.specs.Prelude.{nat_eq, option_map, slice_index_or, slice_set}
 use Rattle.blsm_model.specs.declared.component.Component.{Component}
 use Rattle.blsm_model.specs.Components.{empty_component}
+use Rattle.blsm_model.specs.declared.key.Key.{Key}
 use Rattle.blsm_model.specs.Format.{least_full}
 use Rattle.blsm_model.specs.Sizes.{Sizes, IsGeometry}
 use Rattle.blsm_model.specs.Geometry.{page_count, c1_mark, capacity}
@@ -13,8 +15,10 @@ use Rattle.catalog_swap.specs.declared.catalog.Progress.{Progress}
 use Rattle.record_delta.specs.Entries.{Entries}
 use Rattle.page_space.specs.Space.{SpaceState, IsPinnedBy, IsSpace, HasRole, IsWithin, role_count, role_size, pin_size, seat_count}
 use Rattle.run_writer.specs.Closed.{IsClosedPage}
+use Rattle.merge_ends.specs.Merge.{finished_of}
 use Rattle.merge_ends.specs.Output.{most_pages}
 use Rattle.merge_ends.specs.Progress.{IsRunning, left_to_take}
+use Rattle.merge_ends.specs.declared.finished.Finished.{Finished}
 use Rattle.scan_view.specs.Pins.{IsUnpinned}
 use Rattle.snow_merge.specs.Pass as pass
 use Rattle.snow_merge.specs.Pass.{SnowState, progress_of_pass}
@@ -173,6 +177,20 @@ abbrev pub made_by_deep : Option DeepState → Component
 made_by_deep None = empty_component
 made_by_deep (Some deep) = deep.writer.component
 
+-- what the pass has finished of its run, where a page of it is closed
+abbrev pub finished_by_pass : Option SnowState → Option Finished
+finished_by_pass None = None
+finished_by_pass (Some snow) = finished_of (pass.merge_of snow)
+
+-- the key up to which that has all
+abbrev pub released_by : Option SnowState → Option Key
+released_by pass = option_map (λ done. done.key) (finished_by_pass pass)
+
+-- and its pages, as a run that goes on: none, where none is closed
+abbrev pub front_of : Option Finished → Component
+front_of None = empty_component
+front_of (Some done) = done.output
+
 -- how much is left to be taken
 abbrev pub left_for_pass : Option SnowState → Entries → ℕ
 left_for_pass None a = 0
@@ -186,9 +204,13 @@ left_for_deep (Some merge) = left_to_take (progress_of_deep merge)
 abbrev pub pages_in_use : RunsState → ℕ
 pages_in_use runs = runs.catalogue.c1.pages + runs.catalogue.c1x.pages + runs.catalogue.c2.pages + (made_by_pass runs.pass).pages + (made_by_deep runs.deep).pages
 
--- the pages that a hold may pin, or that the components may have: those of three components at capacity
+-- the pages that the components may have: those of three at capacity
 abbrev pub page_share : Sizes → ℕ
 page_share sizes = capacity sizes / least_full + 3
+
+-- Those that a seat may pin. Where a hold reads a pass's finished pages and what is left of C1 in place of C1, these are two pages more at most.
+abbrev pub hold_share : Sizes → ℕ
+hold_share sizes = page_share sizes + 2
 
 -- ---- what they keep
 
@@ -262,7 +284,7 @@ pub record AreRuns (runs : RunsState) : Type 0 where
   pub open_unpinned : PinsOfPass runs.space runs.pass
   pub deep_unpinned : IsUnpinned runs.space runs.tags.deep
   -- the tags' pages are these, and no seat pins more than its share
-  pub within : IsWithin (pages_in_use runs) (page_share runs.sizes) runs.space
+  pub within : IsWithin (pages_in_use runs) (hold_share runs.sizes) runs.space
   pub guides : AreGuides runs.sizes runs.tags runs.guides
 
 -- how many pages a run has whose progress is named: the finished ones, and the next one

@@ -16,11 +16,11 @@ returns-in-Is-clause-tries g c =
     (Some c.in-Is.value) c.looked_key.ensures c.in-Is.ensures.cause.1 c.in-Is.ensures.cause.2)
 
 pub returns-in-Is-clause-finds : goal.returns-in-Is-clause-finds
-returns-in-Is-clause-finds g c = λ tree honest holds catalogue guided.
+returns-in-Is-clause-finds g c = λ tree honest holds catalogue guided dropped.
     let at = c.looked_key.result.now in
     subst (λ (r : Tried). Finds r c.args.op.now (λ key. found_in key c.args.held.now tree)) (sym c.judge.ensures)
     (finds_found c.args.op.now at (Some c.in-Is.value) (λ key. found_in key c.args.held.now tree) c.looked_key.ensures
-    (value_is c.in-Is.value (found_in at c.args.held.now tree) (c.in-Is.ensures.value tree honest holds catalogue guided c.requires.runs
+    (value_is c.in-Is.value (found_in at c.args.held.now tree) (c.in-Is.ensures.value tree honest holds catalogue guided dropped c.requires.runs
     (λ same. cc same))))
 
 pub returns-in-Is-clause-asks : goal.returns-in-Is-clause-asks
@@ -38,11 +38,12 @@ returns-in-Absent-clause-tries g c =
     c.looked_key.ensures c.in-Absent.ensures.cause.1 c.in-Absent.ensures.cause.2)
 
 pub returns-in-Absent-clause-finds : goal.returns-in-Absent-clause-finds
-returns-in-Absent-clause-finds g c = λ tree honest holds catalogue guided.
+returns-in-Absent-clause-finds g c = λ tree honest holds catalogue guided dropped.
     let at = c.looked_key.result.now in
     subst (λ (r : Tried). Finds r c.args.op.now (λ key. found_in key c.args.held.now tree)) (sym c.judge-in-Absent.ensures)
     (finds_found c.args.op.now at None (λ key. found_in key c.args.held.now tree) c.looked_key.ensures
-    (none_is (found_in at c.args.held.now tree) (c.in-Absent.ensures.value tree honest holds catalogue guided c.requires.runs (λ same. cc same))))
+    (none_is (found_in at c.args.held.now tree) (c.in-Absent.ensures.value tree honest holds catalogue guided dropped c.requires.runs
+        (λ same. cc same))))
 
 pub returns-in-Absent-clause-asks : goal.returns-in-Absent-clause-asks
 returns-in-Absent-clause-asks g c =
@@ -55,7 +56,7 @@ pub returns-in-Fault-clause-tries : goal.returns-in-Fault-clause-tries
 returns-in-Fault-clause-tries g c = (c.in-Fault.ensures.cause.1, c.in-Fault.ensures.counted refl)
 
 pub returns-in-Fault-clause-finds : goal.returns-in-Fault-clause-finds
-returns-in-Fault-clause-finds g c = λ tree honest holds catalogue guided. tt
+returns-in-Fault-clause-finds g c = λ tree honest holds catalogue guided dropped. tt
 
 pub returns-in-Fault-clause-asks : goal.returns-in-Fault-clause-asks
 returns-in-Fault-clause-asks g c =
@@ -70,9 +71,9 @@ returns-in-Damaged-clause-tries g c = (
 )
 
 pub returns-in-Damaged-clause-finds : goal.returns-in-Damaged-clause-finds
-returns-in-Damaged-clause-finds g c = λ tree honest holds catalogue guided.
+returns-in-Damaged-clause-finds g c = λ tree honest holds catalogue guided dropped.
     no_damage c.in-Damaged.page (found_in c.looked_key.result.now c.args.held.now tree)
-    (c.in-Damaged.ensures.value tree honest holds catalogue guided c.requires.runs (λ same. cc same))
+    (c.in-Damaged.ensures.value tree honest holds catalogue guided dropped c.requires.runs (λ same. cc same))
 
 pub returns-in-Damaged-clause-asks : goal.returns-in-Damaged-clause-asks
 returns-in-Damaged-clause-asks g c =

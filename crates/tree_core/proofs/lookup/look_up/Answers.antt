@@ -11,8 +11,9 @@ use Rattle.page_file.specs.declared.file.Broken.{Broken}
 use Rattle.page_file.specs.declared.file.Broken.TheVariants.{Fault}
 use Rattle.record_delta.specs.declared.record.Rec.{Rec}
 use Rattle.record_delta.specs.Records.{settled}
-use Rattle.record_delta.specs.Entries.{over_any, record_of_key}
-use Rattle.tree_runs.specs.Lookups.{AreToldBy, IsDamageBelow, from_newest}
+use Rattle.record_delta.specs.Entries.{over_any, record_of_key, replayed}
+use Rattle.mem_table.specs.Tables.{Contents}
+use Rattle.tree_runs.specs.Lookups.{AreToldBy, IsDamageBelow, IsFloorOf, first_record, from_newest}
 use Rattle.core_moves.specs.declared.held.Held.{Held}
 use Rattle.tree_core.specs.Answers.{newest_in, reply_to_get}
 use Rattle.tree_core.specs.Causes.{FindsBecause, IsFound}
@@ -40,7 +41,8 @@ none_is (Some other) is = cc
 
 -- an answer that was found is what was told
 told_is : (found : Lookup) (key : Key) (held : Held) (before after : DiskState) (rec : Option Rec) → IsFound found → reply_to_get found ≡ answer_to_get (settled rec) → held.book.stopped ≡ None → after.faults ≡ before.faults
-    → (IsTrue before.is_honest → AreToldBy held.runs.sizes key before.bytes (from_newest held.runs.catalogue held.runs.guides held.runs.tags) (newest_in key held) rec) → FindsBecause found key held before after
+    → (IsTrue before.is_honest → AreToldBy held.runs.sizes key before.bytes (from_newest held.log.a.floor key held.runs) (newest_in key held) rec)
+        → FindsBecause found key held before after
 told_is (lookup.Is value) key held before after rec is_found is ran same told = (ran, same, λ honest. (rec, told honest, value_is value (settled rec) is))
 told_is lookup.Absent key held before after rec is_found is ran same told = (ran, same, λ honest. (rec, told honest, none_is (settled rec) is))
 told_is lookup.Fault key held before after rec is_found is ran same told = absurd is_found
@@ -50,7 +52,7 @@ told_is (lookup.Stopped why) key held before after rec is_found is ran same told
 -- a damaged page that is named is the one that was told
 damaged_is : (page : ℕ) (key : Key) (held : Held) (before after : DiskState) → held.book.stopped ≡ None → after.faults ≡ before.faults
     → (IsTrue before.is_honest
-    → IsDamageBelow held.runs.sizes key before.bytes (from_newest held.runs.catalogue held.runs.guides held.runs.tags) (newest_in key held) page)
+    → IsDamageBelow held.runs.sizes key before.bytes (from_newest held.log.a.floor key held.runs) (newest_in key held) page)
     → FindsBecause (lookup.Damaged page) key held before after
 damaged_is page key held before after ran same told = (ran, same, told)
 
@@ -58,40 +60,67 @@ pub returns-in-Ok-clause-cause : goal.returns-in-Ok-clause-cause
 returns-in-Ok-clause-cause g c =
     let held = c.args.held.now in
     let before = g.D.Disk.state c.args.disk.now in
-    let below = from_newest held.runs.catalogue held.runs.guides held.runs.tags in
+    let key = c.args.key.now in
     told_is c.answer.result c.args.key.now held before (g.D.Disk.state c.find.new.disk) c.find.new.found c.answer.ensures.is_found c.answer.ensures.reply (sym c.in_default.ensures)
     (c.in-Ok.ensures.reads.stands (no_fault c.in-Ok.field-0))
-    (λ honest. subst (λ (n : Option Rec). AreToldBy held.runs.sizes c.args.key.now before.bytes below n c.find.new.found) c.get-found.ensures (c.in-Ok.ensures.told honest))
+    (λ honest. subst (λ (f : Option Key). AreToldBy held.runs.sizes key before.bytes (from_newest f key held.runs)
+        (newest_in key held) c.find.new.found)
+    (c.floor-floor.ensures.floor ∙ ap (λ (t : Contents). t.floor) c.a.ensures)
+    (subst (λ (n : Option Rec). AreToldBy held.runs.sizes key before.bytes (from_newest c.floor-floor.result.now key held.runs) n c.find.new.found)
+        c.get-found.ensures
+    (c.in-Ok.ensures.told honest)))
 
 pub returns-in-Err-Damaged-clause-cause : goal.returns-in-Err-Damaged-clause-cause
 returns-in-Err-Damaged-clause-cause g c =
     let held = c.args.held.now in
     let before = g.D.Disk.state c.args.disk.now in
     let after = g.D.Disk.state c.find.new.disk in
-    let below = from_newest held.runs.catalogue held.runs.guides held.runs.tags in
+    let key = c.args.key.now in
     subst (λ (p : ℕ). FindsBecause (lookup.Damaged p) c.args.key.now held before after) (sym c.in-Err-Damaged.page-is)
     (damaged_is c.in-Err-Damaged.page c.args.key.now held before after (sym c.in_default.ensures)
     (c.in-Err-Damaged.ensures.reads.stands (λ same. cc (same, c.in-Err-Damaged.field-0-is)))
-    (λ honest. subst (λ (n : Option Rec). IsDamageBelow held.runs.sizes c.args.key.now before.bytes below n c.in-Err-Damaged.page) c.get-found.ensures
-    (c.in-Err-Damaged.ensures.damaged c.in-Err-Damaged.page (cc c.in-Err-Damaged.field-0-is) honest)))
+    (λ honest. subst (λ (f : Option Key). IsDamageBelow held.runs.sizes key before.bytes (from_newest f key held.runs)
+        (newest_in key held) c.in-Err-Damaged.page)
+    (c.floor-floor.ensures.floor ∙ ap (λ (t : Contents). t.floor) c.a.ensures)
+    (subst (λ (n : Option Rec). IsDamageBelow held.runs.sizes key before.bytes
+        (from_newest c.floor-floor.result.now key held.runs) n c.in-Err-Damaged.page) c.get-found.ensures
+    (c.in-Err-Damaged.ensures.damaged c.in-Err-Damaged.page (cc c.in-Err-Damaged.field-0-is) honest))))
 
 pub returns-in-Ok-clause-value : goal.returns-in-Ok-clause-value
-returns-in-Ok-clause-value g c = λ tree honest holds catalogue guided runs not.
+returns-in-Ok-clause-value g c = λ tree honest holds catalogue guided dropped runs not.
+    let held = c.args.held.now in
     let key = c.args.key.now in
-    let rest = over_any (record_of_key key (entries_of tree.c1)) (over_any (record_of_key key (entries_of tree.c1x)) (record_of_key key (entries_of tree.c2))) in
-    let found = same_record c.find.new.found (over_any c.get-found.result rest) (c.in-Ok.ensures.lists tree honest holds catalogue guided (no_fault c.in-Ok.field-0)) in
-    c.answer.ensures.reply ∙ ap (λ (r : Option Rec). answer_to_get (settled r)) (found ∙ ap (λ (n : Option Rec). over_any n rest) c.get-found.ensures)
+    let list = replayed tree.lane_a in
+    let below = λ (f : Option Key).
+    over_any (first_record f key list (entries_of tree.c1)) (over_any (record_of_key key (entries_of tree.c1x))
+        (record_of_key key (entries_of tree.c2))) in
+    let is = c.floor-floor.ensures.floor ∙ ap (λ (t : Contents). t.floor) c.a.ensures in
+    let found = same_record c.find.new.found (over_any c.get-found.result (below c.floor-floor.result.now))
+    (c.in-Ok.ensures.lists tree list honest holds catalogue guided
+    (subst (λ (f : Option Key). IsFloorOf f held.runs list tree.c1 (g.D.Disk.state c.args.disk.now).bytes) (sym is) dropped)
+        (no_fault c.in-Ok.field-0)) in
+    c.answer.ensures.reply
+    ∙ ap (λ (r : Option Rec). answer_to_get (settled r))
+    (found ∙ ap (λ (n : Option Rec). over_any n (below c.floor-floor.result.now)) c.get-found.ensures
+        ∙ ap (λ (f : Option Key). over_any (newest_in key held) (below f)) is)
 
 pub returns-in-Err-Damaged-clause-value : goal.returns-in-Err-Damaged-clause-value
-returns-in-Err-Damaged-clause-value g c = λ tree honest holds catalogue guided runs not.
+returns-in-Err-Damaged-clause-value g c = λ tree honest holds catalogue guided dropped runs not.
     let broken = c.in-Err-Damaged.field-0 in
-    absurd (not_both broken _ (c.in-Err-Damaged.ensures.lists tree honest holds catalogue guided (λ same. cc (same, c.in-Err-Damaged.field-0-is))))
+    let list = replayed tree.lane_a in
+    let is = c.floor-floor.ensures.floor ∙ ap (λ (t : Contents). t.floor) c.a.ensures in
+    absurd (not_both broken _ (c.in-Err-Damaged.ensures.lists tree list honest holds catalogue guided
+    (subst (λ (f : Option Key). IsFloorOf f c.args.held.now.runs list tree.c1 (g.D.Disk.state c.args.disk.now).bytes) (sym is) dropped)
+    (λ same. cc (same, c.in-Err-Damaged.field-0-is))))
 
 pub returns-in-Ok-clause-reads : goal.returns-in-Ok-clause-reads
-returns-in-Ok-clause-reads g c = asked_few c.args.key.now c.args.held.now c.in-Ok.ensures.asks
+returns-in-Ok-clause-reads g c = asked_few c.args.key.now c.args.held.now c.floor-floor.result.now
+    (c.floor-floor.ensures.floor ∙ ap (λ (t : Contents). t.floor) c.a.ensures) c.in-Ok.ensures.asks
 
 pub returns-in-Err-Fault-clause-reads : goal.returns-in-Err-Fault-clause-reads
-returns-in-Err-Fault-clause-reads g c = asked_few c.args.key.now c.args.held.now c.in-Err-Fault.ensures.asks
+returns-in-Err-Fault-clause-reads g c = asked_few c.args.key.now c.args.held.now c.floor-floor.result.now
+    (c.floor-floor.ensures.floor ∙ ap (λ (t : Contents). t.floor) c.a.ensures) c.in-Err-Fault.ensures.asks
 
 pub returns-in-Err-Damaged-clause-reads : goal.returns-in-Err-Damaged-clause-reads
-returns-in-Err-Damaged-clause-reads g c = asked_few c.args.key.now c.args.held.now c.in-Err-Damaged.ensures.asks
+returns-in-Err-Damaged-clause-reads g c = asked_few c.args.key.now c.args.held.now c.floor-floor.result.now
+    (c.floor-floor.ensures.floor ∙ ap (λ (t : Contents). t.floor) c.a.ensures) c.in-Err-Damaged.ensures.asks

@@ -1,17 +1,20 @@
-use Rattle.std.proofs.Common.{rules, ◌≡◌, ◌∙◌, ◌-◌, ℕ, Option, None, Some, Err, inr, ap, sym, subst, refl}
+use Rattle.std.proofs.Common.{rules, ◌≡◌, ◌∙◌, ◌++◌, ℕ, Option, None, Some, Ok, Err, inr, ap, sym, subst, refl}
+use Rattle.std.specs.Prelude.{◌≢◌, IsTrue}
 use Rattle.blsm_model.specs.Geometry.{file_length}
 use Rattle.blsm_model.specs.Sizes.{Sizes}
 use Rattle.std.specs.declared.result.Result.{Result}
 use Rattle.page_file.specs.declared.file.Broken.{Broken}
-use Rattle.page_file.specs.declared.file.Broken.TheVariants.{Damaged}
+use Rattle.page_file.specs.declared.file.Broken.TheVariants.{Damaged, Fault}
+use Rattle.page_file.specs.Component.{ReadsOn}
 use Rattle.page_file.specs.File.{Reads}
 use Rattle.record_delta.specs.declared.record.Rec.{Rec}
 use Rattle.record_delta.specs.Entries.{over_any}
 use Rattle.run_cursor.specs.Lookup.{IsDamaged, IsFoundBy}
-use Rattle.tree_runs.specs.Lookups.{CountsYes, HidesOlder, IsToldBy}
+use Rattle.tree_runs.specs.Holding.{IsGuidedBy}
+use Rattle.tree_runs.specs.Lookups.{CountsYes, HasRecord, HidesOlder, IsToldBy}
 use Rattle.tree_runs.specs.Runs.{GuideState, filter_of, guide_at}
 use Rattle.tree_runs.proofs.GuideLemmas.{guide_named}
-use Rattle.tree_runs.proofs.FindLemmas.{answered, reads_failed, reads_found}
+use Rattle.tree_runs.proofs.FindLemmas.{answered, no_fault, not_failed, reads_failed, reads_found}
 use Rattle.tree_runs.proofs.runs.Runs.find_below.Goals as goal
 use Rattle.tree_runs.proofs.runs.Runs.find_below.Goals.{After-guide, After-find}
 
@@ -96,3 +99,47 @@ returns-in-Err-clause-damaged g c = λ n is honest.
           (subst (λ (s : Sizes). IsDamaged s c.args.run.now c.guide.inside.filter c.guide.inside.fences c.args.key.now n d.bytes) sizes
           (c.find.ensures.damaged n (c.in-Err.is ∙ damaged_as c.in-Err.broken n is) honest)),
     )
+
+-- ---- the record that the pages have
+
+-- what the run's lookup found is that
+record_found : (g : _) (c : After-find g) (rec : Option Rec) → IsTrue (g.D.Disk.state c.args.disk.now).is_honest
+    → HasRecord c.args.self.now.sizes c.args.run.now (guide_at c.args.self.now.guides c.args.role) c.args.key.now
+        (g.D.Disk.state c.args.disk.now).bytes rec
+    → ◌≡◌ {A = GuideState} (record { filter = c.guide.inside.filter; fences = c.guide.inside.fences }) (guide_at c.args.self.now.guides c.args.role)
+    → c.find.result ≢ Err Fault → ◌≡◌ {A = Result (Option Rec) Broken} c.find.result (Ok rec)
+record_found g c rec honest has was other =
+    let file = (g.D.Disk.state c.args.disk.now).bytes in
+    let sizes : c.self.inside.geometry ≡ c.args.self.now.sizes = search rules in
+    c.find.ensures.front has.pages has.behind has.next honest (subst (λ (s : Sizes). ReadsOn s c.args.run.now has.pages has.next file)
+        (sym sizes) has.reads)
+    (subst (λ (r : GuideState). IsGuidedBy r (has.pages ++ has.behind)) (sym was) has.guided) has.below other ∙ ap Ok (sym has.found_is)
+
+unit_fault : (broken : Broken) → ◌≡◌ {A = Result (Option Rec) Broken} (Err broken) (Err Fault)
+    → ◌≡◌ {A = Result (Unit {0}) Broken} (Err broken) (Err Fault)
+unit_fault broken is = cc is
+
+same_record : (one other : Option Rec) → ◌≡◌ {A = Result (Option Rec) Broken} (Ok one) (Ok other) → one ≡ other
+same_record one other same = cc same
+
+pub returns-in-Err-clause-list : goal.returns-in-Err-clause-list
+returns-in-Err-clause-list g c = λ rec honest has other.
+    let at = goal.at.returns-in-Err-clause-list g c in
+    absurd (not_failed (sym c.in-Err.is ∙ record_found g at.After-find rec honest has (guide_was g at.After-guide)
+    (λ is. other (unit_fault c.in-Err.broken (sym c.in-Err.is ∙ is)))))
+
+pub returns-in-Ok-Some-clause-list : goal.returns-in-Ok-Some-clause-list
+returns-in-Ok-Some-clause-list g c = λ rec honest has other.
+    let at = goal.at.returns-in-Ok-Some-clause-list g c in
+    let found = record_found g at.After-find rec honest has (guide_was g at.After-guide)
+        (λ is. no_fault c.in-Ok-Some.field-0 (sym c.in-Ok-Some.is ∙ is)) in
+    ap Ok (c.put_under.ensures ∙ ap (over_any c.args.found.now) (sym c.in-Ok-Some.field-0-is
+        ∙ same_record c.in-Ok-Some.field-0 rec (sym c.in-Ok-Some.is ∙ found)))
+
+pub returns-in-Ok-None-clause-list : goal.returns-in-Ok-None-clause-list
+returns-in-Ok-None-clause-list g c = λ rec honest has other.
+    let at = goal.at.returns-in-Ok-None-clause-list g c in
+    let found = record_found g at.After-find rec honest has (guide_was g at.After-guide)
+        (λ is. no_fault c.in-Ok-None.field-0 (sym c.in-Ok-None.is ∙ is)) in
+    ap Ok (over_none c.args.found.now
+    ∙ ap (over_any c.args.found.now) (sym c.in-Ok-None.field-0-is ∙ same_record c.in-Ok-None.field-0 rec (sym c.in-Ok-None.is ∙ found)))
