@@ -215,8 +215,8 @@ may_resume {role} {inputs = inputs} progress ahead below few w ready light end t
   left = omega (arith, w.left_is, end.whole.z_is, total, fewer);
 }
   where
-    left_named : (inputs : Inputs) (ahead : Resumable) → inputs.at ≡ Some ahead.done.key → ahead.c1x ≡ inputs.newer → ahead.c2 ≡ inputs.older
-        → left_of inputs ≡ left_of (record { newer = ahead.c1x; older = ahead.c2; at = Some ahead.done.key })
+    left_named : (inputs : Inputs) (ahead : Resumable) → inputs.at ≡ Some ahead.done.key → ahead.inputs.value.c1x ≡ inputs.newer → ahead.inputs.value.c2 ≡ inputs.older
+        → left_of inputs ≡ left_of (record { newer = ahead.inputs.value.c1x; older = ahead.inputs.value.c2; at = Some ahead.done.key })
     left_named inputs ahead at_is newer_is older_is = λ i. left_of (record { newer = sym newer_is i; older = sym older_is i; at = at_is i })
 
 -- a page that has a tag has one of the five

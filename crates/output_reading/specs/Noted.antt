@@ -72,8 +72,8 @@ pub record MayNote (of : Component) (role : ℕ) (output : Output) (guides : Lis
 -- the inputs as what goes on behind these pages
 pub record GoesOnWith (inputs : Inputs) (output : Component) (next : ℕ) (ahead : Resumable) : Type 0 where
   pub at_is : inputs.at ≡ Some ahead.done.key
-  pub newer_is : ahead.c1x ≡ inputs.newer
-  pub older_is : ahead.c2 ≡ inputs.older
+  pub newer_is : ahead.inputs.value.c1x ≡ inputs.newer
+  pub older_is : ahead.inputs.value.c2 ≡ inputs.older
   pub output_is : ahead.done.output ≡ output
   pub next_is : ahead.done.next ≡ next
   pub left_is : ahead.done.left ≡ left_of inputs

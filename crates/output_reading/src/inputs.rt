@@ -45,7 +45,7 @@ use merge_step::least_group;
 use page_file::Broken;
 use record_delta::{Rec, settle};
 use run_cursor::Cursor;
-use tree_runs::Resumable;
+use tree_runs::{Cursors, Resumable};
 
 /// Cursors over C1' and C2, and the greatest key that was taken of them.
 #[derive(Debug, Drop)]
@@ -155,8 +155,9 @@ impl Inputs {
         left_above(&self.newer, &self.at) + left_above(&self.older, &self.at)
     }
 
-    /// With them a merge goes on behind its finished pages, of which the last one names this next page; where nothing was taken it has none.
-    pub fn resume(self, output: Component, next: u32) -> Option<Resumable>
+    /// With them, which move into this room, a merge goes on behind its finished pages, of which the last one names this next page; where nothing
+    /// was taken it has none.
+    pub fn resume(self, room: Box<Cursors>, output: Component, next: u32) -> Option<Resumable>
         requires { left_of self < 2 ^ 64 }
         ensures some { IfSome result (GoesOnWith self output next) }
         ensures none { IfNone result (self.at ≡ None) }
@@ -164,6 +165,10 @@ impl Inputs {
         let left = self.left();
         let Inputs { newer, older, at } = self;
         let key = at?;
+        let mut room = room;
+        let here = &mut *room;
+        here.c1x = newer;
+        here.c2 = older;
         Some(Resumable {
             done: Finished {
                 output,
@@ -171,8 +176,7 @@ impl Inputs {
                 key,
                 left,
             },
-            c1x: newer,
-            c2: older,
+            inputs: room,
         })
     }
 }

@@ -38,7 +38,7 @@ use catalog_swap::Progress;
 use disk_trait::Disk;
 use page_file::Broken;
 use page_space::{Role, Space};
-use tree_runs::{GuideRoom, Resumable};
+use tree_runs::{Cursors, GuideRoom, Resumable};
 
 // Takes all of both up to a key, which the output must be, entry by entry, and gives how much that weighs, in bytes.
 fn follow<D: Disk>(
@@ -105,8 +105,8 @@ fn follow<D: Disk>(
 
 /// Walks a deep merge's finished pages beside C1' and C2, and gives them and the next one the tag of the merge's run, with one call of the disk for
 /// each page of the three, and one more where a call fails; it takes no memory. The filter and the fences of that tag, if there are any, are then
-/// those of the finished pages; how many bits the filter has, as many as C1' and C2 weigh bytes, no clause says. It hands on with what the merge
-/// goes on: its key may lie above the progress' one, where all between them settles to nothing.
+/// those of the finished pages; how many bits the filter has, as many as C1' and C2 weigh bytes, no clause says. It hands on in the room with what
+/// the merge goes on: its key may lie above the progress' one, where all between them settles to nothing.
 ///
 /// `Damaged` names the first page that isn't free, isn't a valid page, has no next page, or hasn't the next entries of what C1' and C2 have up to
 /// the progress' key, folded and settled. Where no page is such a one, it names the last page, if the pages aren't all of that, their entries,
@@ -122,6 +122,7 @@ pub fn walk_output<D: Disk>(
     role: Role,
     space: &mut Space,
     guides: &mut GuideRoom,
+    room: Box<Cursors>,
 ) -> Result<Resumable, Broken>
     requires newer { c1x.now.pages ≡ 0 → c1x.now ≡ empty_component }
     requires older { c2.now.pages ≡ 0 → c2.now ≡ empty_component }
@@ -181,7 +182,7 @@ pub fn walk_output<D: Disk>(
     if !inputs.goes_on(disk, geo)? {
         return Err(Broken::Damaged(output.page));
     }
-    let Some(ahead) = inputs.resume(progress.output, progress.next) else {
+    let Some(ahead) = inputs.resume(room, progress.output, progress.next) else {
         return Err(Broken::Damaged(output.page));
     };
     space.claim(role, progress.next);

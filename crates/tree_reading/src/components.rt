@@ -29,7 +29,7 @@ use disk_trait::Disk;
 use output_reading::walk_output;
 use page_file::Broken;
 use page_space::{Role, Space};
-use tree_runs::{GuideRoom, Resumable};
+use tree_runs::{Cursors, GuideRoom, Resumable};
 
 // Walks C1, C1' and C2, whose pages get the tags 0, 1 and 2.
 fn walk_all<D: Disk>(
@@ -91,6 +91,7 @@ fn walk_named<D: Disk>(
     head: &Head,
     space: &mut Space,
     guides: &mut GuideRoom,
+    room: Box<Cursors>,
 ) -> Result<Option<Resumable>, Broken>
     requires right { IsHead head.now.geometry head.now.catalogue }
     requires read { AreRead head.now.geometry (unnamed head.now.catalogue) space.old }
@@ -121,6 +122,7 @@ fn walk_named<D: Disk>(
         Role::new(4),
         space,
         guides,
+        room,
     )?;
     Ok(Some(ahead))
 }
@@ -131,6 +133,7 @@ fn walk_pages<D: Disk>(
     head: &Head,
     space: &mut Space,
     guides: &mut GuideRoom,
+    room: Box<Cursors>,
 ) -> Result<Option<Resumable>, Broken>
     requires right { IsHead head.now.geometry head.now.catalogue }
     requires unused { space.old ≡ unused (page_count head.now.geometry) }
@@ -150,18 +153,19 @@ fn walk_pages<D: Disk>(
     ensures reads { Reads (file_length head.now.geometry) (9 * page_count head.now.geometry) result (D.state disk.old) (D.state disk.new) }
 {
     walk_all(disk, head, space, guides)?;
-    walk_named(disk, head, space, guides)
+    walk_named(disk, head, space, guides, room)
 }
 
 /// Reads the pages of the components, with one call of the disk for each, or two for those of one that doesn't read, and gives those of C1, C1'
 /// and C2 the tags 0, 1 and 2; then the finished pages of the deep merge that the catalogue names, if it names some, beside those of C1' and C2,
 /// with one call for each page of the three, and gives them and the next one the tag 4. The filters and the fences of these tags, if there are any,
-/// are then theirs. It hands on with what that merge goes on.
+/// are then theirs. It hands on in the room with what that merge goes on.
 pub(crate) fn read_components<D: Disk>(
     disk: &mut D,
     head: &Head,
     space: &mut Space,
     guides: &mut GuideRoom,
+    room: Box<Cursors>,
 ) -> Result<Option<Resumable>, Unreadable>
     requires right { IsHead head.now.geometry head.now.catalogue }
     requires unused { space.old ≡ unused (page_count head.now.geometry) }
@@ -183,7 +187,7 @@ pub(crate) fn read_components<D: Disk>(
     ensures faults { TellsFaultsBy (Err Unreadable.Fault) result (D.state disk.old) (D.state disk.new) }
     ensures effect { OnlyReads (file_length head.now.geometry) (9 * page_count head.now.geometry) (D.state disk.old) (D.state disk.new) }
 {
-    match walk_pages(disk, head, space, guides) {
+    match walk_pages(disk, head, space, guides, room) {
         Ok(ahead) => Ok(ahead),
         Err(Broken::Damaged(page)) => Err(Unreadable::Damaged(Place::Page(page))),
         Err(Broken::Fault) => Err(Unreadable::Fault),

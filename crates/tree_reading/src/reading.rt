@@ -27,7 +27,7 @@ use mem_table::Table;
 use page_space::Space;
 use refusal::NoMemory;
 use std::alloc::Global;
-use tree_runs::{GuideRoom, Resumable};
+use tree_runs::{Cursors, GuideRoom, Resumable};
 
 /// What a store is read for.
 #[derive(Clone, Copy, PartialEq, Eq, Debug)]
@@ -63,23 +63,25 @@ fn reserve_guides(alloc: Global, head: &Head, purpose: Purpose) -> Result<GuideR
     }
 }
 
-// Memory for what a store with this head has, with nothing in it. The record that passes the high mark is folded in before it is seen to.
-fn reserve(alloc: Global, head: &Head, purpose: Purpose) -> Result<Room, NoMemory>
+// Memory for what a store with this head has, with nothing in it, and for the cursors of a deep merge that is taken up. The record that passes
+// the high mark is folded in before it is seen to.
+fn reserve(alloc: Global, head: &Head, purpose: Purpose) -> Result<(Room, Box<Cursors>), NoMemory>
     requires right { IsHead head.now.geometry head.now.catalogue }
-    ensures space { IfOk result (λ room. room.space ≡ unused (page_count head.now.geometry)) }
-    ensures shape { IfOk result (λ room. IsSpace room.space) }
-    ensures a { IfOk result (λ room. room.a ≡ empty_table (high_mark head.now.geometry + most_weight)) }
-    ensures b { IfOk result (λ room. room.b ≡ empty_table (high_mark head.now.geometry + most_weight)) }
-    ensures rooms { IfOk result (λ room. AreRooms head.now.catalogue room.guides) }
-    ensures guides { purpose ≡ Purpose.Opening → IfOk result (λ room. AreGuides head.now.geometry first_tags room.guides) }
+    ensures space { IfOk result (λ all. all.0.space ≡ unused (page_count head.now.geometry)) }
+    ensures shape { IfOk result (λ all. IsSpace all.0.space) }
+    ensures a { IfOk result (λ all. all.0.a ≡ empty_table (high_mark head.now.geometry + most_weight)) }
+    ensures b { IfOk result (λ all. all.0.b ≡ empty_table (high_mark head.now.geometry + most_weight)) }
+    ensures rooms { IfOk result (λ all. AreRooms head.now.catalogue all.0.guides) }
+    ensures guides { purpose ≡ Purpose.Opening → IfOk result (λ all. AreGuides head.now.geometry first_tags all.0.guides) }
 {
     let most = head.geometry.high_mark() + Op::MAX_WEIGHT;
-    Ok(Room {
+    let room = Room {
         space: Space::reserve(alloc, head.geometry.pages() as u32)?,
         a: Table::reserve(alloc, most)?,
         b: Table::reserve(alloc, most)?,
         guides: reserve_guides(alloc, head, purpose)?,
-    })
+    };
+    Ok((room, Cursors::reserve(alloc)?))
 }
 
 // What stands behind the head: the ends of the lanes, and with what a deep merge goes on that is named.
@@ -90,7 +92,12 @@ struct Parts {
 }
 
 // Reads what stands behind the head: the components, what is named of a deep merge, and then the lanes.
-fn read_parts<D: Disk>(disk: &mut D, head: &Head, room: &mut Room) -> Result<Parts, Unreadable>
+fn read_parts<D: Disk>(
+    disk: &mut D,
+    head: &Head,
+    room: &mut Room,
+    inputs: Box<Cursors>,
+) -> Result<Parts, Unreadable>
     requires right { IsHead head.now.geometry head.now.catalogue }
     requires unused { room.old.space ≡ unused (page_count head.now.geometry) }
     requires shape { IsSpace room.old.space }
@@ -120,7 +127,7 @@ fn read_parts<D: Disk>(disk: &mut D, head: &Head, room: &mut Room) -> Result<Par
     ensures effect { OnlyReads (file_length head.now.geometry) (9 * page_count head.now.geometry + 2 * lane_calls head.now.geometry)
         (D.state disk.old) (D.state disk.new) }
 {
-    let ahead = read_components(disk, head, &mut room.space, &mut room.guides)?;
+    let ahead = read_components(disk, head, &mut room.space, &mut room.guides, inputs)?;
     let ends = read_lanes(disk, head, &mut room.a, &mut room.b)?;
     Ok(Parts { ends, ahead })
 }
@@ -165,10 +172,10 @@ pub fn read_tree<D: Disk>(
         ≤ (D.state disk.old).clock + calls_of_reading found.catalogue found.records_a found.records_b) }
 {
     let head = read_head(disk)?;
-    let Ok(mut room) = reserve(alloc, &head, purpose) else {
+    let Ok((mut room, inputs)) = reserve(alloc, &head, purpose) else {
         return Err(Unreadable::NoMemory);
     };
-    let parts = read_parts(disk, &head, &mut room)?;
+    let parts = read_parts(disk, &head, &mut room, inputs)?;
     let Parts { ends, ahead } = parts;
     let lanes = lanes_of(&head, ends.a.place, ends.b.place);
     Ok(Found {

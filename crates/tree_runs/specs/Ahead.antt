@@ -18,9 +18,9 @@ pub record MayResume (role : ℕ) (progress : Progress) (both : ℕ) (ahead : Re
   pub next_is : ahead.done.next ≡ progress.next
   pub counted : IsCounted (resumed role ahead.done.output ahead.done.next)
   pub few : ahead.done.output.pages + 1 < 2 ^ 32
-  pub newer_ready : IsReady (Some ahead.done.key) ahead.c1x
-  pub older_ready : IsReady (Some ahead.done.key) ahead.c2
-  pub left_is : ahead.done.left ≡ left_in (Some ahead.done.key) ahead.c1x + left_in (Some ahead.done.key) ahead.c2
+  pub newer_ready : IsReady (Some ahead.done.key) ahead.inputs.value.c1x
+  pub older_ready : IsReady (Some ahead.done.key) ahead.inputs.value.c2
+  pub left_is : ahead.done.left ≡ left_in (Some ahead.done.key) ahead.inputs.value.c1x + left_in (Some ahead.done.key) ahead.inputs.value.c2
   pub light : ahead.done.output.weight + ahead.done.left ≤ both
   pub left : progress.z + ahead.done.left ≤ both
 
@@ -28,11 +28,11 @@ pub record MayResume (role : ℕ) (progress : Progress) (both : ℕ) (ahead : Re
 -- on some of these pages.
 pub record ResumesOver (sizes : Sizes) (file : List ℕ) (space : SpaceState) (role : ℕ) (guide : GuideState) (newer_pages older_pages : List ℕ)
     (newer older : Entries) (ahead : Resumable) : Type 0 where
-  pub newer_is : IsInput sizes file space role (Some ahead.done.key) ahead.c1x newer_pages newer
-  pub older_is : IsInput sizes file space role (Some ahead.done.key) ahead.c2 older_pages older
+  pub newer_is : IsInput sizes file space role (Some ahead.done.key) ahead.inputs.value.c1x newer_pages newer
+  pub older_is : IsInput sizes file space role (Some ahead.done.key) ahead.inputs.value.c2 older_pages older
   pub pages : List RunPage
   pub finished : HasFinished sizes true file space role guide.filter guide.fences ahead.done pages
-  pub front : IsFront true (Some ahead.done.key) (Some ahead.c1x) newer older (entries_of pages) ahead.done.left
+  pub front : IsFront true (Some ahead.done.key) (Some ahead.inputs.value.c1x) newer older (entries_of pages) ahead.done.left
 
 -- What is taken up, if anything is, is what a catalogue names, if it names something.
 abbrev pub IsAhead : ℕ → Option Progress → ℕ → Option Resumable → Type 0

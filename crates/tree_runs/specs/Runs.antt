@@ -121,7 +121,7 @@ due_guides sizes catalogue guides =
 -- where what was finished of it is taken up, it goes on behind that, and its filter and fences are those of the finished pages
 abbrev pub due_from : ℕ → Catalog → Option Resumable → Option DeepState
 due_from tag catalogue None = due_deep tag catalogue
-due_from tag catalogue (Some ahead) = Some (taken_up tag ahead.done ahead.c1x ahead.c2)
+due_from tag catalogue (Some ahead) = Some (taken_up tag ahead.done ahead.inputs.value.c1x ahead.inputs.value.c2)
 
 abbrev pub guides_from : Sizes → Catalog → Option Resumable → List GuideState → List GuideState
 guides_from sizes catalogue None guides = due_guides sizes catalogue guides

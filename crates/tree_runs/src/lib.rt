@@ -13,5 +13,5 @@ mod swaps;
 
 pub use guides::{GuideRoom, PageStart};
 pub use laws::{each_claims_its_own, others_may_write};
-pub use resumable::Resumable;
+pub use resumable::{Cursors, Resumable};
 pub use runs::{MergeRoom, Runs};

@@ -6,12 +6,14 @@ ghost use Rattle.record_delta.specs.Entries.{Entries};
 ghost use Rattle.page_space.specs.Space.{SpaceState};
 ghost use Rattle.page_file.specs.Component.{RunPage, ReadsAs};
 ghost use Rattle.tree_file.specs.Tree.{Tree, HoldsTree};
-ghost use Rattle.tree_runs.specs.Ahead.{IsAhead, IsAheadOn, IsAheadOver};
+ghost use Rattle.catalog_swap.specs.declared.catalog.Progress.{Progress};
+ghost use Rattle.deep_merge.specs.Merge.{taken_up};
+ghost use Rattle.tree_runs.specs.Ahead.{IsAhead, IsAheadOn, IsAheadOver, MayResume};
 ghost use Rattle.tree_runs.specs.Runs.{opened_from, due_deep, due_from, due_guides, guides_from, first_tags, guide_at, pass_begun, AreGuides, AreRead, AreRuns, AreRunning, DeepRuns, GuideState, left_for_pass, left_for_deep};
 ghost use Rattle.tree_runs.specs.Holding.{AreElsewhere, AreGuided, AreOf, AreTagged, IsDeepOver, KeepsOtherGuides, cursor_of_pass};
 
 use crate::guides::{Guide, GuideRoom, begin_deep, begin_snow};
-use crate::resumable::Resumable;
+use crate::resumable::{Cursors, Resumable};
 use blsm_model::{Geometry, Key};
 use catalog_swap::Catalog;
 use deep_merge::Deep;
@@ -37,6 +39,9 @@ pub struct MergeRoom {
 
 impl MergeRoom {
     /// Takes the memory, or tells that it was refused.
+    ///
+    /// It stays a call, so that the merges aren't added to the frame of who reserves them.
+    #[inline(never)]
     pub fn reserve(alloc: Global) -> Result<MergeRoom, NoMemory> {
         Ok(MergeRoom {
             merges: Box::new(
@@ -242,9 +247,25 @@ fn go_on(
         → IsDeepOver sizes file space (guide_at guides.new.items role) slot.new c1x c2 }
 {
     match ahead {
-        Some(Resumable { done, c1x, c2 }) => *slot = Some(Deep::resume(c1x, c2, role, &done)),
+        Some(ahead) => take_up(slot, role, ahead),
         None => begin_due(slot, geo, catalogue, role, guides),
     }
+}
+
+// Puts the deep merge that is taken up where it is to lie. It stays a call, so that the merge and its cursors aren't added to the frame of an
+// opening.
+#[inline(never)]
+fn take_up(slot: &mut Option<Deep>, role: Role, ahead: Resumable)
+    requires { (progress : Progress) × (both : ℕ) × MayResume role progress both ahead }
+    ensures taken { slot.new ≡ Some (taken_up role ahead.done ahead.inputs.value.c1x ahead.inputs.value.c2) }
+    ensures running { (sizes : Sizes) (honest : Bool) (file : List ℕ) (space : SpaceState) (guide : GuideState)
+        → IsAheadOn sizes honest file space role guide (Some ahead) → DeepRuns sizes honest file space guide slot.new }
+    ensures merge { (sizes : Sizes) (file : List ℕ) (space : SpaceState) (guide : GuideState) (c1x c2 : List RunPage)
+        → IsAheadOver sizes file space role guide c1x c2 (Some ahead) → IsDeepOver sizes file space guide slot.new c1x c2 }
+{
+    let Resumable { done, inputs } = ahead;
+    let Cursors { c1x, c2 } = Box::into_inner(inputs);
+    *slot = Some(Deep::resume(c1x, c2, role, &done));
 }
 
 // Puts the deep merge that a catalogue asks for where it is to lie, since it takes some 14 KB: one that has taken nothing, where C1' has pages. Its

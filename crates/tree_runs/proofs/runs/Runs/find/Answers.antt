@@ -25,8 +25,8 @@ first g c =
     let e = c.in_err-find_below.ensures in
     finds_failed c.args.self.now c.args.floor.now c.args.key.now (g.met.D.Disk.timed c.args.disk.now)
     (finds_as c.first_asked-role.ensures.run c.first_asked-role.ensures.role
-        (below_by (Err c.in_err-find_below.field-0.0) c.find_below.new.found e.list e.told e.damaged e.reads
-        (λ hides. ap g.D.Disk.state (e.none hides).0)))
+    (below_by (Err c.in_err-find_below.field-0.0) c.find_below.new.found e.list e.told e.damaged e.reads
+    (λ hides. ap g.D.Disk.state (e.none hides).0)))
     (ap (λ (r : Result (Unit {0}) Broken). found_by r c.find_below.new.found) (p.1 ∙ ap Err p.2))
 
 pub returns-in_err-find_below-clause-lists : goal.returns-in_err-find_below-clause-lists
@@ -53,11 +53,11 @@ second g c =
     let p = err_from_is_err_and c.from_residual-in_err-find_below-2.result c.from_residual-in_err-find_below-2.ensures.1 in
     let e = c.in_ok-find_below.ensures in
     let one = finds_as c.first_asked-role.ensures.run c.first_asked-role.ensures.role
-        (below_by (Ok c.in_ok-find_below.field-0) c.find_below.new.found e.list e.told e.damaged e.reads
-        (λ hides. ap g.D.Disk.state (e.none hides).0)) in
+    (below_by (Ok c.in_ok-find_below.field-0) c.find_below.new.found e.list e.told e.damaged e.reads
+    (λ hides. ap g.D.Disk.state (e.none hides).0)) in
     let f = c.in_err-find_below-2.ensures in
     finds_failed_second c.args.self.now c.args.floor.now c.args.key.now (g.met.D.Disk.timed c.args.disk.now) one
-        (g.met.D.Disk.timed c.find_below.new.disk)
+    (g.met.D.Disk.timed c.find_below.new.disk)
     (finds_where (λ s. s.catalogue.c1x) (λ s. s.tags.c1x) c.self.view_is (below_by (Err c.in_err-find_below-2.field-0.0) c.find_below-2.new.found f.list f.told f.damaged f.reads (λ hides. ap g.D.Disk.state (f.none hides).0)))
     (ap (λ (r : Result (Unit {0}) Broken). found_by r c.find_below-2.new.found) (p.1 ∙ ap Err p.2))
 
@@ -83,14 +83,14 @@ third : (g : _) (c : After-find_below-3 g) → FindsAll c.args.self.now c.args.f
 third g c =
     let e = c.in_ok-find_below.ensures in
     let one = finds_as c.first_asked-role.ensures.run c.first_asked-role.ensures.role
-        (below_by (Ok c.in_ok-find_below.field-0) c.find_below.new.found e.list e.told e.damaged e.reads
-        (λ hides. ap g.D.Disk.state (e.none hides).0)) in
+    (below_by (Ok c.in_ok-find_below.field-0) c.find_below.new.found e.list e.told e.damaged e.reads
+    (λ hides. ap g.D.Disk.state (e.none hides).0)) in
     let f = c.in_ok-find_below-2.ensures in
     let two = finds_where (λ s. s.catalogue.c1x) (λ s. s.tags.c1x) c.self.view_is (below_by (Ok c.in_ok-find_below-2.field-0) c.find_below-2.new.found f.list f.told f.damaged f.reads (λ hides. ap g.D.Disk.state (f.none hides).0)) in
     let l = c.find_below-3.ensures in
     let three = finds_where (λ s. s.catalogue.c2) (λ s. s.tags.c2) c.self.view_is (below_by c.find_below-3.result c.find_below-3.new.found l.list l.told l.damaged l.reads (λ hides. ap g.D.Disk.state (l.none hides).0)) in
     finds_all c.args.self.now c.args.floor.now c.args.key.now (g.met.D.Disk.timed c.args.disk.now) one (g.met.D.Disk.timed c.find_below.new.disk) two
-        (g.met.D.Disk.timed c.find_below-2.new.disk) three
+    (g.met.D.Disk.timed c.find_below-2.new.disk) three
 
 pub returns-clause-lists : goal.returns-clause-lists
 returns-clause-lists g c = lists_by c.find_below-3.result c.find_below-3.new.found (third g c)

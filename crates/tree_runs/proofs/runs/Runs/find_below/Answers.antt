@@ -105,14 +105,14 @@ returns-in-Err-clause-damaged g c = λ n is honest.
 -- what the run's lookup found is that
 record_found : (g : _) (c : After-find g) (rec : Option Rec) → IsTrue (g.D.Disk.state c.args.disk.now).is_honest
     → HasRecord c.args.self.now.sizes c.args.run.now (guide_at c.args.self.now.guides c.args.role) c.args.key.now
-        (g.D.Disk.state c.args.disk.now).bytes rec
+    (g.D.Disk.state c.args.disk.now).bytes rec
     → ◌≡◌ {A = GuideState} (record { filter = c.guide.inside.filter; fences = c.guide.inside.fences }) (guide_at c.args.self.now.guides c.args.role)
     → c.find.result ≢ Err Fault → ◌≡◌ {A = Result (Option Rec) Broken} c.find.result (Ok rec)
 record_found g c rec honest has was other =
     let file = (g.D.Disk.state c.args.disk.now).bytes in
     let sizes : c.self.inside.geometry ≡ c.args.self.now.sizes = search rules in
     c.find.ensures.front has.pages has.behind has.next honest (subst (λ (s : Sizes). ReadsOn s c.args.run.now has.pages has.next file)
-        (sym sizes) has.reads)
+    (sym sizes) has.reads)
     (subst (λ (r : GuideState). IsGuidedBy r (has.pages ++ has.behind)) (sym was) has.guided) has.below other ∙ ap Ok (sym has.found_is)
 
 unit_fault : (broken : Broken) → ◌≡◌ {A = Result (Option Rec) Broken} (Err broken) (Err Fault)
@@ -132,14 +132,14 @@ pub returns-in-Ok-Some-clause-list : goal.returns-in-Ok-Some-clause-list
 returns-in-Ok-Some-clause-list g c = λ rec honest has other.
     let at = goal.at.returns-in-Ok-Some-clause-list g c in
     let found = record_found g at.After-find rec honest has (guide_was g at.After-guide)
-        (λ is. no_fault c.in-Ok-Some.field-0 (sym c.in-Ok-Some.is ∙ is)) in
+    (λ is. no_fault c.in-Ok-Some.field-0 (sym c.in-Ok-Some.is ∙ is)) in
     ap Ok (c.put_under.ensures ∙ ap (over_any c.args.found.now) (sym c.in-Ok-Some.field-0-is
-        ∙ same_record c.in-Ok-Some.field-0 rec (sym c.in-Ok-Some.is ∙ found)))
+    ∙ same_record c.in-Ok-Some.field-0 rec (sym c.in-Ok-Some.is ∙ found)))
 
 pub returns-in-Ok-None-clause-list : goal.returns-in-Ok-None-clause-list
 returns-in-Ok-None-clause-list g c = λ rec honest has other.
     let at = goal.at.returns-in-Ok-None-clause-list g c in
     let found = record_found g at.After-find rec honest has (guide_was g at.After-guide)
-        (λ is. no_fault c.in-Ok-None.field-0 (sym c.in-Ok-None.is ∙ is)) in
+    (λ is. no_fault c.in-Ok-None.field-0 (sym c.in-Ok-None.is ∙ is)) in
     ap Ok (over_none c.args.found.now
     ∙ ap (over_any c.args.found.now) (sym c.in-Ok-None.field-0-is ∙ same_record c.in-Ok-None.field-0 rec (sym c.in-Ok-None.is ∙ found)))
