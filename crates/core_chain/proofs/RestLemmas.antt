@@ -254,4 +254,4 @@ link_quiet {D} state opening seat k old new m call keeps honest whole none = by 
     by None runs =
         let ran : m.stopped ≡ None = ap (λ (b : BookState). b.stopped) whole.book ∙ runs in
         running_quiet state opening seat old new m keeps honest whole runs k call
-            (sym (ap (λ (o : Option Why). not (is_some o) && (calls m seat k && not (is_in_memory old.held.log.a.floor m.lists k))) ran) ∙ none)
+        (sym (ap (λ (o : Option Why). not (is_some o) && (calls m seat k && not (is_in_memory old.held.log.a.floor m.lists k))) ran) ∙ none)

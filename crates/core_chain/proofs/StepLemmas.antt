@@ -190,8 +190,12 @@ module _ {D : Type 0} (state : D → DiskState) (opening : List (Key × Value)) 
     made = made;
     steps_are = ap (λ (xs : List Step). first.0 ∷ xs) rest.steps_are;
     clocks_are = ap (λ (xs : List ℕ). (state first.1.disk).clock ∷ xs) rest.clocks_are;
-    timed = (rises, few, subst (λ (x : Machine). AreTimed x (floors_in first.1 calls) (state first.1.disk).clock rest.made (state end.disk).clock)
-        (sym played_is) rest.timed);
+    timed = (
+      rises,
+      few,
+      subst (λ (x : Machine). AreTimed x (floors_in first.1 calls) (state first.1.disk).clock rest.made (state end.disk).clock)
+          (sym played_is) rest.timed,
+    );
     may = (can, rest_may);
     told = ((state first.1.disk).faults, faults, λ can. one.possible, rest_told);
     whole = (one.whole, rest.whole);

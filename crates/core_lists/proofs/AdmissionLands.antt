@@ -39,14 +39,15 @@ fails : (b : Bool) → (b ≡ true → ⊥) → b ≡ false
 fails b h1 = grind (arith, common_steps, nat_tests)
 
 -- the same core with another tree, over the same file
-pub same_tree : (held new : Held) (tree next : Tree) (m : Machine) (file after : List ℕ) → new ≡ held → next ≡ tree → IsAt held tree m file → AreOf new.runs next new.log.a.entries after → IsAt new next m after
+pub same_tree : (held new : Held) (tree next : Tree) (m : Machine) (file after : List ℕ) → new ≡ held → next ≡ tree → IsAt held tree m file
+    → AreOf new.runs next after → IsAt new next m after
 same_tree held new tree next m file after same stays at are_of =
     let there : IsAt held next m file = subst (λ (t : Tree). IsAt held t m file) (sym stays) at in
     let here : IsAt new next m file = subst (λ (h : Held). IsAt h next m file) (sym same) there in
     record { are_of = are_of; holds = here.holds }
 
 pub deep_settling_lands : (old new : Held) (tree next : Tree) (m : Machine) (pace : Pace) (file after : List ℕ) → IsAt old tree m file → IsSound m → HasPace old pace
-    → SettlesDeep old new → DeepSettlesTree old tree next → AreOf new.runs next new.log.a.entries after → IsAt new next (deep_swapped m) after
+    → SettlesDeep old new → DeepSettlesTree old tree next → AreOf new.runs next after → IsAt new next (deep_swapped m) after
 deep_settling_lands old new tree next m pace file after at sound has settles trees are_of =
     let agrees : Agrees old m = tests_agree_with_lists old tree m file pace at sound has in
     ⊎_elim (λ done.
@@ -58,7 +59,7 @@ deep_settling_lands old new tree next m pace file after at sound has settles tre
     settles
 
 pub pass_settling_lands : (old new : Held) (tree next : Tree) (m : Machine) (pace : Pace) (file after : List ℕ) → IsAt old tree m file → IsSound m → HasPace old pace → IsOne old
-    → SettlesPass old new → PassSettlesTree old new tree next → AreOf new.runs next new.log.a.entries after → IsAt new next (pass_swapped m) after
+    → SettlesPass old new → PassSettlesTree old new tree next → AreOf new.runs next after → IsAt new next (pass_swapped m) after
 pass_settling_lands old new tree next m pace file after at sound has one settles trees are_of =
     let agrees : Agrees old m = tests_agree_with_lists old tree m file pace at sound has in
     ⊎_elim (λ done.
@@ -72,7 +73,7 @@ pass_settling_lands old new tree next m pace file after at sound has one settles
 
 -- a pass begins where it is due: the file stays
 pub beginning_lands : (w : ℕ) (held : Held) (tree : Tree) (m : Machine) (file : List ℕ) → IsAt held tree m file → IsSound m → held.gears.sizes ≡ held.runs.sizes
-    → AreOf (begun_in w held).runs tree (begun_in w held).log.a.entries file → IsAt (begun_in w held) tree (pass_begun_for w m) file
+    → AreOf (begun_in w held).runs tree file → IsAt (begun_in w held) tree (pass_begun_for w m) file
 beginning_lands w held tree m file at sound sizes are_of =
     subst (λ (b : Bool). IsAt (cond test (with_pass_begun held) held) tree (cond b (begin_pass m) m) file) (sym same) (by test are_of)
   where
@@ -88,7 +89,8 @@ beginning_lands w held tree m file at sound sizes are_of =
         ∙ ap (λ (s : Sizes). not (is_some held.runs.pass) && nat_lt s.low (m.spring + w)) (ap (λ (g : GearState). g.sizes) at.holds.gears ∙ sizes)
         ∙ ap (λ (n : ℕ). not (is_some held.runs.pass) && nat_lt held.runs.sizes.low (n + w)) at.holds.spring
 
-    by : (b : Bool) → AreOf (cond b (with_pass_begun held) held).runs tree (cond b (with_pass_begun held) held).log.a.entries file → IsAt (cond b (with_pass_begun held) held) tree (cond b (begin_pass m) m) file
+    by : (b : Bool) → AreOf (cond b (with_pass_begun held) held).runs tree file
+        → IsAt (cond b (with_pass_begun held) held) tree (cond b (begin_pass m) m) file
     by true of = begin_lands held tree m file at of
     by false of = at
 
@@ -118,7 +120,7 @@ readying_lands w old settled ready tree middle next m before after file between 
 pub admission_lands : (seat : ℕ) (op : Op) (write : Write) (begun written new : Held) (tree : Tree) (m : Machine) (file after : List ℕ) → writes_of op ≡ write ∷ [] → IsSound m → HasWay m
     → IsAt begun tree (ready_for (total_weight (writes_of op)) m) file → WritesIn seat (key_of write) (record_of write) begun written → new ≡ with_book (noted_in seat op Done written.book) written
     → (IsLogOf tree begun.log → IsLogOf (appended (goes_ahead (key_of write) begun) (key_of write, record_of write) tree) written.log)
-    → AreOf written.runs (appended (goes_ahead (key_of write) begun) (key_of write, record_of write) tree) written.log.a.entries after
+    → AreOf written.runs (appended (goes_ahead (key_of write) begun) (key_of write, record_of write) tree) after
     → IsAt new (appended (goes_ahead (key_of write) begun) (key_of write, record_of write) tree) (admit_fitting m seat op (total_weight (writes_of op)) Well).state after
 admission_lands seat op write begun written new tree m file after writes sound way at moves noted of_log are_of =
     let w = total_weight (writes_of op) in

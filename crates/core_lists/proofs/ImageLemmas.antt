@@ -93,7 +93,7 @@ module _ (opening : List (Key × Value)) (old settled : Held) (m : Machine) (fro
   test : pass_done (deep_swapped m) ≡ ((deep_settled (pace_of m)).gears.pass && pace_pass_done (deep_settled (pace_of m)))
   test = pass_test (deep_swapped m) sound ∙ ap (λ (q : Pace). q.gears.pass && pace_pass_done q) same
 
-  fronts_by_test : (next : Tree) → (IsPassDone settled → IsPassSwapped (is_run_full settled) settled.log.a.entries middle next) → ((IsPassDone settled → ⊥) → next ≡ middle)
+  fronts_by_test : (next : Tree) → (IsPassDone settled → IsPassSwapped (is_run_full settled) middle next) → ((IsPassDone settled → ⊥) → next ≡ middle)
       → HasFronts next (swapped m).lists (fronts_ready (pace_of m) fronts)
   fronts_by_test next done rests = subst (λ (b : Bool). HasFronts next (swapped m).lists (cond b (fronts_turned fronts) fronts)) test (by (pass_done (deep_swapped m)) refl)
     where
@@ -106,7 +106,7 @@ module _ (opening : List (Key × Value)) (old settled : Held) (m : Machine) (fro
           let stays : next ≡ middle = rests (λ over. false≢true (sym undone ∙ agrees.pass_is_done.0 over)) in
           subst (λ (t : Tree). HasFronts t (deep_swapped m).lists fronts) (sym stays) lanes
 
-  shows_either : (next : Tree) (image : List ℕ) → IsPassDone settled → IsPassSwapped (is_run_full settled) settled.log.a.entries middle next
+  shows_either : (next : Tree) (image : List ℕ) → IsPassDone settled → IsPassSwapped (is_run_full settled) middle next
       → HoldsEither m.gears.sizes middle next image → ShowsWhole opening m image
   shows_either next image done turned either =
       let over : pass_done (deep_swapped m) ≡ true = agrees.pass_is_done.0 done in
@@ -122,7 +122,7 @@ ready_fronts opening old settled ready m fronts tree middle next file between is
 
 -- While the pass is swapped in, each image does, too.
 pub pass_swap_images : (opening : List (Key × Value)) (old settled : Held) (m : Machine) (fronts : Fronts) (tree middle next : Tree) (file between image : List ℕ)
-    → SettledIn opening old settled m fronts tree middle file between → IsPassDone settled → IsPassSwapped (is_run_full settled) settled.log.a.entries middle next
+    → SettledIn opening old settled m fronts tree middle file between → IsPassDone settled → IsPassSwapped (is_run_full settled) middle next
     → HoldsEither m.gears.sizes middle next image → ShowsWhole opening m image
 pass_swap_images opening old settled m fronts tree middle next file between image is done turned either =
     shows_either opening old settled m fronts tree middle file between is next image done turned either

@@ -31,14 +31,14 @@ regrouped b a first rest = over_any_assoc b a (over_any first rest) ∙ ap (over
 -- What the tables have of a key, over what was dropped of table A and what the components have of it, is what the machine has.
 pub lookup_is_the_machines : (held : Held) (tree : Tree) (m : Machine) (file : List ℕ) (key : Key) → IsAt held tree m file
     → settled (over_any (over_any (record_of_key key held.log.b.entries) (record_of_key key held.log.a.entries))
-    (over_any (first_record held.log.a.floor key (replayed tree.lane_a) (entries_of tree.c1))
+    (over_any (first_record held.log.a.floor key tree)
     (over_any (record_of_key key (entries_of tree.c1x)) (record_of_key key (entries_of tree.c2)))))
     ≡ value_in m.lists key
 lookup_is_the_machines held tree m file key at =
     ap settled
     (ap (λ (es : Entries). over_any (over_any b (record_of_key key es)) (over_any first rest)) at.holds.of_log.a.entries
     ∙ regrouped b (record_of_key key (above floor list)) first rest
-    ∙ ap (λ (r : Option Rec). over_any b (over_any r rest)) (rest_over floor key list c1)
+    ∙ ap (λ (r : Option Rec). over_any b (over_any r rest)) (rest_over floor key tree)
     ∙ sym (regrouped b (record_of_key key list) (record_of_key key c1) rest))
     ∙ looked m.lists held.log.b.entries list c1 (entries_of tree.c1x) (entries_of tree.c2) key
     (table_b held tree m file at) (ap (λ (l : Lists). l.a) at.holds.lists) (list_c1 held tree m file at)
@@ -57,7 +57,7 @@ lookup_is_the_machines held tree m file key at =
     b = record_of_key key held.log.b.entries
 
     first : Option Rec
-    first = first_record floor key list c1
+    first = first_record floor key tree
 
     rest : Option Rec
     rest = over_any (record_of_key key (entries_of tree.c1x)) (record_of_key key (entries_of tree.c2))

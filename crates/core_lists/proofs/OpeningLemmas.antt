@@ -32,7 +32,8 @@ use Rattle.core_lists.proofs.Terms.{StandsIn}
 use Rattle.pacing.proofs.Terms.{no_fronts}
 
 module _ (annals : Book) (faults : ℕ) (held : Held) (tree : Tree) (file : List ℕ) (is : IsOpened annals faults held) (one : IsOne held)
-    (of : AreOf held.runs tree held.log.a.entries file) (lane_a : tree.lane_a ≡ []) (lane_b : tree.lane_b ≡ []) (opening : IsOpening held.runs.sizes held.runs.catalogue.c1.weight held.runs.catalogue.c2.weight) where
+    (of : AreOf held.runs tree file) (lane_a : tree.lane_a ≡ []) (lane_b : tree.lane_b ≡ [])
+        (opening : IsOpening held.runs.sizes held.runs.catalogue.c1.weight held.runs.catalogue.c2.weight) where
   abbrev first : Machine
   first = opened held.runs.sizes (entries_of tree.c1) (entries_of tree.c2) (catalogue_of held.runs.catalogue) faults annals.room
 
@@ -86,7 +87,8 @@ module _ (annals : Book) (faults : ℕ) (held : Held) (tree : Tree) (file : List
 
 -- Where the file holds a tree whose lanes are empty, the machine's history begins with the map of that tree.
 pub opening_stands : (annals : Book) (faults : ℕ) (held : Held) (numbers : Pace) (tree : Tree) (file : List ℕ) → IsOpened annals faults held → IsOne held → HasPace held numbers
-    → AreOf held.runs tree held.log.a.entries file → tree.lane_a ≡ [] → tree.lane_b ≡ [] → IsOpening held.runs.sizes held.runs.catalogue.c1.weight held.runs.catalogue.c2.weight
+    → AreOf held.runs tree file → tree.lane_a ≡ [] → tree.lane_b ≡ [] → IsOpening held.runs.sizes held.runs.catalogue.c1.weight
+        held.runs.catalogue.c2.weight
     → StandsIn (map_of_tree tree) held (opened held.runs.sizes (entries_of tree.c1) (entries_of tree.c2) (catalogue_of held.runs.catalogue) faults annals.room)
     no_fronts tree file
 opening_stands annals faults held numbers tree file is one has of lane_a lane_b opening = record {

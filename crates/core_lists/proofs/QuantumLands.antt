@@ -5,7 +5,7 @@ use Rattle.std.proofs.lemmas.Bool.Decides.{nat_tests}
 use Rattle.std.proofs.Common.{arith}
 use Rattle.blsm_model.specs.Sizes.{Sizes}
 use Rattle.blsm_model.specs.declared.key.Key.{Key}
-use Rattle.record_delta.specs.Entries.{Entries, is_above}
+use Rattle.record_delta.specs.Entries.{Entries, is_above, replayed}
 use Rattle.page_file.specs.Component.{entries_of}
 use Rattle.gear_sched.specs.Gears.{GearState}
 use Rattle.merge_ends.specs.Quantum.{IsQuantum}
@@ -16,7 +16,7 @@ use Rattle.tree_machine.specs.Moves.{pass_quantum_of, deep_quantum_of, pass_quan
 use Rattle.tree_runs.specs.Holding.{PassTakes, PassTook, DeepTakes, DeepTook, AreOf}
 use Rattle.tree_runs.proofs.QuantaLemmas.{quanta_agree}
 use Rattle.core_lists.specs.Standing.{HoldsMachine, IsPassAt, IsDeepAt}
-use Rattle.core_lists.proofs.WeighLemmas.{table_a, list_c1, list_c1x, list_c2}
+use Rattle.core_lists.proofs.WeighLemmas.{list_a, list_c1, list_c1x, list_c2}
 use Rattle.std.specs.Prelude.{List}
 use Rattle.tree_machine.specs.Layers.{IsSound}
 use Rattle.tree_machine.specs.Machine.{Machine}
@@ -33,8 +33,8 @@ same_quantum : (least least2 : ℕ) (from from2 to : Option Key) (newer newer2 o
 same_quantum least least2 from from2 to newer newer2 older older2 n l f a b is = grind (arith, common_steps, nat_tests)
 
 pub pass_quantum_lands : (seat n : ℕ) (old new : Held) (tree : Tree) (m : Machine) (file after : List ℕ) → IsAt old tree m file → IsSound m → IsOne old → 0 < old.runs.sizes.quantum
-    → TakesOfPass seat n old new → PassTook old.runs.sizes.quantum old.runs.pass new.runs.pass old.log.a.entries (entries_of tree.c1) n
-    → AreOf new.runs tree new.log.a.entries after → IsAt new tree (pass_quantum seat m) after
+    → TakesOfPass seat n old new → PassTook old.runs.sizes.quantum old.runs.pass new.runs.pass (replayed tree.lane_a) (entries_of tree.c1) n
+    → AreOf new.runs tree after → IsAt new tree (pass_quantum seat m) after
 pass_quantum_lands seat n old new tree m file after at sound one positive moves took are_of =
     record { are_of = are_of; holds = by m.merges.pass old.runs.pass new.runs.pass refl at.holds.pass moves.takes took }
   where
@@ -45,7 +45,8 @@ pass_quantum_lands seat n old new tree m file after at sound one positive moves 
         → n ≡ (quantum_of m.gears.sizes.quantum pass m.lists.a m.lists.c1).weight → HoldsMachine new tree (pass_quantum_of (Some pass) seat m)
     moved pass snow next is comes weighs = grind (arith, common_steps, nat_tests)
 
-    by : (p : Option Merge) (o q : Option SnowState) → new.runs.pass ≡ q → IsPassAt p o → PassTakes old.runs.sizes.quantum o q old.log.a.entries n → PassTook old.runs.sizes.quantum o q old.log.a.entries (entries_of tree.c1) n
+    by : (p : Option Merge) (o q : Option SnowState) → new.runs.pass ≡ q → IsPassAt p o → PassTakes old.runs.sizes.quantum o q old.log.a.entries n
+        → PassTook old.runs.sizes.quantum o q (replayed tree.lane_a) (entries_of tree.c1) n
         → HoldsMachine new tree (pass_quantum_of p seat m)
     by None None None is comes takes took = absurd takes
     by None None (Some next) is comes takes took = absurd takes
@@ -57,13 +58,13 @@ pass_quantum_lands seat n old new tree m file after at sound one positive moves 
     by (Some pass) (Some snow) (Some next) is comes takes took =
         let onward : IsOnward pass.cursor next.at = λ (key : Key) past. subst (λ (k : Option Key). is_above k key ≡ true) (sym comes) (takes.takes.onward key past) in
         let agree = quanta_agree m.gears.sizes.quantum pass next.at m.lists.a m.lists.c1 n (subst (λ (k : ℕ). 0 < k) least_is positive) sound.layered.sorted_a sound.layered.sorted_c1 onward
-        (same_quantum old.runs.sizes.quantum m.gears.sizes.quantum snow.at pass.cursor next.at old.log.a.entries m.lists.a (entries_of tree.c1) m.lists.c1 n
-        least_is (sym comes) (sym (table_a old tree m at.holds one)) (sym (list_c1 old tree m file at)) took) in
+        (same_quantum old.runs.sizes.quantum m.gears.sizes.quantum snow.at pass.cursor next.at (replayed tree.lane_a) m.lists.a
+        (entries_of tree.c1) m.lists.c1 n least_is (sym comes) (sym (list_a old tree m at.holds)) (sym (list_c1 old tree m file at)) took) in
         moved pass snow next is agree.1 agree.0
 
 pub deep_quantum_lands : (seat n : ℕ) (old new : Held) (tree : Tree) (m : Machine) (file after : List ℕ) → IsAt old tree m file → IsSound m → old.gears.sizes ≡ old.runs.sizes → 0 < old.runs.sizes.quantum
     → TakesOfDeep seat n old new → DeepTook old.runs.sizes.quantum old.runs.deep new.runs.deep (entries_of tree.c1x) (entries_of tree.c2) n
-    → AreOf new.runs tree new.log.a.entries after → IsAt new tree (deep_quantum seat m) after
+    → AreOf new.runs tree after → IsAt new tree (deep_quantum seat m) after
 deep_quantum_lands seat n old new tree m file after at sound sizes positive moves took are_of =
     record { are_of = are_of; holds = by m.merges.deep old.runs.deep new.runs.deep refl at.holds.deep moves.takes took }
   where

@@ -60,7 +60,7 @@ module _ (seat : ℕ) (held : Held) (tree : Tree) (m : Machine) (file : List ℕ
   settling nothing = subst (λ (s : Machine). IsAt (with_debts_forgiven seat held) tree s file) (sym (paid_is ∙ ap (λ (plan : Plan). (pay_planned plan (forgive seat m) seat Well).state) nothing)) forgiven_at
 
   paid_by : (n : ℕ) (taken : Held) (after : List ℕ) (plan : Plan) → TakesByPlan plan seat n (with_debts_forgiven seat held) taken → TookByPlan plan n (with_debts_forgiven seat held) taken tree
-      → AreOf taken.runs tree taken.log.a.entries after → IsAt (with_book (paid_in seat taken.book) taken) tree (pay_planned plan (forgive seat m) seat Well).state after
+      → AreOf taken.runs tree after → IsAt (with_book (paid_in seat taken.book) taken) tree (pay_planned plan (forgive seat m) seat Well).state after
   paid_by n taken after Nothing takes took are_of = absurd takes
   paid_by n taken after Snow takes took are_of =
       (book_lands taken tree (pass_quantum seat (forgive seat m)) after
@@ -74,7 +74,8 @@ pub settling_lands : (seat : ℕ) (held : Held) (tree : Tree) (m : Machine) (fil
 settling_lands seat held tree m file is nothing = settling seat held tree m file is nothing
 
 pub payment_lands : (seat n : ℕ) (old taken new : Held) (tree : Tree) (m : Machine) (file after : List ℕ) → IsSteady old tree m file → Pays seat n old taken new
-    → TookByPlan (plan_in seat old) n (with_debts_forgiven seat old) taken tree → AreOf taken.runs tree taken.log.a.entries after → IsAt new tree (pay m seat Well).state after
+    → TookByPlan (plan_in seat old) n (with_debts_forgiven seat old) taken tree → AreOf taken.runs tree after
+        → IsAt new tree (pay m seat Well).state after
 payment_lands seat n old taken new tree m file after is pays took are_of =
     subst (λ (h : Held). IsAt h tree (pay m seat Well).state after) (sym pays.counted)
     (subst (λ (s : Machine). IsAt (with_book (paid_in seat taken.book) taken) tree s after) (sym (paid_is seat old tree m file is))
@@ -151,24 +152,27 @@ is_due true m = due_choice (nat_lt m.gears.sizes.low m.spring) false m
 is_due false m = due_choice (not (memory_weight m.lists == 0)) (not (entries_weight m.lists.c1 == 0)) m
 
 turned_by : (mv : Move) (seat n : ℕ) (old moved : Held) (tree next : Tree) (m : Machine) (file after : List ℕ) → IsSteady old tree m file → IsDue (choice_of mv) m → TurnsBy mv seat n old moved
-    → TurnsTree mv n old moved tree next → AreOf moved.runs next moved.log.a.entries after → IsAt moved next (chosen (choice_of mv) seat m) after
+    → TurnsTree mv n old moved tree next → AreOf moved.runs next after → IsAt moved next (chosen (choice_of mv) seat m) after
 turned_by pacing.SwapDeep seat n old moved tree next m file after is due moves trees are_of = deep_swap_lands old moved tree next m file after is.at is.sound due moves trees are_of
 turned_by pacing.SwapPass seat n old moved tree next m file after is due moves trees are_of = pass_swap_lands old moved tree next m file after is.at is.one is.sound due moves trees.0 trees.1 are_of
 turned_by pacing.TakeDeep seat n old moved tree next m file after is due moves trees are_of =
     subst (λ (t : Tree). IsAt moved t (deep_quantum seat m) after) (sym trees.0)
-    (deep_quantum_lands seat n old moved tree m file after is.at is.sound is.one.gears is.positive moves trees.1 (subst (λ (t : Tree). AreOf moved.runs t moved.log.a.entries after) trees.0 are_of))
+    (deep_quantum_lands seat n old moved tree m file after is.at is.sound is.one.gears is.positive moves trees.1
+        (subst (λ (t : Tree). AreOf moved.runs t after) trees.0 are_of))
 turned_by pacing.TakeSnow seat n old moved tree next m file after is due moves trees are_of =
     subst (λ (t : Tree). IsAt moved t (pass_quantum seat m) after) (sym trees.0)
-    (pass_quantum_lands seat n old moved tree m file after is.at is.sound is.one is.positive moves trees.1 (subst (λ (t : Tree). AreOf moved.runs t moved.log.a.entries after) trees.0 are_of))
+    (pass_quantum_lands seat n old moved tree m file after is.at is.sound is.one is.positive moves trees.1
+        (subst (λ (t : Tree). AreOf moved.runs t after) trees.0 are_of))
 turned_by pacing.Begin seat n old moved tree next m file after is due moves trees are_of =
-    let begun : AreOf (with_pass_begun old).runs tree old.log.a.entries after =
-    subst (λ (h : Held). AreOf h.runs tree h.log.a.entries after) moves (subst (λ (t : Tree). AreOf moved.runs t moved.log.a.entries after) trees are_of) in
+    let begun : AreOf (with_pass_begun old).runs tree after =
+    subst (λ (h : Held). AreOf h.runs tree after) moves (subst (λ (t : Tree). AreOf moved.runs t after) trees are_of) in
     subst (λ (t : Tree). IsAt moved t (begin_pass m) after) (sym trees) (subst (λ (h : Held). IsAt h tree (begin_pass m) after) (sym moves) (begin_in old tree m file after is.at begun))
 turned_by pacing.Rotate seat n old moved tree next m file after is due moves trees are_of = rotation_lands old moved tree next m file after is.at moves trees are_of
 turned_by pacing.Idle seat n old moved tree next m file after is due moves trees are_of = same_tree old moved tree next m file after moves trees is.at are_of
 
 pub turn_lands : (is_worker : Bool) (seat n : ℕ) (old moved : Held) (tree next : Tree) (m : Machine) (file after : List ℕ) → IsSteady old tree m file → TurnsBy (move_in is_worker old) seat n old moved
-    → TurnsTree (move_in is_worker old) n old moved tree next → AreOf moved.runs next moved.log.a.entries after → IsAt moved next (chosen (chosen_by is_worker m) seat m) after
+    → TurnsTree (move_in is_worker old) n old moved tree next → AreOf moved.runs next after
+        → IsAt moved next (chosen (chosen_by is_worker m) seat m) after
 turn_lands is_worker seat n old moved tree next m file after is moves trees are_of =
     let same = choices old tree m file is is_worker in
     subst (λ (c : Choice). IsAt moved next (chosen c seat m) after) (sym same)
@@ -183,7 +187,7 @@ same_quanta mv = grind (arith, common_steps, nat_tests)
 
 -- With its count it is a turn of a caller's work,
 pub work_lands : (seat n : ℕ) (old moved new : Held) (tree next : Tree) (m : Machine) (file after : List ℕ) → IsSteady old tree m file → HasWay m → Works seat n old moved new
-    → TurnsTree (move_in false old) n old moved tree next → AreOf moved.runs next moved.log.a.entries after → IsAt new next (work_turn m seat Well).state after
+    → TurnsTree (move_in false old) n old moved tree next → AreOf moved.runs next after → IsAt new next (work_turn m seat Well).state after
 work_lands seat n old moved new tree next m file after is way works trees are_of =
     let c = chosen_by false m in
     let mv = move_in false old in
@@ -205,7 +209,7 @@ work_lands seat n old moved new tree next m file after is way works trees are_of
 
 -- or of a worker, before the store is closed.
 pub help_lands : (seat n : ℕ) (old moved new : Held) (tree next : Tree) (m : Machine) (file after : List ℕ) → IsSteady old tree m file → is_closed m ≡ false → Helps seat n old moved new
-    → TurnsTree (move_in true old) n old moved tree next → AreOf moved.runs next moved.log.a.entries after → IsAt new next (worker_turn m seat Well).state after
+    → TurnsTree (move_in true old) n old moved tree next → AreOf moved.runs next after → IsAt new next (worker_turn m seat Well).state after
 help_lands seat n old moved new tree next m file after is opened helps trees are_of =
     let then = chosen (chosen_by true m) seat m in
     let there : IsAt moved next then after = turn_lands true seat n old moved tree next m file after is helps.moves trees are_of in

@@ -43,7 +43,7 @@ use Rattle.pacing.proofs.Terms.{fronts_ready}
 
 -- In this file the runs are of the tree, and with its lists the core is the machine's state.
 pub record IsAt (held : Held) (tree : Tree) (m : Machine) (file : List ℕ) : Type 0 where
-  pub are_of : AreOf held.runs tree held.log.a.entries file
+  pub are_of : AreOf held.runs tree file
   pub holds : HoldsMachine held tree m
 
 -- A turn that is over counts for the caller's work, and one of a worker for the worker.
@@ -104,7 +104,7 @@ table_weight false lists = entries_weight lists.b
 
 -- So does the pass's, which turns the log.
 pub record PassSettlesTree (old new : Held) (tree next : Tree) : Type 0 where
-  pub done : IsPassDone old → IsPassSwapped (is_run_full old) old.log.a.entries tree next
+  pub done : IsPassDone old → IsPassSwapped (is_run_full old) tree next
   pub turns : IsPassDone old → TurnsLog old.log new.log
   pub rests : (IsPassDone old → ⊥) → next ≡ tree
 
@@ -118,11 +118,11 @@ pub record IsReadied (w : ℕ) (settled ready : Held) (middle next : Tree) (m : 
 pub record Readies (w : ℕ) (old settled ready : Held) (tree middle next : Tree) (between last : List ℕ) : Type 0 where
   pub deep : SettlesDeep old settled
   pub deep_tree : DeepSettlesTree old tree middle
-  pub after_deep : AreOf settled.runs middle settled.log.a.entries between
+  pub after_deep : AreOf settled.runs middle between
   pub pass : SettlesPass settled ready
   pub pass_tree : PassSettlesTree settled ready middle next
-  pub after_pass : AreOf ready.runs next ready.log.a.entries last
-  pub begun : AreOf (begun_in w ready).runs next (begun_in w ready).log.a.entries last
+  pub after_pass : AreOf ready.runs next last
+  pub begun : AreOf (begun_in w ready).runs next last
 
 -- The core stands at the machine's state, over the tree that this file holds, and the machine is paced; no front of a lane weighs more than
 -- these. The core's numbers are some pace's, which need not be the machine's.

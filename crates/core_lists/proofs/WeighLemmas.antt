@@ -2,21 +2,27 @@
 use Rattle.std.proofs.Common.{◌≡◌, ◌∙◌, ℕ, List, ap, sym}
 use Rattle.std.proofs.Common.{arith}
 use Rattle.catalog_swap.specs.declared.catalog.Catalog.{Catalog}
-use Rattle.record_delta.specs.Entries.{entries_weight, replayed}
+use Rattle.record_delta.specs.Entries.{above, entries_weight, replayed}
 use Rattle.page_file.specs.Component.{entries_of}
 use Rattle.tree_machine.specs.Lists.{Lists, memory_weight}
 use Rattle.tree_machine.specs.Machine.{Machine}
 use Rattle.tree_file.specs.Tree.{Tree, lists_of}
 use Rattle.tree_log.specs.Log.{LogState, IsLogOf, listed_in_a, weight_of_tables}
 use Rattle.tree_log.proofs.RestLemmas.{rest_weighs, whole_list}
-use Rattle.core_moves.specs.declared.held.Held.{Held}
+use Rattle.tree_runs.specs.Holding.{HasAllAhead, cursor_of_pass}
 use Rattle.core_moves.specs.Held.{IsOne}
+use Rattle.core_moves.specs.declared.held.Held.{Held}
 use Rattle.core_lists.specs.Standing.{HoldsMachine}
 use Rattle.core_lists.proofs.Terms.{IsAt}
 
--- what table A has is its list
-pub table_a : (held : Held) (tree : Tree) (m : Machine) → HoldsMachine held tree m → IsOne held → m.lists.a ≡ held.log.a.entries
-table_a held tree m holds one = ap (λ (l : Lists). l.a) holds.lists ∙ sym (whole_list (replayed tree.lane_a) held.log.a one.whole_a holds.of_log.a)
+-- table A's list
+pub list_a : (held : Held) (tree : Tree) (m : Machine) → HoldsMachine held tree m → m.lists.a ≡ replayed tree.lane_a
+list_a held tree m holds = ap (λ (l : Lists). l.a) holds.lists
+
+-- While nothing is dropped of it, it has all of that.
+pub all_ahead : (held : Held) (tree : Tree) → IsOne held → IsLogOf tree held.log → HasAllAhead held.runs.pass held.log.a.entries tree
+all_ahead held tree one is =
+    ap (above (cursor_of_pass held.runs.pass)) (sym (whole_list (replayed tree.lane_a) held.log.a one.whole_a is.a))
 
 -- the tables of a log weigh what its tree's lists do
 pub tables_weigh : (lists : Lists) (tree : Tree) (log : LogState) → lists ≡ lists_of tree → IsLogOf tree log → memory_weight lists ≡ weight_of_tables log

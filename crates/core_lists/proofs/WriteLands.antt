@@ -45,7 +45,7 @@ write_has_lists seat write held tree m holds = grind (arith, common_steps, nat_t
 -- The write is appended where it goes, is in its table, and counts for the peak.
 pub write_lands : (seat : ℕ) (write : Write) (old new : Held) (tree : Tree) (m : Machine) (file after : List ℕ) → IsAt old tree m file → IsSound m → WritesIn seat (key_of write) (record_of write) old new
     → (IsLogOf tree old.log → IsLogOf (appended (goes_ahead (key_of write) old) (key_of write, record_of write) tree) new.log)
-    → AreOf new.runs (appended (goes_ahead (key_of write) old) (key_of write, record_of write) tree) new.log.a.entries after
+    → AreOf new.runs (appended (goes_ahead (key_of write) old) (key_of write, record_of write) tree) after
     → IsAt new (appended (goes_ahead (key_of write) old) (key_of write, record_of write) tree) (with_peak (take_write seat write m)) after
 write_lands seat write old new tree m file after at sound moves of_log are_of =
     let key = key_of write in

@@ -12,7 +12,7 @@ use Rattle.disk_trait.specs.Effects.{Affects}
 use Rattle.gated_log.specs.Lane.{lane_region}
 use Rattle.scan_view.specs.Pins.{beside_pins}
 use Rattle.tree_file.specs.Tree.{Tree, HoldsTree}
-use Rattle.tree_log.specs.Log.{IsAboveFloor, appended, lane_for, with_entry}
+use Rattle.tree_log.specs.Log.{IsAboveFloor, appended, lane_for}
 use Rattle.tree_runs.specs.Runs.{AreRunning}
 use Rattle.tree_runs.specs.Holding.{AreOf}
 use Rattle.tree_runs.specs.Laws.{IsBesideRuns}
@@ -54,9 +54,9 @@ runs_on {end} {most} {old} {new} ahead held one effect running =
 -- and over the lists with the entry
 pub joined : {end most : ℕ} {old new : DiskState} (ahead : Bool) (held : Held) (tree : Tree) (key : Key) (rec : Rec) → IsOne held
     → goes_ahead key held ≡ ahead → Affects (lane_region held.log.lanes.sizes (lane_for ahead held.log)) end most old new → IsTrue old.is_honest
-    → AreOf held.runs tree held.log.a.entries old.bytes → HoldsTree held.runs.sizes (appended ahead (key, rec) tree) new.bytes
-    → AreOf held.runs (appended ahead (key, rec) tree) (with_entry ahead key rec held.log).a.entries new.bytes
+    → AreOf held.runs tree old.bytes → HoldsTree held.runs.sizes (appended ahead (key, rec) tree) new.bytes
+    → AreOf held.runs (appended ahead (key, rec) tree) new.bytes
 joined {end} {most} {old} {new} true held tree key rec one is effect honest are holds =
-    entries_join held.runs tree held.log.a.entries old.bytes new.bytes key rec (beside true held one effect honest) is are holds
+    entries_join held.runs tree old.bytes new.bytes key rec (beside true held one effect honest) is are holds
 joined {end} {most} {old} {new} false held tree key rec one is effect honest are holds =
-    entries_wait held.runs tree held.log.a.entries old.bytes new.bytes key rec (beside false held one effect honest) are holds
+    entries_wait held.runs tree old.bytes new.bytes key rec (beside false held one effect honest) are holds

@@ -1,14 +1,15 @@
 //! Quanta of the merges, and which merge a seat pays.
-ghost use Rattle.std.specs.Prelude.{◌≡◌, ◌+◌, ◌/◌, ◌<◌, IsErr, IsSome, IfOk, OnOk};
+ghost use Rattle.std.specs.Prelude.{◌≡◌, ⊤, ◌+◌, ◌/◌, ◌<◌, IsErr, IsSome, IfOk, OnOk};
 ghost use Rattle.disk_trait.specs.Effects.{Affects};
 ghost use Rattle.blsm_model.specs.Format.{callers};
 ghost use Rattle.blsm_model.specs.Geometry.{file_length};
 ghost use Rattle.gear_sched.specs.Gears.{first_debt, second_debt, plan_for};
+ghost use Rattle.record_delta.specs.Entries.{replayed};
 ghost use Rattle.page_file.specs.Component.{entries_of};
 ghost use Rattle.tree_machine.specs.Machine.{seats};
 ghost use Rattle.tree_runs.specs.Damage.{PassMeetsDamage, DeepMeetsDamage};
 ghost use Rattle.tree_runs.specs.Writing.{region_of_pass, region_of_deep};
-ghost use Rattle.tree_runs.specs.Holding.{PassTook, DeepTook, TellsQuantum};
+ghost use Rattle.tree_runs.specs.Holding.{HasAllAhead, PassTook, DeepTook, TellsQuantum};
 ghost use Rattle.core_moves.specs.Needs.{IsOn, IsReady};
 ghost use Rattle.core_moves.specs.Moves.{TakesOfPass, TakesOfDeep, KeepsAllButMerges, with_debts_forgiven};
 
@@ -26,8 +27,8 @@ impl Held {
         requires seat { seat < seats }
         requires runs { IsSome self.old.runs.pass }
         requires ready { IsReady self.old (D.state disk.old) }
-        ensures told { TellsQuantum self.old.log.a.entries self.new.log.a.entries (self.old.runs.sizes.quantum / 7 + 2)
-            (λ tree n. PassTook self.old.runs.sizes.quantum self.old.runs.pass self.new.runs.pass self.old.log.a.entries (entries_of tree.c1) n)
+        ensures told { TellsQuantum (HasAllAhead self.old.runs.pass self.old.log.a.entries) (self.old.runs.sizes.quantum / 7 + 2)
+            (λ tree n. PassTook self.old.runs.sizes.quantum self.old.runs.pass self.new.runs.pass (replayed tree.lane_a) (entries_of tree.c1) n)
             (PassMeetsDamage self.new.runs.sizes self.new.runs.pass) self.old.runs self.new.runs result (D.state disk.old) (D.state disk.new) }
         ensures writes { Affects (region_of_pass self.old.runs.sizes self.old.runs.space self.new.runs.space self.old.runs.pass)
             (file_length self.old.runs.sizes) (self.old.runs.sizes.quantum / 7 + 2) (D.state disk.old) (D.state disk.new) }
@@ -50,7 +51,7 @@ impl Held {
         requires seat { seat < seats }
         requires runs { IsSome self.old.runs.deep }
         requires ready { IsReady self.old (D.state disk.old) }
-        ensures told { TellsQuantum self.old.log.a.entries self.new.log.a.entries (self.old.runs.sizes.quantum / 4 + 3)
+        ensures told { TellsQuantum (λ tree. ⊤) (self.old.runs.sizes.quantum / 4 + 3)
             (λ tree n. DeepTook self.old.runs.sizes.quantum self.old.runs.deep self.new.runs.deep (entries_of tree.c1x) (entries_of tree.c2) n)
             (DeepMeetsDamage self.new.runs.sizes self.new.runs.deep) self.old.runs self.new.runs result (D.state disk.old) (D.state disk.new) }
         ensures writes { Affects (region_of_deep self.old.runs.sizes self.old.runs.space self.new.runs.space self.old.runs.deep)

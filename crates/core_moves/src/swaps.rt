@@ -3,12 +3,11 @@ ghost use Rattle.std.specs.Prelude.{◌≡◌, ◌+◌, ◌<◌, ◌^◌, ℕ, B
 ghost use Rattle.disk_trait.specs.Disk.{TellsFaults};
 ghost use Rattle.disk_trait.specs.Effects.{Affects};
 ghost use Rattle.blsm_model.specs.Geometry.{file_length};
-ghost use Rattle.record_delta.specs.Entries.{Entries};
 ghost use Rattle.gear_sched.specs.Gears.{pass_ended, rotated as gears_rotated};
 ghost use Rattle.tree_file.specs.Tree.{Tree};
 ghost use Rattle.tree_runs.specs.Runs.{AreRuns, AreRunning};
 ghost use Rattle.scan_view.specs.Pins.{beside_pins};
-ghost use Rattle.tree_runs.specs.Holding.{AreOf, StandOver, LeavesSwapped, IsDeepSwapped, IsPassSwapped, IsRotated};
+ghost use Rattle.tree_runs.specs.Holding.{AreOf, HasAllAhead, StandOver, LeavesSwapped, IsDeepSwapped, IsPassSwapped, IsRotated};
 ghost use Rattle.core_moves.specs.Held.{IsPassDone, IsDeepDone, is_run_full};
 ghost use Rattle.core_moves.specs.Needs.{IsOn, IsReady};
 ghost use Rattle.core_moves.specs.Moves.{SwapsDeepIn, SwapsPassIn, RotatesIn, TurnsLog, with_pass_begun, begun_in};
@@ -38,9 +37,9 @@ impl Held {
     pub fn swap_deep<D: Disk>(&mut self, disk: &mut D) -> Result<(), Failed>
         requires done { IsDeepDone self.old }
         requires ready { IsReady self.old (D.state disk.old) }
-        ensures lists { (tree : Tree) → IsTrue (D.state disk.old).is_honest → StandOver self.old.runs tree self.old.log.a.entries (D.state disk.old)
+        ensures lists { (tree : Tree) → IsTrue (D.state disk.old).is_honest → StandOver self.old.runs tree (D.state disk.old)
             → (next : Tree) × IsDeepSwapped tree next
-            × LeavesSwapped self.old.runs self.new.runs tree next self.new.log.a.entries (is_ok result) (D.state disk.old) (D.state disk.new) }
+            × LeavesSwapped self.old.runs self.new.runs tree next (is_ok result) (D.state disk.old) (D.state disk.new) }
         ensures swaps { OnOk result (SwapsDeepIn self.old self.new) }
         ensures on { OnOk result (IsOn self.new (D.state disk.new)) }
         ensures kept { OnErr result (self.new ≡ self.old) }
@@ -60,9 +59,10 @@ impl Held {
         requires done { IsPassDone self.old }
         requires way { IsTrue (is_run_full self.old) → self.old.runs.deep ≡ None }
         requires ready { IsReady self.old (D.state disk.old) }
-        ensures lists { (tree : Tree) → IsTrue (D.state disk.old).is_honest → StandOver self.old.runs tree self.old.log.a.entries (D.state disk.old)
-            → (next : Tree) × IsPassSwapped (is_run_full self.old) self.old.log.a.entries tree next
-            × LeavesSwapped self.old.runs self.new.runs tree next self.new.log.a.entries (is_ok result) (D.state disk.old) (D.state disk.new) }
+        ensures lists { (tree : Tree) → IsTrue (D.state disk.old).is_honest → StandOver self.old.runs tree (D.state disk.old)
+            → HasAllAhead self.old.runs.pass self.old.log.a.entries tree
+            → (next : Tree) × IsPassSwapped (is_run_full self.old) tree next
+            × LeavesSwapped self.old.runs self.new.runs tree next (is_ok result) (D.state disk.old) (D.state disk.new) }
         ensures swaps { OnOk result (SwapsPassIn self.old self.new) }
         ensures turns { OnOk result (TurnsLog self.old.log self.new.log) }
         ensures on { OnOk result (IsOn self.new (D.state disk.new)) }
@@ -83,9 +83,9 @@ impl Held {
     pub fn rotate<D: Disk>(&mut self, disk: &mut D) -> Result<(), Failed>
         requires rests { (self.old.runs.pass ≡ None) × (self.old.runs.deep ≡ None) }
         requires ready { IsReady self.old (D.state disk.old) }
-        ensures lists { (tree : Tree) → IsTrue (D.state disk.old).is_honest → StandOver self.old.runs tree self.old.log.a.entries (D.state disk.old)
+        ensures lists { (tree : Tree) → IsTrue (D.state disk.old).is_honest → StandOver self.old.runs tree (D.state disk.old)
             → (next : Tree) × IsRotated tree next
-            × LeavesSwapped self.old.runs self.new.runs tree next self.new.log.a.entries (is_ok result) (D.state disk.old) (D.state disk.new) }
+            × LeavesSwapped self.old.runs self.new.runs tree next (is_ok result) (D.state disk.old) (D.state disk.new) }
         ensures rotates { OnOk result (RotatesIn self.old self.new) }
         ensures on { OnOk result (IsOn self.new (D.state disk.new)) }
         ensures kept { OnErr result (self.new ≡ self.old) }
@@ -104,7 +104,7 @@ impl Held {
         requires runs { AreRuns self.old.runs }
         ensures begun { self.new ≡ with_pass_begun self.old }
         ensures running { (honest : Bool) (file : List ℕ) → AreRunning honest file self.old.runs → AreRunning honest file self.new.runs }
-        ensures lists { (tree : Tree) (a : Entries) (file : List ℕ) → AreOf self.old.runs tree a file → AreOf self.new.runs tree a file }
+        ensures lists { (tree : Tree) (file : List ℕ) → AreOf self.old.runs tree file → AreOf self.new.runs tree file }
     {
         let now = self.runs.catalogue();
         let memory = self.log.weight();
@@ -117,7 +117,7 @@ impl Held {
         requires runs { AreRuns self.old.runs }
         ensures begun { self.new ≡ begun_in weight self.old }
         ensures running { (honest : Bool) (file : List ℕ) → AreRunning honest file self.old.runs → AreRunning honest file self.new.runs }
-        ensures lists { (tree : Tree) (a : Entries) (file : List ℕ) → AreOf self.old.runs tree a file → AreOf self.new.runs tree a file }
+        ensures lists { (tree : Tree) (file : List ℕ) → AreOf self.old.runs tree file → AreOf self.new.runs tree file }
     {
         if !self.runs.in_pass() && must_begin(self.spring, weight, self.runs.geometry().low()) {
             self.begin_pass();

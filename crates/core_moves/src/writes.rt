@@ -68,9 +68,10 @@ impl Held {
 
         ensures writes { OnOk result (WritesIn seat key.now rec.now self.old self.new) }
         ensures is_of { OnOk result ((tree : Tree) → IsLogOf tree self.old.log → IsLogOf (appended (goes_ahead key.now self.old) (key.now, rec.now) tree) self.new.log) }
-        ensures becomes { (tree : Tree) → IsTrue (D.state disk.old).is_honest → IsLogOf tree self.old.log → StandOver self.old.runs tree self.old.log.a.entries (D.state disk.old)
+        ensures becomes { (tree : Tree) → IsTrue (D.state disk.old).is_honest → IsLogOf tree self.old.log
+            → StandOver self.old.runs tree (D.state disk.old)
             → Becomes self.old.runs.sizes tree (appended (goes_ahead key.now self.old) (key.now, rec.now) tree) (is_ok result) (D.state disk.old) (D.state disk.new)
-            × OnOk result (StandOver self.new.runs (appended (goes_ahead key.now self.old) (key.now, rec.now) tree) self.new.log.a.entries (D.state disk.new)) }
+            × OnOk result (StandOver self.new.runs (appended (goes_ahead key.now self.old) (key.now, rec.now) tree) (D.state disk.new)) }
         ensures on { OnOk result (IsOn self.new (D.state disk.new)) }
         ensures kept { OnErr result (self.new ≡ self.old) }
         ensures ends { OnOk result (EndsSynced 4 (D.state disk.old) (D.state disk.new)) }

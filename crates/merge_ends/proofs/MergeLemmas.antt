@@ -130,14 +130,34 @@ up_to_lower low at (e ∷ es) up =
       | false ↦ λ not_here. ap (λ (l : Entries). cond (not (is_above low e.0)) (e ∷ l) l) (up_to_lower low at es up)
     ] refl
 
-module _ {settles : Bool} {sizes : Sizes} {file : List ℕ} {space : SpaceState} {filter : BitState} {fences : FencesState} {pages under_pages : List ℕ} (merge : MergeState) (table grown under : Entries) where
-  pub grown_merge : up_to merge.at grown ≡ up_to merge.at table → IsMerging settles sizes file space merge None table filter fences pages under_pages table under
+module _ {settles : Bool} {sizes : Sizes} {file : List ℕ} {space : SpaceState} {filter : BitState} {fences : FencesState}
+    {pages under_pages : List ℕ} (merge : MergeState) (table list under : Entries) where
+  -- A merge over a list stands over each table that has the same above the greatest key taken, and so over the list itself.
+  pub lent_merge : (other : Entries) → above merge.at list ≡ above merge.at other
+      → IsMerging settles sizes file space merge None table filter fences pages under_pages list under
+      → IsMerging settles sizes file space merge None other filter fences pages under_pages list under
+  lent_merge other same is = record {
+    newer_is = (is.newer_is.0, same);
+    older_is = is.older_is;
+    run = is.run;
+    begun = is.begun;
+    out_is = is.out_is;
+    closed_up = is.closed_up;
+    closed_is = is.closed_is;
+    left_is = is.left_is;
+    here_is = is.here_is;
+    behind_is = is.behind_is;
+  }
+
+  pub grown_merge : (grown : Entries) → AreSorted grown → up_to merge.at grown ≡ up_to merge.at list
+      → IsMerging settles sizes file space merge None table filter fences pages under_pages list under
       → IsMerging settles sizes file space merge None grown filter fences pages under_pages grown under
-  grown_merge same is =
-      let closed_same : up_to merge.closed grown ≡ up_to merge.closed table =
-      up_to_lower merge.closed merge.at grown is.closed_up ∙ ap (up_to merge.closed) same ∙ sym (up_to_lower merge.closed merge.at table is.closed_up) in
+  grown_merge grown sorted same is =
+      let closed_same : up_to merge.closed grown ≡ up_to merge.closed list =
+      up_to_lower merge.closed merge.at grown is.closed_up ∙ ap (up_to merge.closed) same
+          ∙ sym (up_to_lower merge.closed merge.at list is.closed_up) in
       record {
-        newer_is = refl;
+        newer_is = (sorted, refl);
         older_is = is.older_is;
         run = is.run;
         begun = begun_table is.begun;

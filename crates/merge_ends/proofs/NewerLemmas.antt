@@ -18,7 +18,8 @@ use Rattle.merge_ends.specs.Output.{TakesPages}
 use Rattle.merge_ends.specs.Progress.{MeetsDamage, pages_ahead}
 use Rattle.merge_ends.specs.Quantum.{Counts}
 use Rattle.merge_ends.proofs.InputLemmas.{input_kept}
-use Rattle.merge_ends.proofs.GroupLemmas.{behind_group, end_left, first_none, head_first, head_is, head_sorted, input_done, input_further, newer_stays, weightless}
+use Rattle.merge_ends.proofs.GroupLemmas.{above_further, behind_group, end_left, first_none, head_first, head_is, head_sorted, input_done}
+use Rattle.merge_ends.proofs.GroupLemmas.{input_further, newer_stays, weightless}
 
 pub hand_sorted : (input : Option CursorState) (table : Entries) → AreSorted table → AreSorted (at_hand input table)
 hand_sorted None table sorted = sorted
@@ -100,19 +101,22 @@ spent_all (Some cursor) taken quantum old mid new few so_far more = omega (arith
 -- ---- the lists
 
 pub newer_sorted : (sizes : Sizes) (file : List ℕ) (space : SpaceState) (role : ℕ) (at : Option Key) (input : Option CursorState) (table : Entries) (pages : List ℕ) (entries : Entries)
-    → AreSorted table → IsNewer sizes file space role at input table pages entries → AreSorted entries
-newer_sorted sizes file space role at None table pages entries sorted is = subst AreSorted (sym is) sorted
-newer_sorted sizes file space role at (Some cursor) table pages entries sorted is = is.sorted
+    → IsNewer sizes file space role at input table pages entries → AreSorted entries
+newer_sorted sizes file space role at None table pages entries is = is.0
+newer_sorted sizes file space role at (Some cursor) table pages entries is = is.sorted
 
 -- The first of what is at hand is the first of what it has.
 pub newer_first : (sizes : Sizes) (file : List ℕ) (space : SpaceState) (role : ℕ) (at : Option Key) (input : Option CursorState) (table : Entries) (pages : List ℕ) (entries : Entries) → IsNewerReady at input
     → IsNewer sizes file space role at input table pages entries → first_of (above at entries) ≡ first_of (above at (at_hand input table))
-newer_first sizes file space role at None table pages entries ready is = ap (λ (l : Entries). first_of (above at l)) is
+newer_first sizes file space role at None table pages entries ready is = ap first_of is.1
 newer_first sizes file space role at (Some cursor) table pages entries ready is = head_is sizes file space role at cursor entries ready is ∙ sym (head_first at cursor ready)
 
 pub newer_further : (sizes : Sizes) (file : List ℕ) (space : SpaceState) (role : ℕ) (at : Option Key) (key : Key) (input : Option CursorState) (table : Entries) (pages : List ℕ) (entries : Entries) → is_above at key ≡ true
     → IsNewer sizes file space role at input table pages entries → IsNewer sizes file space role (Some key) input table pages entries
-newer_further sizes file space role at key None table pages entries key_above is = is
+newer_further sizes file space role at key None table pages entries key_above is = (
+  is.0,
+  above_further at key entries key_above ∙ ap (above (Some key)) is.1 ∙ sym (above_further at key table key_above),
+)
 newer_further sizes file space role at key (Some cursor) table pages entries key_above is = input_further sizes file space role at key cursor entries key_above is
 
 pub newer_kept : (sizes : Sizes) (old new : List ℕ) (space after : SpaceState) (role : ℕ) (at : Option Key) (input : Option CursorState) (table : Entries) (pages : List ℕ) (entries : Entries)
@@ -123,7 +127,7 @@ newer_kept sizes old new space after role at (Some cursor) table pages entries s
 
 pub newer_done : (sizes : Sizes) (file : List ℕ) (space : SpaceState) (role : ℕ) (at : Option Key) (input : Option CursorState) (table : Entries) (pages : List ℕ) (entries : Entries) → newer_left at input table ≡ 0
     → IsNewer sizes file space role at input table pages entries → above at entries ≡ []
-newer_done sizes file space role at None table pages entries done is = weightless (above at entries) (ap (λ (l : Entries). entries_weight (above at l)) is ∙ done)
+newer_done sizes file space role at None table pages entries done is = weightless (above at entries) (ap entries_weight is.1 ∙ done)
 newer_done sizes file space role at (Some cursor) table pages entries done is = input_done sizes file space role at cursor entries done is
 
 -- ---- what is counted

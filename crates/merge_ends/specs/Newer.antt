@@ -2,7 +2,7 @@
 use Rattle.std.specs.Prelude.{◌≡◌, ⊤, ℕ, ◌+◌, List, [], ◌∷◌, Option, Some, None}
 use Rattle.blsm_model.specs.declared.key.Key.{Key}
 use Rattle.blsm_model.specs.Sizes.{Sizes}
-use Rattle.record_delta.specs.Entries.{Entries, entries_weight, above}
+use Rattle.record_delta.specs.Entries.{AreSorted, Entries, entries_weight, above}
 use Rattle.page_space.specs.Space.{SpaceState}
 use Rattle.run_cursor.specs.Cursor.{CursorState, from_head, IsDamageAt}
 use Rattle.merge_ends.specs.Input.{left_in, IsReady, IsBehind, IsInput}
@@ -54,7 +54,7 @@ abbrev pub IsNewerDamage : Sizes → Option CursorState → ℕ → List ℕ →
 IsNewerDamage sizes None n file = ⊥
 IsNewerDamage sizes (Some cursor) n file = IsDamageAt sizes cursor n file
 
--- In this file it has what the entries have above the key: a table has just these, a component on some of these pages.
+-- In this file it has what the entries have above the key: a table in memory, whatever it has up to there, a component on some of these pages.
 abbrev pub IsNewer : Sizes → List ℕ → SpaceState → ℕ → Option Key → Option CursorState → Entries → List ℕ → Entries → Type 0
-IsNewer sizes file space role at None table pages entries = entries ≡ table
+IsNewer sizes file space role at None table pages entries = AreSorted entries × (above at entries ≡ above at table)
 IsNewer sizes file space role at (Some cursor) table pages entries = IsInput sizes file space role at cursor pages entries

@@ -81,10 +81,10 @@ has_begun light found guides honest file runs log is runs_are log_are =
 
 -- what an opening says of each tree in a file
 abbrev pub OpensOver : Found → List GuideState → RunsState → Type 0
-OpensOver found guides runs = (tree : Tree) (a : Entries) (file : List ℕ) → HoldsTree found.geometry tree file → tree.catalogue ≡ found.catalogue
+OpensOver found guides runs = (tree : Tree) (file : List ℕ) → HoldsTree found.geometry tree file → tree.catalogue ≡ found.catalogue
     → AreTagged found.space first_tags.c1 tree.c1 → AreTagged found.space first_tags.c1x tree.c1x → AreTagged found.space first_tags.c2 tree.c2
     → AreGuided guides first_tags tree
-    → IsAheadOver found.geometry file found.space first_tags.deep (guide_at guides first_tags.deep) tree.c1x tree.c2 found.ahead → AreOf runs tree a
+    → IsAheadOver found.geometry file found.space first_tags.deep (guide_at guides first_tags.deep) tree.c1x tree.c2 found.ahead → AreOf runs tree
     file
 
 pub begins_in : (found : Found) (guides : List GuideState) (file : List ℕ) (runs : RunsState) (log : LogState) → (found.a.floor ≡ None) × (found.a.dropped ≡ 0) → found.lanes.roles ≡ found.catalogue.lanes → (holds : HoldsFound found file) → runs ≡ runs_of found guides → log ≡ log_in found
@@ -94,7 +94,7 @@ pub begins_in : (found : Found) (guides : List GuideState) (file : List ℕ) (ru
 begins_in found guides file runs log whole roles holds runs_are log_are opens guided over =
     let t = holds.tree in
     record {
-      are_of = opens t log.a.entries file holds.holds holds.catalogue (λ n has. (holds.c1_tag n).1 has) (λ n has. (holds.c1x_tag n).1 has)
+      are_of = opens t file holds.holds holds.catalogue (λ n has. (holds.c1_tag n).1 has) (λ n has. (holds.c1x_tag n).1 has)
           (λ n has. (holds.c2_tag n).1 has) guided over;
       log_of = subst (IsLogOf t) (sym log_are)
           (log_is found t holds.catalogue roles (rest_whole (replayed t.lane_a) found.a whole holds.table_a) holds.table_b holds.end_a holds.end_b);

@@ -63,15 +63,15 @@ are_settled runs log annals room d sizes version few ready entries is =
     subst (λ (b : Book). AreSettled runs log b d) (sym is) (ready_settled runs log room d sizes version few ready entries)
 
 -- what the core of these parts tells of each tree
-abbrev pub AssemblesOver : {D : Type 0} → (D → DiskState) → RunsState → LogState → Book → CoreState D → DiskState → Type 0
-AssemblesOver state runs log annals core d = (tree : Tree) → IsTrue d.is_honest → StandOver runs tree log.a.entries d → tree.lane_a ≡ [] → tree.lane_b ≡ []
+abbrev pub AssemblesOver : {D : Type 0} → (D → DiskState) → RunsState → Book → CoreState D → DiskState → Type 0
+AssemblesOver state runs annals core d = (tree : Tree) → IsTrue d.is_honest → StandOver runs tree d → tree.lane_a ≡ [] → tree.lane_b ≡ []
     → StandsWhole state (map_of_tree tree) core
     (opened runs.sizes (entries_of tree.c1) (entries_of tree.c2) (catalogue_of runs.catalogue) d.faults annals.room)
 
-pub opens_as : {D : Type 0} (state : D → DiskState) (room : Room) (runs : RunsState) (log : LogState) (annals : Book) (core : CoreState D) (file : List ℕ) (disk : D) → core.disk ≡ disk → IsTrue (state disk).is_honest
-    → HasOpenedOn runs log file (state disk) → annals ≡ no_entries room → core.held.runs ≡ runs
-    → charge_in core.held ≡ core.held.runs.catalogue.c1.weight + core.held.runs.catalogue.c2.weight → AssemblesOver state runs log annals core (state disk) → OpensAs state room core file
-opens_as {D} state room runs log annals core file disk of_disk honest on is same charge assembles =
+pub opens_as : {D : Type 0} (state : D → DiskState) (room : Room) (runs : RunsState) (annals : Book) (core : CoreState D) (file : List ℕ) (disk : D) → core.disk ≡ disk → IsTrue (state disk).is_honest
+    → HasOpenedOn runs file (state disk) → annals ≡ no_entries room → core.held.runs ≡ runs
+    → charge_in core.held ≡ core.held.runs.catalogue.c1.weight + core.held.runs.catalogue.c2.weight → AssemblesOver state runs annals core (state disk) → OpensAs state room core file
+opens_as {D} state room runs annals core file disk of_disk honest on is same charge assembles =
     let s = on.stands in
     let pairs = map_of_tree on.image in
     let t = s.tree in

@@ -212,7 +212,7 @@ pub counted_as : (result : Result Begun Unreadable) (found : Found) (version : �
     → IfOk result (λ begun. SettlesWithin found.geometry found.catalogue (entries_weight found.a.entries) (entries_weight found.b.entries)
     begun.runs.catalogue begun.settled)
     → IfOk result (λ begun. IsReady found.geometry version begun.runs begun.log new)
-    → (IsTrue old.is_honest → IfOk result (λ begun. HasOpenedOn begun.runs begun.log old.bytes new))
+    → (IsTrue old.is_honest → IfOk result (λ begun. HasOpenedOn begun.runs old.bytes new))
     → IfOk result (λ begun. CountsSettling begun.runs.sizes begun.runs.catalogue begun.settled old new)
 counted_as (Ok begun) found version old new head holds counts ready opened =
     subst (λ (s : Sizes). CountsSettling s begun.runs.catalogue begun.settled old new) (sym ready.sizes_are)

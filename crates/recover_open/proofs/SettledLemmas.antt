@@ -78,7 +78,7 @@ begun_weighs : (runs : RunsState) (log : LogState) (image : Tree) (file : List �
 begun_weighs runs log image file h1 = grind (arith, common_steps, nat_tests, rest_weighs)
 
 stands_empty : (runs runs' : RunsState) (log log' : LogState) (image : Tree) (old new : DiskState) → IsTrue old.is_honest → BeginsIn runs log image old.bytes
-    → ShowsMap runs log (map_of_tree image) old → SettlesOn runs runs' log log' old new → IsSettled runs' log' → StandsEmpty runs' log' image new
+    → ShowsMap runs log (map_of_tree image) old → SettlesOn runs runs' log log' old new → IsSettled runs' log' → StandsEmpty runs' image new
 stands_empty runs runs' log log' image old new honest begins showed on settled =
     let shows = on.shows (map_of_tree image) honest showed in
     record {
@@ -109,7 +109,7 @@ module _ {found : Found} {result : Result Begun Unreadable} {runs : RunsState} {
       (map_of_tree image) old
       → IfOk r (λ ready. SettlesOn runs ready.runs log ready.log old new) → IfOk r
       (λ ready. IsSettled ready.runs ready.log × (ready.runs.catalogue.version ≤ runs.catalogue.version + 5))
-      → IfOk r (λ begun. StandsEmpty begun.runs begun.log image new)
+      → IfOk r (λ begun. StandsEmpty begun.runs image new)
   stands_by image (Ok ready) honest begins shows on settled = stands_empty runs ready.runs log ready.log image old new honest begins shows on
       settled.0
   stands_by image (Err why) honest begins shows on settled = tt

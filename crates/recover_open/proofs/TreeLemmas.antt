@@ -59,8 +59,8 @@ pub long_as : (result : Result Begun Unreadable) (sizes : Sizes) (version : ℕ)
 long_as result sizes version old new h1 h2 = grind (arith, common_steps, nat_tests)
 
 pub stands_as : (result : Result Begun Unreadable) (found : Found) (version : ℕ) (file : List ℕ) (d : DiskState) → (holds : HoldsFound found file) → found.catalogue.version ≤ most_version
-    → IfOk result (λ begun. IsReady found.geometry version begun.runs begun.log d) → IfOk result (λ begun. StandsEmpty begun.runs begun.log holds.tree d)
-    → IfOk result (λ begun. HasOpenedOn begun.runs begun.log file d)
+    → IfOk result (λ begun. IsReady found.geometry version begun.runs begun.log d) → IfOk result (λ begun. StandsEmpty begun.runs holds.tree d)
+    → IfOk result (λ begun. HasOpenedOn begun.runs file d)
 stands_as (Ok begun) found version file d holds few ready stands = record {
   image = holds.tree;
   holds = subst (λ (s : Sizes). HoldsTree s holds.tree file) (sym ready.sizes_are) holds.holds;

@@ -45,27 +45,27 @@ ReadsAsNone file = (sizes : Sizes) (pairs : List (Key × Value)) → ReadsAsMap 
 abbrev pub weight_of_tree : Tree → ℕ
 weight_of_tree tree = components_weight tree + lanes_weight tree
 
--- The disk stands on a tree with empty lanes, of which these components and this log are. It has the map of the tree that was read, and its components
+-- The disk stands on a tree with empty lanes, of which these components are. It has the map of the tree that was read, and its components
 -- weigh no more than that tree.
-pub record StandsEmpty (runs : RunsState) (log : LogState) (image : Tree) (d : DiskState) : Type 0 where
+pub record StandsEmpty (runs : RunsState) (image : Tree) (d : DiskState) : Type 0 where
   pub tree : Tree
-  pub over : StandOver runs tree log.a.entries d
+  pub over : StandOver runs tree d
   pub lane_a : tree.lane_a ≡ []
   pub lane_b : tree.lane_b ≡ []
   pub map_is : map_of_tree tree ≡ map_of_tree image
   pub light : components_of runs.catalogue ≤ weight_of_tree image
 
 -- and the file from before holds that tree, which fits, with a version that is taken
-pub record HasOpenedOn (runs : RunsState) (log : LogState) (file : List ℕ) (d : DiskState) : Type 0 where
+pub record HasOpenedOn (runs : RunsState) (file : List ℕ) (d : DiskState) : Type 0 where
   pub image : Tree
   pub holds : HoldsTree runs.sizes image file
   pub fits : FitsSizes runs.sizes image
   pub taken : image.catalogue.version ≤ most_version
-  pub stands : StandsEmpty runs log image d
+  pub stands : StandsEmpty runs image d
 
 -- In this file components and log are of this tree, which fits.
 pub record BeginsIn (runs : RunsState) (log : LogState) (tree : Tree) (file : List ℕ) : Type 0 where
-  pub are_of : AreOf runs tree log.a.entries file
+  pub are_of : AreOf runs tree file
   pub log_of : IsLogOf tree log
   pub fits : FitsSizes runs.sizes tree
 
@@ -135,7 +135,7 @@ SparesImages why old new = why ≢ Unreadable.Fault → LeavesOnly old new old.i
 -- What settling tells of this tree of the file, where a crash leaves nothing but what the disk reads as.
 pub record TellsSettled (sizes : Sizes) (image : Tree) (result : Result Begun Unreadable) (old new : DiskState) : Type 0 where
   pub keeps : KeepsMap sizes (map_of_tree image) old new
-  pub stands : IfOk result (λ begun. StandsEmpty begun.runs begun.log image new)
+  pub stands : IfOk result (λ begun. StandsEmpty begun.runs image new)
   pub why : IfErr result (λ why. IsWhy why old.bytes)
   pub spares : IfErr result (λ why. SparesImages why old new)
 

@@ -96,7 +96,7 @@ fn open_tree<D: Disk>(
     requires rows { sum room.rows ≤ most_rows_asked }
     ensures history { IfOk result (λ begun. history.new ≡ Some (no_entries room)) }
     ensures ready { IfOk result (λ begun. (version : ℕ) × (version ≤ most_version) × IsReady begun.runs.sizes version begun.runs begun.log (D.state disk.new)) }
-    ensures stands { IsTrue (D.state disk.old).is_honest → IfOk result (λ begun. HasOpenedOn begun.runs begun.log (D.state disk.old).bytes (D.state disk.new)) }
+    ensures stands { IsTrue (D.state disk.old).is_honest → IfOk result (λ begun. HasOpenedOn begun.runs (D.state disk.old).bytes (D.state disk.new)) }
     ensures refused { IsTrue (D.state disk.old).is_honest → IfErr result (λ why. IsWhy why (D.state disk.old).bytes) }
     ensures keeps { (sizes : Sizes) (pairs : List (Key × Value)) → IsTrue (D.state disk.old).is_honest → ReadsAsMap sizes pairs (D.state disk.old).bytes
         → KeepsMapOf sizes pairs (D.state disk.old) (D.state disk.new) }

@@ -35,7 +35,8 @@ started role c1 = record { writer = writer_started role; c1 = cursor_started c1;
 abbrev pub progress_of_pass : SnowState → Entries → Progress
 progress_of_pass snow a = record { writer = snow.writer; at = snow.at; newer = entries_weight (above snow.at a); older = left_in snow.at snow.c1; cursors = snow.c1 ∷ [] }
 
--- Of table A and of C1's list, which stands on these pages, what is up to the greatest key taken was taken, folded key by key, and pushed; what is above it is left.
+-- Of table A's list and of C1's, which stands on these pages, what is up to the greatest key taken was taken, folded key by key, and pushed; what is
+-- above it is left.
 abbrev pub IsPass : Sizes → List ℕ → SpaceState → SnowState → BitState → FencesState → List ℕ → Entries → Entries → Type 0
 IsPass sizes file space snow filter fences pages a c1 = IsMerging false sizes file space (merge_of snow) None a filter fences [] pages a c1
 

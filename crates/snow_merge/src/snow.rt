@@ -13,7 +13,7 @@ ghost use Rattle.bloom_bits.specs.Filter.{rounded};
 ghost use Rattle.bloom_bits.specs.Guides.{Guide, KeepSized};
 ghost use Rattle.record_delta.specs.declared.record.Rec.{Rec};
 ghost use Rattle.record_delta.specs.Records.{weight as weight_with};
-ghost use Rattle.record_delta.specs.Entries.{Entries, entries_weight, folded_over, above};
+ghost use Rattle.record_delta.specs.Entries.{AreSorted, Entries, entries_weight, folded_over, above};
 ghost use Rattle.record_delta.specs.Folding.{fold as fold_of};
 ghost use Rattle.merge_step.specs.Group.{least_of, group_of, group_at};
 ghost use Rattle.merge_step.specs.declared.group.Taken.TheVariants.{InRoom};
@@ -195,7 +195,8 @@ impl Snow {
         ensures filter { filter.new ≡ cleared filter.old.reserved (rounded bits) }
         ensures fences { fences.new ≡ record { reserved = fences.old.reserved; list = [] } }
         // No page of C1 has the run's tag, and none is free.
-        ensures pass { (sizes : Sizes) (file : List ℕ) (space : SpaceState) (a entries : Entries) → (list : HasList sizes c1.now entries file)
+        ensures pass { (sizes : Sizes) (file : List ℕ) (space : SpaceState) (a entries : Entries) → AreSorted a
+            → (list : HasList sizes c1.now entries file)
             → ((n : ℕ) → Contains (numbers_of list.pages) n → (HasRole space role n → ⊥) × (IsFree space n → ⊥))
             → IsPass sizes file space result filter.new fences.new (numbers_of list.pages) a entries }
     {
@@ -254,11 +255,12 @@ impl Snow {
         requires length { IsTrue (D.state disk.old).tells_bytes → length (D.state disk.old).bytes ≡ file_length geo.now }
         requires runs { MayGoOn geo.now (stage (progress_of_pass self.old a.now.entries) space.old filter.old fences.old (D.state disk.old)) }
 
-        // On an honest disk the pass stands as before, further on by one quantum.
-        ensures pass { (pages : List ℕ) (c1 : Entries) → IsTrue (D.state disk.old).is_honest → IsPass geo.now (D.state disk.old).bytes space.old self.old filter.old fences.old pages a.now.entries c1
-            → result ≢ Err Broken.Fault
-            → (n : ℕ) × (result ≡ Ok n) × IsPass geo.now (D.state disk.new).bytes space.new self.new filter.new fences.new pages a.now.entries c1
-            × IsQuantum geo.now.quantum self.old.at self.new.at a.now.entries c1 n }
+        // On an honest disk the pass stands as before, further on by one quantum. Above its cursor the table has what table A's list has.
+        ensures pass { (pages : List ℕ) (all c1 : Entries) → IsTrue (D.state disk.old).is_honest
+            → above self.old.at all ≡ above self.old.at a.now.entries
+            → IsPass geo.now (D.state disk.old).bytes space.old self.old filter.old fences.old pages all c1 → result ≢ Err Broken.Fault
+            → (n : ℕ) × (result ≡ Ok n) × IsPass geo.now (D.state disk.new).bytes space.new self.new filter.new fences.new pages all c1
+            × IsQuantum geo.now.quantum self.old.at self.new.at all c1 n }
 
         // On any disk what was taken and what is left add up, and it is a quantum or all that was left, and less than one group more. Each group
         // weighs 14 bytes at least, and makes two calls at most.
@@ -284,10 +286,11 @@ impl Snow {
         requires inside { IsInside (page_count geo.now) self.old.writer }
         requires length { IsTrue (D.state disk.old).tells_bytes → length (D.state disk.old).bytes ≡ file_length geo.now }
         ensures component { IfOk result (λ c. c ≡ self.old.writer.component) }
-        // It reads as table A folded over C1, on pages that have the run's tag.
-        ensures list { (space : SpaceState) (filter : BitState) (fences : FencesState) (pages : List ℕ) (c1 : Entries) → IsTrue (D.state disk.old).is_honest
-            → IsPass geo.now (D.state disk.old).bytes space self.old filter fences pages a.now.entries c1
-            → IfOk result (λ c. (list : HasList geo.now c (folded_over a.now.entries c1) (D.state disk.new).bytes)
+        // It reads as table A's list folded over C1, on pages that have the run's tag.
+        ensures list { (space : SpaceState) (filter : BitState) (fences : FencesState) (pages : List ℕ) (all c1 : Entries)
+            → IsTrue (D.state disk.old).is_honest → above self.old.at all ≡ above self.old.at a.now.entries
+            → IsPass geo.now (D.state disk.old).bytes space self.old filter fences pages all c1
+            → IfOk result (λ c. (list : HasList geo.now c (folded_over all c1) (D.state disk.new).bytes)
             × ((n : ℕ) → Contains (numbers_of list.pages) n → HasRole space self.old.writer.role n) × Guide filter fences list.pages) }
         ensures same { self.new ≡ self.old }
         // One call of the disk at most. No byte outside the open page changes, in no image of any moment.

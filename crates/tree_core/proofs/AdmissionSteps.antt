@@ -216,7 +216,7 @@ module _ (opening : List (Key × Value)) (seat : ℕ) (op : Op) (held : Held) (m
   notes_alone reply same undone sure =
       quiet_step {end = 0} {most = 0} opening seat asked Well (Replied reply) held held.runs.space (noted_in seat op reply held.book) m (note seat op reply m) (only_reads_start d is.timed) is.honest is.stands is.may is.fits tt refl same
       (record { same = record { lists = refl; merges = refl; gears = refl; spring = refl; catalogue = refl }; counts = record { charge = refl; peak = refl; quanta = refl }; book = ap (noted_in seat op reply) is.stands.book; stopped = refl; noted = inr (entry opening seat op m reply, refl, quiet_entry_counts_none (entry opening seat op m reply) (inr (undone, sure))) })
-      (λ tree table file of. of) (λ none. tt)
+      (λ tree file of. of) (λ none. tt)
 
   -- ---- while it runs
 

@@ -59,7 +59,7 @@ module _ {end most : ℕ} {before mid : DiskState} (reads : OnlyReads end most b
       tree = over.tree;
       over = record {
         stands = (stands_read held.runs.sizes over.tree reads honest over.over.stands).0;
-        are_of = subst (λ (file : List ℕ). AreOf held.runs over.tree held.log.a.entries file) (sym (reads.same.same.bytes honest)) over.over.are_of;
+        are_of = subst (λ (file : List ℕ). AreOf held.runs over.tree file) (sym (reads.same.same.bytes honest)) over.over.are_of;
       };
       holds = over.holds;
       within = over.within;

@@ -23,7 +23,6 @@ use Rattle.disk_trait.specs.Disk.{DiskState}
 use Rattle.disk_trait.specs.Reads.{OnlyReads}
 use Rattle.pacing.specs.Pace.{Pace}
 use Rattle.page_space.specs.PageSet.{Members}
-use Rattle.record_delta.specs.Entries.{Entries}
 use Rattle.scan_view.specs.Hold.{HoldState}
 use Rattle.scan_view.specs.Holds.{hold_of}
 use Rattle.scan_view.specs.Pins.{HasHeld}
@@ -109,7 +108,8 @@ pub hold_step : {D : Type 0} {end most : ℕ} (state : D → DiskState) (opening
 hold_step state opening seat k command r outcome old mid holds disk rows m is moves reads honest stands can does possible whole gives =
     let entry : Entry = record { seat = seat; op = command; reply = r } in
     subst
-    (λ (held : Held). ((tree : Tree) (table : Entries) (file : List ℕ) → AreOf old.held.runs tree table file → AreOf held.runs tree table file) → (old.held.book.stopped ≡ None → HoldRows held holds (state disk) rows)
+    (λ (held : Held). ((tree : Tree) (file : List ℕ) → AreOf old.held.runs tree file → AreOf held.runs tree file)
+        → (old.held.book.stopped ≡ None → HoldRows held holds (state disk) rows)
     → IsWholeStep state opening seat k (Replied r) old (after_it disk held holds seat command r old.held) m)
     (sym moves.rest)
     (quiet_step opening seat k outcome (Replied r) old.held mid.runs.space (noted_in seat command r old.held.book) m (note seat command r (record m { holds = rows })) reads honest stands can is.fits possible whole does

@@ -136,7 +136,7 @@ drop_steps state opening seat answer old mid after m timed honest below moves be
 pub hold_steps : {D : Type 0} (state : D → DiskState) (opening : List (Key × Value)) (seat : ℕ) (low high : Key) (answer : Holding) (old : CoreState D) (mid : Held) (after : List (Option HoldState)) (m : Machine)
     → (old.held.book.stopped ≡ None → IsOne old.held) → IsTimed (state old.disk)
     → IsTrue (state old.disk).is_honest → seat < callers → MovesHold seat old.held mid old.holds after → HoldsBecause answer seat low high (undisked old.held old.holds) (undisked mid after)
-    → ((tree : Tree) (table : Entries) (file : List ℕ) → answer ≡ holds.Held → AreOf old.held.runs tree table file
+    → ((tree : Tree) (file : List ℕ) → answer ≡ holds.Held → AreOf old.held.runs tree file
     → HasHeld old.held.runs.sizes mid.runs.space.pins seat (hold_of seat after) (Some (rows_in (record { b = old.held.log.b.entries; a = old.held.log.a.entries; c1 = entries_of tree.c1; c1x = entries_of tree.c1x; c2 = entries_of tree.c2 }) low high)) file)
     → StandsWhole state opening old m → may m seat (kind.Hold low high) ≡ true
     → IsWholeStep state opening seat (kind.Hold low high) (Replied (reply_to_hold answer)) old (after_it old.disk mid after seat (op.Hold low high) (reply_to_hold answer) old.held) m
@@ -152,7 +152,7 @@ hold_steps state opening seat low high answer old mid after m one timed honest b
     by_stop outcome o is = ap (λ (o : Option Why). unless_stopped o seat (op.Hold low high) m (do_hold m seat low high outcome)) (stopped_is ∙ is)
 
     by : (a : Holding) → HoldsBecause a seat low high (undisked old.held old.holds) (undisked mid after)
-        → ((tree : Tree) (table : Entries) (file : List ℕ) → a ≡ holds.Held → AreOf old.held.runs tree table file
+        → ((tree : Tree) (file : List ℕ) → a ≡ holds.Held → AreOf old.held.runs tree file
         → HasHeld old.held.runs.sizes mid.runs.space.pins seat (hold_of seat after) (Some (rows_in (record { b = old.held.log.b.entries; a = old.held.log.a.entries; c1 = entries_of tree.c1; c1x = entries_of tree.c1x; c2 = entries_of tree.c2 }) low high)) file)
         → IsWholeStep state opening seat (kind.Hold low high) (Replied (reply_to_hold a)) old (after_it old.disk mid after seat (op.Hold low high) (reply_to_hold a) old.held) m
     by holds.Held because has =
@@ -171,7 +171,7 @@ hold_steps state opening seat low high answer old mid after m one timed honest b
             ∙ ap (λ (a : Entries). record { b = old.held.log.b.entries; a = a; c1 = entries_of tree.c1; c1x = entries_of tree.c1x; c2 = entries_of tree.c2 })
             (sym (whole_list (replayed tree.lane_a) old.held.log.a (one runs).whole_a log.a)) in
             subst (λ (l : Lists). HasHeld old.held.runs.sizes mid.runs.space.pins seat (hold_of seat after) (Some (rows_in l low high)) (state old.disk).bytes) (sym lists)
-            (has tree old.held.log.a.entries (state old.disk).bytes refl over.over.are_of)
+            (has tree (state old.disk).bytes refl over.over.are_of)
     by holds.NoMemory because has =
         hold_step state opening seat (kind.Hold low high) (op.Hold low high) reply.NoMemory NoRoom old mid after old.disk m.holds m (hold_kind seat low high) moves reads honest stands can (by_stop NoRoom None because.0)
         (ap (λ (o : Option Why). not (is_some o) && true) (stopped_is ∙ because.0)) refl
@@ -183,7 +183,8 @@ hold_steps state opening seat low high answer old mid after m one timed honest b
 -- ---- the reading on
 
 pub next_moves : (seat : ℕ) (held : Held) (before after : List (Option HoldState)) → ((other : ℕ) → other ≢ seat → hold_of other after ≡ hold_of other before) → MovesHold seat held held before after
-next_moves seat held before after others = record { rest = refl; pins = λ other differs. refl; roles = refl; holds = others; running = λ honest file is. is; lists = λ tree table file is. is }
+next_moves seat held before after others = record { rest = refl; pins = λ other differs. refl; roles = refl; holds = others; running = λ honest file
+    is. is; lists = λ tree file is. is }
 
 was_held : (n : ℕ) (old new : Option HoldState) (rows : List Row) → AreGivenBy n old new rows → IsTrue (is_some old)
 was_held n old new rows h1 = grind (arith, common_steps, nat_tests)

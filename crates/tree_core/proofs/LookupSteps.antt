@@ -17,7 +17,6 @@ use Rattle.blsm_model.specs.Histories.{answer_to_get}
 use Rattle.disk_trait.specs.Disk.{DiskState}
 use Rattle.disk_trait.specs.Reads.{OnlyReads}
 use Rattle.disk_trait.specs.Moments.{IsTimed}
-use Rattle.record_delta.specs.Entries.{replayed}
 use Rattle.page_file.specs.File.{Reads}
 use Rattle.page_file.specs.declared.file.Broken.{Broken}
 use Rattle.seat_book.specs.State.{BookState, noted_in, may_note_in}
@@ -69,8 +68,8 @@ three_count key held = record { c1 = 1; c1x = 1; c2 = 1; first = inl (omega arit
 pub asked_few : {A : Type 0} {result : Result A Broken} {end : ℕ} {d d2 : DiskState} (key : Key) (held : Held) (floor : Option Key)
     → floor ≡ held.log.a.floor
     → ((c1 c1x c2 : ℕ) → CountsYes (filter_of held.runs (first_tag floor key held.runs)) key c1
-        → CountsYes (filter_of held.runs held.runs.tags.c1x) key c1x → CountsYes (filter_of held.runs held.runs.tags.c2) key c2
-        → Reads end (c1 + c1x + c2) result d d2)
+    → CountsYes (filter_of held.runs held.runs.tags.c1x) key c1x → CountsYes (filter_of held.runs held.runs.tags.c2) key c2
+    → Reads end (c1 + c1x + c2) result d d2)
     → (n : ℕ) → CountsFilters key held n → OnlyReads end n d d2
 asked_few {A} {result} {end} {d} {d2} key held floor is asks n counts =
     let first = subst (λ (f : Option Key). CountsYes (filter_of held.runs (first_tag f key held.runs)) key counts.c1) (sym is) counts.first in
@@ -80,7 +79,7 @@ asked_few {A} {result} {end} {d} {d2} key held floor is asks n counts =
 
 -- nothing was dropped of a table that is whole
 pub none_dropped : (held : Held) → IsOne held → (tree : Tree) (file : List ℕ) → HasDropped held tree file
-none_dropped held one tree file = subst (λ (f : Option Key). IsFloorOf f held.runs (replayed tree.lane_a) tree.c1 file) (sym one.whole_a.0) tt
+none_dropped held one tree file = subst (λ (f : Option Key). IsFloorOf f held.runs tree file) (sym one.whole_a.0) tt
 
 -- The machine's step, where it notes this reply.
 get_step : {end most : ℕ} {d d2 : DiskState} (opening : List (Key × Value)) (seat : ℕ) (key : Key) (r : Reply) (outcome : Outcome) (held : Held) (m : Machine) → OnlyReads end most d d2 → IsTrue d.is_honest
@@ -90,13 +89,16 @@ get_step : {end most : ℕ} {d d2 : DiskState} (opening : List (Key × Value)) (
 get_step opening seat key r outcome held m reads honest s can is possible whole =
     let entry : Entry = record { seat = seat; op = Get key; reply = r } in
     quiet_step opening seat (kind.Look (Get key)) outcome (Replied r) held held.runs.space (noted_in seat (Get key) r held.book) m (note seat (Get key) r m) reads honest s can tt possible whole is
-    (record { same = record { lists = refl; merges = refl; gears = refl; spring = refl; catalogue = refl }; counts = record { charge = refl; peak = refl; quanta = refl }; book = (moves_book m).note seat (Get key) r ∙ ap (noted_in seat (Get key) r) s.book; stopped = refl; noted = inr (entry, refl, quiet_entry_counts_none entry (inl refl)) }) (λ tree table file of. of) (λ none. tt)
+    (record { same = record { lists = refl; merges = refl; gears = refl; spring = refl; catalogue = refl }; counts = record
+        { charge = refl; peak = refl; quanta = refl }; book = (moves_book m).note seat (Get key) r
+        ∙ ap (noted_in seat (Get key) r) s.book; stopped = refl; noted = inr (entry, refl, quiet_entry_counts_none entry (inl refl)) })
+        (λ tree file of. of) (λ none. tt)
 
 get_steps : {end most : ℕ} {d d2 : DiskState} (opening : List (Key × Value)) (seat : ℕ) (key : Key) (found : Lookup) (held : Held) (m : Machine) → (held.book.stopped ≡ None → IsOne held) → OnlyReads end most d d2 → IsTrue d.is_honest
     → FindsBecause found key held d d2 → (found ≡ lookup.Fault → d2.faults < 2 ^ 64)
     → ((tree : Tree) → HoldsTree held.runs.sizes tree d.bytes → tree.catalogue ≡ held.runs.catalogue → AreGuided held.runs.guides held.runs.tags tree
-        → HasDropped held tree d.bytes → held.book.stopped ≡ None → found ≢ lookup.Fault
-        → reply_to_get found ≡ answer_to_get (found_in key held tree))
+    → HasDropped held tree d.bytes → held.book.stopped ≡ None → found ≢ lookup.Fault
+    → reply_to_get found ≡ answer_to_get (found_in key held tree))
     → StandsFor AnyRows opening held m d → may m seat (kind.Look (Get key)) ≡ true
     → IsStep AnyRows opening seat (kind.Look (Get key)) (Replied (reply_to_get found)) (with_book (noted_in seat (Get key) (reply_to_get found) held.book) held) d d2 m
 get_steps {end} {most} {d} {d2} opening seat key found held m one reads honest because counted value s can = by found because counted value
@@ -110,8 +112,8 @@ get_steps {end} {most} {d} {d2} opening seat key found held m one reads honest b
     -- what was found is what the machine has
     there : (r : Reply) → held.book.stopped ≡ None
         → ((tree : Tree) → HoldsTree held.runs.sizes tree d.bytes → tree.catalogue ≡ held.runs.catalogue
-            → AreGuided held.runs.guides held.runs.tags tree → HasDropped held tree d.bytes → r ≡ answer_to_get (found_in key held tree))
-            → r ≡ answer_to_get (value_in m.lists key)
+        → AreGuided held.runs.guides held.runs.tags tree → HasDropped held tree d.bytes → r ≡ answer_to_get (found_in key held tree))
+        → r ≡ answer_to_get (value_in m.lists key)
     there r none is =
         let over = s.runs none in
         is over.tree over.over.stands.reads over.over.are_of.catalogue over.over.are_of.guided (none_dropped held (one none) over.tree d.bytes)
@@ -123,8 +125,8 @@ get_steps {end} {most} {d} {d2} opening seat key found held m one reads honest b
 
     by : (f : Lookup) → FindsBecause f key held d d2 → (f ≡ lookup.Fault → d2.faults < 2 ^ 64)
         → ((tree : Tree) → HoldsTree held.runs.sizes tree d.bytes → tree.catalogue ≡ held.runs.catalogue
-            → AreGuided held.runs.guides held.runs.tags tree → HasDropped held tree d.bytes → held.book.stopped ≡ None → f ≢ lookup.Fault
-            → reply_to_get f ≡ answer_to_get (found_in key held tree))
+        → AreGuided held.runs.guides held.runs.tags tree → HasDropped held tree d.bytes → held.book.stopped ≡ None → f ≢ lookup.Fault
+        → reply_to_get f ≡ answer_to_get (found_in key held tree))
         → IsStep AnyRows opening seat (kind.Look (Get key)) (Replied (reply_to_get f)) (with_book (noted_in seat (Get key) (reply_to_get f) held.book) held) d d2 m
     by (lookup.Is x) because counted is = well (reply.Is x) because.0 (there (reply.Is x) because.0
         (λ tree holds catalogue guided dropped. is tree holds catalogue guided dropped because.0 (λ same. cc same)))
@@ -145,8 +147,8 @@ get_steps {end} {most} {d} {d2} opening seat key found held m one reads honest b
 pub get_does : {D : Type 0} (state : D → DiskState) (seat : ℕ) (key : Key) (found : Lookup) (old : CoreState D) (disk : D) (b : BookState) → IsCore old.held (state old.disk) → IsTimed (state disk) → may_note_in seat 0 old.held.book ≡ true
     → FindsBecause found key old.held (state old.disk) (state disk) → (found ≡ lookup.Fault → (state disk).faults < 2 ^ 64)
     → ((tree : Tree) → IsTrue (state old.disk).is_honest → HoldsTree old.held.runs.sizes tree (state old.disk).bytes
-        → tree.catalogue ≡ old.held.runs.catalogue → AreGuided old.held.runs.guides old.held.runs.tags tree
-        → HasDropped old.held tree (state old.disk).bytes → old.held.book.stopped ≡ None
+    → tree.catalogue ≡ old.held.runs.catalogue → AreGuided old.held.runs.guides old.held.runs.tags tree
+    → HasDropped old.held tree (state old.disk).bytes → old.held.book.stopped ≡ None
     → found ≢ lookup.Fault → reply_to_get found ≡ answer_to_get (found_in key old.held tree))
     → ((n : ℕ) → CountsFilters key old.held n → OnlyReads (file_length old.held.runs.sizes) n (state old.disk) (state disk)) → (HidesOlder (newest_in key old.held) → disk ≡ old.disk) → (LooksNone found → disk ≡ old.disk) → b ≡ noted_in seat (Get key) (reply_to_get found) old.held.book
     → Gets state seat key found old (record { disk = disk; held = with_book b old.held; holds = old.holds })

@@ -70,7 +70,7 @@ module _ {D : Type 0} (state : D → DiskState) (disk : D) (runs : RunsState) (l
   not_stopped : book.stopped ≡ None
   not_stopped = ap (λ (b : BookState). b.stopped) fresh
 
-  pub opened_stands : (tree : Tree) → StandOver runs tree log.a.entries d → tree.lane_a ≡ [] → tree.lane_b ≡ []
+  pub opened_stands : (tree : Tree) → StandOver runs tree d → tree.lane_a ≡ [] → tree.lane_b ≡ []
       → StandsWhole state (map_of_tree tree) core (opened runs.sizes (entries_of tree.c1) (entries_of tree.c2) (catalogue_of runs.catalogue) d.faults annals.room)
   opened_stands tree over a b =
       let m = opened runs.sizes (entries_of tree.c1) (entries_of tree.c2) (catalogue_of runs.catalogue) d.faults annals.room in

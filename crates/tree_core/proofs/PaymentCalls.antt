@@ -28,7 +28,8 @@ use Rattle.tree_machine.specs.Machine.{Machine}
 use Rattle.tree_machine.specs.Plays.{may}
 use Rattle.tree_machine.specs.Steps.{Answer, Paid, Settled, Turn}
 use Rattle.tree_machine.specs.declared.step.Kind.TheVariants as kind
-use Rattle.tree_runs.specs.Holding.{StandOver}
+use Rattle.core_lists.proofs.WeighLemmas.{all_ahead}
+use Rattle.tree_runs.specs.Holding.{HasAllAhead, StandOver}
 use Rattle.core_moves.specs.declared.held.Held.{Held}
 use Rattle.core_moves.specs.Moves.{KeepsAllButMerges, with_book, with_debts_forgiven}
 use Rattle.core_moves.specs.Needs.{IsOn}
@@ -45,7 +46,8 @@ use Rattle.tree_core.proofs.KeepLemmas.{forgiven_keeps_pins, quantum_keeps_pins,
 use Rattle.tree_core.proofs.LastLemmas.{goes_on_by, may_leave}
 use Rattle.tree_core.proofs.NotingLemmas.{failed_payment_counts, payment_counts, plans_nothing, settling_counts}
 use Rattle.tree_core.proofs.PaymentLemmas.{FailedToTake, Plans, Took, failed_payment_follows, failed_payment_moves, nothing_planned, payment_follows, payment_lessens, payment_moves, payment_runs, settling_follows, settling_moves}
-use Rattle.tree_core.proofs.PaymentSteps.{failed_payment_step, halted_payment, never_damaged, paid_step, settled_payment, stands_forgiven}
+use Rattle.tree_core.proofs.PaymentSteps.{ahead_forgiven, failed_payment_step, halted_payment, never_damaged, paid_step, settled_payment}
+use Rattle.tree_core.proofs.PaymentSteps.{stands_forgiven}
 use Rattle.tree_core.proofs.QuantumLemmas.{debts_stay, follows_by, kept_once}
 use Rattle.tree_core.proofs.QuantumSteps.{RunsAt, running_at}
 use Rattle.tree_core.specs.Notes.{CountsCommits, rotations}
@@ -102,7 +104,8 @@ pub record Paying {D : Type 0} (state : D → DiskState) (seat : ℕ) (plan : Pl
   pub told : TellsFaultsBy (Err Fault) result (state old.disk) (state disk)
   pub effect : Affects (beside_pins forgiven.runs.sizes forgiven.runs.space.pins) (file_length forgiven.runs.sizes) (forgiven.runs.sizes.quantum / 4 + 3) (state old.disk) (state disk)
   pub ahead : (n : ℕ) → result ≡ Err (Damaged n) → IsTrue (state old.disk).tells_bytes → IsDamageAhead plan taken.runs n (state disk).bytes
-  pub lists : (tree : Tree) → IsTrue (state old.disk).is_honest → StandOver forgiven.runs tree forgiven.log.a.entries (state old.disk) → LeavesTaken plan result forgiven taken tree (state old.disk) (state disk)
+  pub lists : (tree : Tree) → IsTrue (state old.disk).is_honest → StandOver forgiven.runs tree (state old.disk)
+      → HasAllAhead forgiven.runs.pass forgiven.log.a.entries tree → LeavesTaken plan result forgiven taken tree (state old.disk) (state disk)
 
 -- a payment rotates nothing
 pay_rotates : (answer : Answer) (held : Held) → rotations answer kind.Pay held ≡ 0
@@ -125,7 +128,8 @@ module _ {D : Type 0} (state : D → DiskState) (seat : ℕ) (plan : Plan) (resu
       let k = (t.core.holds.live ran).paced in
       let tree = (s.runs ran).tree in
       let r = running_at opening old.held m (state old.disk) t.core.pace s ran k.numbers k.one in
-      steps opening m tree r ok (t.lists tree honest (stands_forgiven seat old.held forgiven tree (state old.disk) t.plans.is r.over)))
+      steps opening m tree r ok (t.lists tree honest (stands_forgiven seat old.held forgiven tree (state old.disk) t.plans.is r.over)
+      (ahead_forgiven seat old.held forgiven tree t.plans.is (all_ahead old.held tree r.one r.holds.of_log))))
 
 pub pay_taken : {D : Type 0} (state : D → DiskState) (seat n : ℕ) (plan : Plan) (old : CoreState D) (forgiven taken : Held) (disk : D) (b : BookState) → Paying state seat plan (Ok n) old forgiven taken disk → IsOn taken (state disk)
     → b ≡ paid_in seat taken.book → Pays state seat payment.Paid old (record { disk = disk; held = with_book b taken; holds = old.holds })

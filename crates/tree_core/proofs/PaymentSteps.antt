@@ -28,7 +28,7 @@ use Rattle.paced_tree.specs.Kept.{IsPacedTree}
 use Rattle.paced_tree.proofs.Payments.{sound_forgiven}
 use Rattle.seat_book.specs.State.{BookState, paid_in, stopped_in}
 use Rattle.tree_file.specs.Tree.{Tree, HoldsTree}
-use Rattle.tree_runs.specs.Holding.{StandOver}
+use Rattle.tree_runs.specs.Holding.{HasAllAhead, StandOver}
 use Rattle.core_moves.specs.declared.held.Held.{Held}
 use Rattle.core_moves.specs.Moves.{with_book, with_debts_forgiven}
 use Rattle.core_pace.specs.Pacing.{IsPacedHeld}
@@ -60,7 +60,8 @@ halted_payment opening seat why held m d timed honest is stands ok =
     let stop_is : m.stopped ≡ Some why = ap (λ (b : BookState). b.stopped) stands.book ∙ is in
     quiet_step {end = 0} {most = 0} opening seat kind.Pay Well (Turn (machine.Halted why)) held held.runs.space held.book m m (only_reads_start d timed) honest stands ok tt tt refl
     (ap (λ (o : Option Why). pay_running o m seat Well) stop_is)
-    (record { same = record { lists = refl; merges = refl; gears = refl; spring = refl; catalogue = refl }; counts = record { charge = refl; peak = refl; quanta = refl }; book = stands.book; stopped = refl; noted = inl refl }) (λ tree table file of. of) (λ none. tt)
+    (record { same = record { lists = refl; merges = refl; gears = refl; spring = refl; catalogue = refl }; counts = record
+        { charge = refl; peak = refl; quanta = refl }; book = stands.book; stopped = refl; noted = inl refl }) (λ tree file of. of) (λ none. tt)
 
 -- ---- one that runs
 
@@ -113,8 +114,14 @@ paid_entries seat n plan old forgiven taken b took counted = grind (arith, commo
 same_file : (seat : ℕ) (old forgiven : Held) (tree : Tree) (file : List ℕ) → forgiven ≡ with_debts_forgiven seat old → HoldsTree forgiven.runs.sizes tree file → HoldsTree old.runs.sizes tree file
 same_file seat old forgiven tree file is holds = subst (λ (h : Held). HoldsTree h.runs.sizes tree file) is holds
 
-pub stands_forgiven : (seat : ℕ) (old forgiven : Held) (tree : Tree) (d : DiskState) → forgiven ≡ with_debts_forgiven seat old → StandOver old.runs tree old.log.a.entries d → StandOver forgiven.runs tree forgiven.log.a.entries d
-stands_forgiven seat old forgiven tree d is over = subst (λ (h : Held). StandOver h.runs tree h.log.a.entries d) (sym is) over
+pub stands_forgiven : (seat : ℕ) (old forgiven : Held) (tree : Tree) (d : DiskState) → forgiven ≡ with_debts_forgiven seat old
+    → StandOver old.runs tree d → StandOver forgiven.runs tree d
+stands_forgiven seat old forgiven tree d is over = subst (λ (h : Held). StandOver h.runs tree d) (sym is) over
+
+pub ahead_forgiven : (seat : ℕ) (old forgiven : Held) (tree : Tree) → forgiven ≡ with_debts_forgiven seat old
+    → HasAllAhead old.runs.pass old.log.a.entries tree
+    → HasAllAhead forgiven.runs.pass forgiven.log.a.entries tree
+ahead_forgiven seat old forgiven tree is ahead = subst (λ (h : Held). HasAllAhead h.runs.pass h.log.a.entries tree) (sym is) ahead
 
 pub paid_step : (opening : List (Key × Value)) (seat n : ℕ) (plan : Plan) (old forgiven taken : Held) (b : BookState) (m : Machine) (next : Pace) (before after : DiskState) (tree : Tree) (result : Result ℕ Broken)
     → Took seat n plan old forgiven taken → b ≡ paid_in seat taken.book → RunsAt opening old m before tree → IsPacedHeld (with_book b taken) next → IsTrue (may m seat kind.Pay)
@@ -128,7 +135,7 @@ paid_step opening seat n plan old forgiven taken b m next before after tree resu
     (ap (λ (x : BookState). x.book.entries) at.holds.book ∙ paid_entries seat n plan old forgiven taken b took counted ∙ sym (ap (λ (x : BookState). x.book.entries) r.holds.book))
     (λ c here. shows_at opening old m before tree c r (same_file seat old forgiven tree c took.plans.is here)) leaves.each)
   where
-    left : (x : ℕ) × (result ≡ Ok x) × StandOver taken.runs tree taken.log.a.entries after × TookByPlan plan x forgiven taken tree
+    left : (x : ℕ) × (result ≡ Ok x) × StandOver taken.runs tree after × TookByPlan plan x forgiven taken tree
     left = leaves.taken (λ same. cc (same, is))
 
     same_n : left.0 ≡ n
@@ -207,7 +214,7 @@ failed_payment_step opening seat f plan old forgiven failed b m before after tre
             reads = shows after.bytes leaves.stands.reads;
             each = λ c here. shows c (leaves.stands.each c here);
             commits = one_commits m.gears.sizes forgiven.runs.sizes m.catalogue.version tree after (ap (λ (g : GearState). g.sizes) r.holds.gears ∙ r.one.gears ∙ sym (ap (λ (h : Held). h.runs.sizes) fails.plans.is))
-                (version_of old tree m old.log.a.entries before.bytes r.over.are_of r.holds) leaves.stands;
+                (version_of old tree m before.bytes r.over.are_of r.holds) leaves.stands;
           };
         }
 

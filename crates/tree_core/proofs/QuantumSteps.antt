@@ -40,7 +40,7 @@ no_stop held none some = false≢true (sym (ap is_some none) ∙ some)
 -- What stands while it runs: its numbers are some pace's, which need not be the machine's.
 pub record RunsAt (opening : List (Key × Value)) (held : Held) (m : Machine) (d : DiskState) (tree : Tree) : Type 0 where
   pub fronts : Fronts
-  pub over : StandOver held.runs tree held.log.a.entries d
+  pub over : StandOver held.runs tree d
   pub holds : HoldsMachine held tree m
   pub goes : GoesOn opening m fronts tree
   pub numbers : Pace

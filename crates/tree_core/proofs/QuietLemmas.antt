@@ -19,7 +19,7 @@ use Rattle.disk_trait.proofs.MomentLemmas.{leaves_only_start, leaves_only_weaken
 use Rattle.gear_sched.specs.Gears.{GearState}
 use Rattle.pacing.specs.Pace.{Pace}
 use Rattle.page_space.specs.Space.{SpaceState}
-use Rattle.record_delta.specs.Entries.{Entries, entries_weight}
+use Rattle.record_delta.specs.Entries.{entries_weight}
 use Rattle.tree_machine.specs.Lists.{Lists}
 use Rattle.tree_machine.specs.Machine.{Machine, charge}
 use Rattle.tree_machine.specs.Outcomes.{IsPossible, is_broken}
@@ -113,7 +113,8 @@ shows_now opening held m d s = ⊎_elim running s.stopped (runs_or_not held.book
         record {
           reads = standing_shows opening m over.fronts over.tree d.bytes s.paced over.within over.holds.lists over.lanes (subst (λ (z : Sizes). HoldsTree z over.tree d.bytes) (sym s.sizes) over.over.stands.reads);
           each = λ c left. standing_shows opening m over.fronts over.tree c s.paced over.within over.holds.lists over.lanes (subst (λ (z : Sizes). HoldsTree z over.tree c) (sym s.sizes) (over.over.stands.each c left));
-          commits = one_commits m.gears.sizes held.runs.sizes m.catalogue.version over.tree d s.sizes (version_of held over.tree m held.log.a.entries d.bytes over.over.are_of over.holds) over.over.stands;
+          commits = one_commits m.gears.sizes held.runs.sizes m.catalogue.version over.tree d s.sizes
+              (version_of held over.tree m d.bytes over.over.are_of over.holds) over.over.stands;
         }
 
 -- It stays with the lists, the merges, the gears, the spring and the catalogue.
@@ -143,7 +144,7 @@ same_fronts m after fronts same within = by m.lists after.lists m.gears after.ge
 -- Where the book and the map of the pages alone change, on a disk that still stands, the core stands for the machine's state with that book.
 quiet_stands : {Rows Next : List (Option (List Row)) → Type 0} (opening : List (Key × Value)) (held : Held) (space : SpaceState) (b : BookState) (m after : Machine) (d d2 : DiskState) → StandsFor Rows opening held m d → SameTree m after
     → book_of after ≡ b → b.stopped ≡ held.book.stopped → IsPacedTree opening after
-    → ((tree : Tree) → StandOver held.runs tree held.log.a.entries d → StandOver (mapped space held).runs tree held.log.a.entries d2)
+    → ((tree : Tree) → StandOver held.runs tree d → StandOver (mapped space held).runs tree d2)
     → (IsSome held.book.stopped → HasStopped opening after d2) → (held.book.stopped ≡ None → Next after.holds) → StandsFor Next opening (with_book b (mapped space held)) after d2
 quiet_stands opening held space b m after d d2 s same book stopped paced stays shows gives = record {
   paced = paced;
@@ -227,7 +228,8 @@ pub quiet_step : {end most : ℕ} {d d2 : DiskState} {Rows Next : List (Option (
     (m after : Machine) → OnlyReads end most d d2 → IsTrue d.is_honest
     → StandsFor Rows opening held m d → may m seat k ≡ true → WritesFit k → IsPossible m seat k outcome d.faults d2.faults → is_broken outcome ≡ false
     → stepped_as m seat k outcome ≡ record { state = after; answer = answer } → ChangesBook held b m after
-    → ((tree : Tree) (table : Entries) (file : List ℕ) → AreOf held.runs tree table file → AreOf (mapped space held).runs tree table file) → (held.book.stopped ≡ None → Next after.holds)
+    → ((tree : Tree) (file : List ℕ) → AreOf held.runs tree file → AreOf (mapped space held).runs tree file)
+        → (held.book.stopped ≡ None → Next after.holds)
     → IsStep Next opening seat k answer (with_book b (mapped space held)) d d2 m
 quiet_step {end} {most} {d} {d2} {Rows} {Next} opening seat k outcome answer held space b m after reads honest s can fits possible whole is changes lists gives = record {
   outcome = outcome;
@@ -237,7 +239,7 @@ quiet_step {end} {most} {d} {d2} {Rows} {Next} opening seat k outcome answer hel
       (quiet_stands opening held space b m after d d2 s changes.same changes.book changes.stopped paced
       (λ tree over. record {
         stands = (stands_read held.runs.sizes tree reads honest over.stands).0;
-        are_of = lists tree held.log.a.entries d2.bytes (subst (λ (file : List ℕ). AreOf held.runs tree held.log.a.entries file) (sym (reads.same.same.bytes honest)) over.are_of);
+        are_of = lists tree d2.bytes (subst (λ (file : List ℕ). AreOf held.runs tree file) (sym (reads.same.same.bytes honest)) over.are_of);
       }) (λ stopped. shows) gives);
   answers = ap (λ (t : Stepped). t.answer) (sym is);
   images = subst (λ (t : Stepped). LeavesOnly d d2 (ShowsHistory m.gears.sizes opening t.state.book.entries (length m.book.entries))) (sym is)

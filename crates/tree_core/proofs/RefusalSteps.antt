@@ -74,7 +74,7 @@ module _ {end most : ℕ} {d d2 : DiskState} (opening : List (Key × Value)) (se
         noted = inr
             (entry, refl, quiet_entry_counts_none entry (inr (undone, sure)));
       })
-      (λ tree table file of. of) (λ none. tt)
+      (λ tree file of. of) (λ none. tt)
 
   stop_is : m.stopped ≡ held.book.stopped
   stop_is = ap (λ (b : BookState). b.stopped) s.book

@@ -19,7 +19,6 @@ use Rattle.disk_trait.specs.Moments.{LeavesOnly}
 use Rattle.disk_trait.proofs.MomentLemmas.{leaves_only_run, leaves_only_weaken}
 use Rattle.record_delta.specs.declared.record.Rec.{Rec}
 use Rattle.record_delta.specs.Records.{record_of}
-use Rattle.record_delta.specs.Entries.{Entries}
 use Rattle.gear_sched.specs.Gears.{GearState}
 use Rattle.pacing.specs.Pace.{Pace}
 use Rattle.pacing.specs.Fronts.{Fronts}
@@ -36,8 +35,8 @@ use Rattle.tree_machine.proofs.CarryLemmas.{deep_swapped_carries, ready_carries}
 use Rattle.paced_tree.proofs.Promises.{has_way}
 use Rattle.tree_file.specs.Tree.{Tree, HoldsTree}
 use Rattle.tree_file.specs.Places.{HoldsEither, StandsOn, Becomes}
-use Rattle.tree_log.specs.Log.{LogState, IsLogOf, appended}
-use Rattle.tree_runs.specs.Holding.{AreOf, StandOver, LeavesSwapped}
+use Rattle.tree_log.specs.Log.{IsLogOf, appended}
+use Rattle.tree_runs.specs.Holding.{AreOf, HasAllAhead, StandOver, LeavesSwapped}
 use Rattle.core_moves.specs.declared.held.Held.{Held}
 use Rattle.core_moves.specs.Held.{IsDeepDone, IsPassDone, goes_ahead, charge_in}
 use Rattle.core_moves.specs.Moves.{SettlesDeep, SettlesPass, TurnsLog, WritesIn, begun_in}
@@ -48,6 +47,7 @@ use Rattle.core_lists.specs.Shown.{CommitsAs, ShowsHistory, ShowsWhole}
 use Rattle.core_lists.specs.Admissions.{DeepSettlesTree}
 use Rattle.core_lists.specs.Images.{ShowsNoted, history_with}
 use Rattle.core_lists.proofs.AdmissionLands.{deep_settling_lands, readying_lands}
+use Rattle.core_lists.proofs.WeighLemmas.{all_ahead}
 use Rattle.core_lists.proofs.WriteLands.{write_lands}
 use Rattle.core_lists.proofs.ShowingLemmas.{standing_shows, settled_shows, swapped_shows, showing_is_kept, prefix_self}
 use Rattle.core_lists.proofs.ImageLemmas.{settled_fronts, ready_fronts, deep_swap_images, pass_swap_images}
@@ -66,13 +66,14 @@ use Rattle.core_pace.proofs.Terms.{IsBetween}
 
 -- the tree after the deep merge's swap, where it was due
 abbrev pub DeepLeaves : Held → Held → Bool → DiskState → DiskState → Type 0
-DeepLeaves old new ok before after = (tree : Tree) → IsTrue before.is_honest → StandOver old.runs tree old.log.a.entries before
-    → (next : Tree) × DeepSettlesTree old tree next × LeavesSwapped old.runs new.runs tree next new.log.a.entries ok before after
+DeepLeaves old new ok before after = (tree : Tree) → IsTrue before.is_honest → StandOver old.runs tree before
+    → (next : Tree) × DeepSettlesTree old tree next × LeavesSwapped old.runs new.runs tree next ok before after
 
 -- and after the pass's
 abbrev pub PassLeaves : Held → Held → Bool → DiskState → DiskState → Type 0
-PassLeaves old new ok before after = (tree : Tree) → IsTrue before.is_honest → StandOver old.runs tree old.log.a.entries before
-    → (next : Tree) × PassMakesTree old tree next × LeavesSwapped old.runs new.runs tree next new.log.a.entries ok before after
+PassLeaves old new ok before after = (tree : Tree) → IsTrue before.is_honest → StandOver old.runs tree before
+    → HasAllAhead old.runs.pass old.log.a.entries tree
+    → (next : Tree) × PassMakesTree old tree next × LeavesSwapped old.runs new.runs tree next ok before after
 
 -- each image of each moment, and what the disk reads as, shows all of the history
 abbrev pub LeavesWhole : List (Key × Value) → Machine → DiskState → DiskState → Type 0
@@ -80,7 +81,7 @@ LeavesWhole opening m before after = LeavesOnly before after (ShowsWhole opening
 
 -- The write's entry is appended, or the append fails.
 abbrev pub Appends : Key → Rec → Held → Bool → DiskState → DiskState → Type 0
-Appends key rec begun ok before after = (tree : Tree) → IsTrue before.is_honest → IsLogOf tree begun.log → StandOver begun.runs tree begun.log.a.entries before
+Appends key rec begun ok before after = (tree : Tree) → IsTrue before.is_honest → IsLogOf tree begun.log → StandOver begun.runs tree before
     → Becomes begun.runs.sizes tree (appended (goes_ahead key begun) (key, rec) tree) ok before after
 
 -- what an admission begins with
@@ -115,7 +116,7 @@ module _ (opening : List (Key × Value)) (old : Held) (m : Machine) (d : DiskSta
   abbrev fronts : Fronts
   fronts = (is.stands.runs is.runs).fronts
 
-  over : StandOver old.runs tree old.log.a.entries d
+  over : StandOver old.runs tree d
   over = (is.stands.runs is.runs).over
 
   stood : StandsIn opening old m fronts tree d.bytes
@@ -143,7 +144,7 @@ module _ (opening : List (Key × Value)) (old : Held) (m : Machine) (d : DiskSta
       cases
 
   version_is : tree.catalogue.version ≡ m.catalogue.version
-  version_is = version_of old tree m old.log.a.entries d.bytes over.are_of stood.at.holds
+  version_is = version_of old tree m d.bytes over.are_of stood.at.holds
 
   pub lost_deep : (new : Held) → new ≡ old → IsDeepDone old → (ok : Bool) (after : DiskState) → DeepLeaves old new ok d after → HasLost m new after
   lost_deep new same done ok after leaves = inl (
@@ -185,7 +186,7 @@ module _ (opening : List (Key × Value)) (old : Held) (m : Machine) (d : DiskSta
   moves : DeepSettlesTree old first middle
   moves = (has.leaves first is.honest (over opening old m d is)).1
 
-  over_middle : StandOver settled.runs middle settled.log.a.entries mid
+  over_middle : StandOver settled.runs middle mid
   over_middle = (has.leaves first is.honest (over opening old m d is)).2.stands refl
 
   between : IsBetween settled (deep_settled is.numbers)
@@ -203,6 +204,9 @@ module _ (opening : List (Key × Value)) (old : Held) (m : Machine) (d : DiskSta
         one = between.one;
       }
 
+  ahead : HasAllAhead settled.runs.pass settled.log.a.entries middle
+  ahead = all_ahead settled middle between.one settled_in.at.holds.of_log
+
   sizes_here : m.gears.sizes ≡ settled.runs.sizes
   sizes_here = is.stands.sizes ∙ sym ((deep_keeps_pins old settled has.deep).sizes)
 
@@ -219,17 +223,18 @@ module _ (opening : List (Key × Value)) (old : Held) (m : Machine) (d : DiskSta
   lost_pass new same done ok after leaves =
       let carries = deep_swapped_carries m is.stands.paced.stands.sound in
       let sound = carries.sound in
-      let made = leaves middle (has.honest is.honest) over_middle in
+      let made = leaves middle (has.honest is.honest) over_middle ahead in
       inr (
         subst (λ (h : Held). TellsOf h (deep_swapped m)) (sym same) (tells_of settled middle (deep_swapped m) mid.bytes (deep_settled is.numbers) settled_in.at sound between.numbers between.one.gears),
         (tests_agree_with_lists settled middle (deep_swapped m) mid.bytes (deep_settled is.numbers) settled_in.at sound between.numbers).pass_is_done.0 done,
         either_commits (deep_swapped m).gears.sizes settled.runs.sizes (deep_swapped m).catalogue.version middle made.0 after (carries.sizes ∙ sizes_here)
-            (version_of settled middle (deep_swapped m) settled.log.a.entries mid.bytes over_middle.are_of settled_in.at.holds) (inr (made.1.done done).version) made.2.either,
+            (version_of settled middle (deep_swapped m) mid.bytes over_middle.are_of settled_in.at.holds)
+                (inr (made.1.done done).version) made.2.either,
       )
 
   pub pass_whole : (new : Held) (ok : Bool) (after : DiskState) → IsPassDone settled ⊎ (IsPassDone settled → ⊥) → PassLeaves settled new ok mid after → LeavesWhole opening m d after
   pass_whole new ok after cases leaves =
-      let made = leaves middle (has.honest is.honest) over_middle in (
+      let made = leaves middle (has.honest is.honest) over_middle ahead in (
         leaves_only_run (deep_whole opening old m d is settled true mid (decided has.deep) has.leaves).0 (leaves_only_weaken (λ c either. pass_shows made.0 c cases made.1 either) made.2.each),
         pass_shows made.0 after.bytes cases made.1 made.2.either.reads,
       )
@@ -241,11 +246,11 @@ pub record HasBegun (w : ℕ) (settled ready begun : Held) (mid last : DiskState
   pub leaves : PassLeaves settled ready true mid last
   pub honest : IsTrue mid.is_honest → IsTrue last.is_honest
   pub is_begun : begun ≡ begun_in w ready
-  pub lists : (tree : Tree) (a : Entries) (file : List ℕ) → AreOf ready.runs tree a file → AreOf begun.runs tree a file
+  pub lists : (tree : Tree) (file : List ℕ) → AreOf ready.runs tree file → AreOf begun.runs tree file
 
 pub begun_by : {T E : Type 0} (r : Result T E) (w n : ℕ) (settled ready begun : Held) (mid last : DiskState) → is_err r ≡ false → OnOk r (SettlesPass settled ready)
     → OnOk r (IsPassDone settled → TurnsLog settled.log ready.log) → PassLeaves settled ready (is_ok r) mid last → last.is_honest ≡ mid.is_honest → begun ≡ begun_in n ready → n ≡ w
-    → ((tree : Tree) (a : Entries) (file : List ℕ) → AreOf ready.runs tree a file → AreOf begun.runs tree a file) → HasBegun w settled ready begun mid last
+    → ((tree : Tree) (file : List ℕ) → AreOf ready.runs tree file → AreOf begun.runs tree file) → HasBegun w settled ready begun mid last
 begun_by r w n settled ready begun mid last ok settles turns leaves same is_begun weighs lists = record {
   pass = ok_of r ok settles;
   turns = ok_of r ok turns;
@@ -283,21 +288,20 @@ module _ (opening : List (Key × Value)) (old : Held) (m : Machine) (d : DiskSta
   abbrev between_them : SettledIn opening old settled m limits one two d.bytes mid.bytes
   between_them = settled_in opening old m d is settled mid has
 
-  made : (next : Tree) × PassMakesTree settled two next × LeavesSwapped settled.runs ready.runs two next ready.log.a.entries true mid last
-  made = then.leaves two (has.honest is.honest) (over_middle opening old m d is settled mid has)
+  made : (next : Tree) × PassMakesTree settled two next × LeavesSwapped settled.runs ready.runs two next true mid last
+  made = then.leaves two (has.honest is.honest) (over_middle opening old m d is settled mid has) (ahead opening old m d is settled mid has)
 
   abbrev next : Tree
   next = made.0
 
-  over_next : StandOver ready.runs next ready.log.a.entries last
+  over_next : StandOver ready.runs next last
   over_next = made.2.stands refl
 
   pass_tree : PassSettlesTree settled ready two next
   pass_tree = record { done = made.1.done; turns = then.turns; rests = made.1.rests }
 
-  begun_of : AreOf (begun_in w ready).runs next (begun_in w ready).log.a.entries last.bytes
-  begun_of = subst (λ (l : LogState). AreOf (begun_in w ready).runs next l.a.entries last.bytes) (sym (begun_keeps w ready).log)
-      (subst (λ (h : Held). AreOf h.runs next ready.log.a.entries last.bytes) then.is_begun (then.lists next ready.log.a.entries last.bytes over_next.are_of))
+  begun_of : AreOf (begun_in w ready).runs next last.bytes
+  begun_of = subst (λ (h : Held). AreOf h.runs next last.bytes) then.is_begun (then.lists next last.bytes over_next.are_of)
 
   readied : IsReadied w settled ready two next m mid.bytes last.bytes
   readied = readying_lands w old settled ready one two next m is.numbers (deep_settled is.numbers) d.bytes mid.bytes last.bytes start.at is.stands.paced.stands.sound (has_way opening m is.stands.paced) is.paced.one is.paced.numbers
@@ -318,7 +322,7 @@ module _ (opening : List (Key × Value)) (old : Held) (m : Machine) (d : DiskSta
   sizes_begun : begun.runs.sizes ≡ m.gears.sizes
   sizes_begun = ap (λ (h : Held). h.runs.sizes) then.is_begun ∙ (begun_keeps w ready).sizes ∙ (pass_keeps_pins settled ready then.pass).sizes ∙ (deep_keeps_pins old settled has.deep).sizes ∙ sym is.stands.sizes
 
-  over_begun : StandOver begun.runs next begun.log.a.entries last
+  over_begun : StandOver begun.runs next last
   over_begun = record {
     stands = subst (λ (s : Sizes). StandsOn s next last) (sym (ap (λ (h : Held). h.runs.sizes) then.is_begun ∙ (begun_keeps w ready).sizes)) over_next.stands;
     are_of = at_begun.are_of;
@@ -373,7 +377,7 @@ module _ (opening : List (Key × Value)) (old : Held) (m : Machine) (d : DiskSta
   same_catalogue false = refl
 
   version_begun : next.catalogue.version ≡ (ready_for w m).catalogue.version
-  version_begun = version_of begun next (ready_for w m) begun.log.a.entries last.bytes at_begun.are_of at_begun.holds
+  version_begun = version_of begun next (ready_for w m) last.bytes at_begun.are_of at_begun.holds
 
   becomes : (ok : Bool) (after : DiskState) → Appends (key_of write) (record_of write) begun ok last after → Becomes begun.runs.sizes next appended_tree ok last after
   becomes ok after appends = appends next (then.honest (has.honest is.honest)) at_begun.holds.of_log over_begun
@@ -403,8 +407,8 @@ module _ (opening : List (Key × Value)) (old : Held) (m : Machine) (d : DiskSta
   -- the write is the machine's
   pub writes_over : (new : Held) (after : DiskState) → WritesIn seat (key_of write) (record_of write) begun new
       → ((tree : Tree) → IsLogOf tree begun.log → IsLogOf (appended (goes_ahead (key_of write) begun) (key_of write, record_of write) tree) new.log)
-      → ((tree : Tree) → IsTrue last.is_honest → IsLogOf tree begun.log → StandOver begun.runs tree begun.log.a.entries last
-      → StandOver new.runs (appended (goes_ahead (key_of write) begun) (key_of write, record_of write) tree) new.log.a.entries after)
+      → ((tree : Tree) → IsTrue last.is_honest → IsLogOf tree begun.log → StandOver begun.runs tree last
+      → StandOver new.runs (appended (goes_ahead (key_of write) begun) (key_of write, record_of write) tree) after)
       → TakenOver opening seat op m new after
   writes_over new after writes of_log stands =
       let over_new = stands next (then.honest (has.honest is.honest)) at_begun.holds.of_log over_begun in

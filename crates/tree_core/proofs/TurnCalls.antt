@@ -25,7 +25,8 @@ use Rattle.tree_machine.specs.Machine.{Machine, Turned, seats}
 use Rattle.tree_machine.specs.Outcomes.{calls_disk}
 use Rattle.tree_machine.specs.Steps.{Turn}
 use Rattle.tree_machine.specs.declared.step.Kind.TheVariants as kind
-use Rattle.tree_runs.specs.Holding.{StandOver}
+use Rattle.core_lists.proofs.WeighLemmas.{all_ahead}
+use Rattle.tree_runs.specs.Holding.{HasAllAhead, StandOver}
 use Rattle.core_moves.specs.declared.held.Held.{Held}
 use Rattle.core_moves.specs.Moves.{with_book}
 use Rattle.core_lists.specs.Steps.{choice_of}
@@ -116,7 +117,9 @@ pub record Turning {D : Type 0} (state : D → DiskState) (w : Bool) (seat : ℕ
   pub few : (state disk).faults < 2 ^ 64
   pub called : IsErr made → calls_disk (choice_of mv) ≡ true
   pub in_memory : LeavesDisk mv old.disk disk
-  pub lists : (tree : Tree) → IsTrue (state old.disk).is_honest → StandOver old.held.runs tree old.held.log.a.entries (state old.disk) → (next : Tree) × LeavesMoved mv made old.held moved tree next (state old.disk) (state disk)
+  pub lists : (tree : Tree) → IsTrue (state old.disk).is_honest → StandOver old.held.runs tree (state old.disk)
+      → HasAllAhead old.held.runs.pass old.held.log.a.entries tree → (next : Tree)
+          × LeavesMoved mv made old.held moved tree next (state old.disk) (state disk)
   pub opened : (m : Machine) → book_of m ≡ old.held.book → IsOpenTo w m
 
 turning_goes : {D : Type 0} (state : D → DiskState) (w : Bool) (seat : ℕ) (mv : Move) (made : Result ℕ Broken) (faults : ℕ) (old : CoreState D) (disk : D) (moved : Held) (ended : Turned) (b : BookState) → is_held (kind_of_turn w) ≡ false
@@ -133,7 +136,7 @@ turning_goes state w seat mv made faults old disk moved ended b none can t =
     let k = (t.core.holds.live ran).paced in
     let r = running_at opening old.held m before t.core.pace s ran k.numbers k.one in
     let tree = (s.runs ran).tree in
-    let left = t.lists tree honest r.over in
+    let left = t.lists tree honest r.over (all_ahead old.held tree r.one r.holds.of_log) in
     turn_step w opening seat mv made faults old.held moved ended b m t.core.pace tree before after t.ends t.core.holds t.counted
     (λ is. has_risen before.faults after.faults t.effect.goes_on.faults t.few (t.ends.told.failed is)) t.called
     (record { runs = r; opened = t.opened m s.book; ok = ok; may_move = turn_may w seat mv old.held t.core.pace before t.ends.turns t.core.holds; next = left.0; leaves = left.1 }))

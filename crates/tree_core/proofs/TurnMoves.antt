@@ -12,7 +12,6 @@ use Rattle.disk_trait.proofs.MomentLemmas.{leaves_only_start, leaves_only_weaken
 use Rattle.page_file.specs.declared.file.Broken.{Broken}
 use Rattle.page_file.specs.declared.file.Broken.TheVariants.{Fault, Damaged}
 use Rattle.pacing.specs.Steps.{Move}
-use Rattle.record_delta.specs.Entries.{Entries}
 use Rattle.tree_file.specs.Tree.{Tree, HoldsTree}
 use Rattle.tree_file.specs.Places.{StandsOn, HoldsEither}
 use Rattle.tree_runs.specs.Runs.{AreRunning}
@@ -32,12 +31,14 @@ pub on_pair : {T E : Type 0} (r : Result T E) (P Q : Type 0) → P → OnOk r Q 
 on_pair r P Q h1 h2 = grind (arith, common_steps, nat_tests)
 
 swap_leaves : {T E : Type 0} (r : Result T E) (mv : Move) (old new : Held) (tree next : Tree) (before after : DiskState) → MakesTree mv old tree next
-    → LeavesSwapped old.runs new.runs tree next new.log.a.entries (is_ok r) before after → OnOk r (TurnsTree mv 0 old new tree next) → LeavesMoved mv (as_moved r) old new tree next before after
+    → LeavesSwapped old.runs new.runs tree next (is_ok r) before after → OnOk r (TurnsTree mv 0 old new tree next)
+        → LeavesMoved mv (as_moved r) old new tree next before after
 swap_leaves (Ok done) mv old new tree next before after makes leaves trees = record { makes = makes; each = leaves.each; either = leaves.either; moved = λ well. (0, refl, leaves.stands refl, trees) }
 swap_leaves (Err failed) mv old new tree next before after makes leaves trees = record { makes = makes; each = leaves.each; either = leaves.either; moved = λ well. absurd (well refl) }
 
 pub swap_left : {T E : Type 0} (r : Result T E) (made : Result ℕ Broken) (mv : Move) (old new : Held) (tree next : Tree) (before after : DiskState) → made ≡ as_moved r → MakesTree mv old tree next
-    → LeavesSwapped old.runs new.runs tree next new.log.a.entries (is_ok r) before after → OnOk r (TurnsTree mv 0 old new tree next) → LeavesMoved mv made old new tree next before after
+    → LeavesSwapped old.runs new.runs tree next (is_ok r) before after → OnOk r (TurnsTree mv 0 old new tree next)
+        → LeavesMoved mv made old new tree next before after
 swap_left r made mv old new tree next before after is makes leaves trees =
     subst (λ (x : Result ℕ Broken). LeavesMoved mv x old new tree next before after) (sym is) (swap_leaves r mv old new tree next before after makes leaves trees)
 
@@ -70,7 +71,8 @@ swap_told r made before after is tells = subst (λ (x : Result ℕ Broken). Tell
 
 -- the tree stands
 pub quantum_left : (mv : Move) (result : Result ℕ Broken) (old new : Held) (tree : Tree) (before after : DiskState) → MakesTree mv old tree tree → StandsOn old.runs.sizes tree after × LeavesOnly before after (HoldsTree old.runs.sizes tree)
-    → (result ≢ Err Fault → (n : ℕ) × (result ≡ Ok n) × StandOver new.runs tree new.log.a.entries after × TurnsTree mv n old new tree tree) → LeavesMoved mv result old new tree tree before after
+    → (result ≢ Err Fault → (n : ℕ) × (result ≡ Ok n) × StandOver new.runs tree after × TurnsTree mv n old new tree tree)
+        → LeavesMoved mv result old new tree tree before after
 quantum_left mv result old new tree before after makes stands moved = record {
   makes = makes;
   each = leaves_only_weaken (λ c here. inl here) stands.1;
@@ -81,7 +83,8 @@ quantum_left mv result old new tree before after makes stands moved = record {
 -- ---- a begin, and a rest
 
 -- no call of the disk
-pub rest_left : (mv : Move) (result : Result ℕ Broken) (old new : Held) (tree : Tree) (d : DiskState) → IsTimed d → MakesTree mv old tree tree → StandsOn old.runs.sizes tree d → result ≡ Ok 0 → StandOver new.runs tree new.log.a.entries d
+pub rest_left : (mv : Move) (result : Result ℕ Broken) (old new : Held) (tree : Tree) (d : DiskState) → IsTimed d → MakesTree mv old tree tree
+    → StandsOn old.runs.sizes tree d → result ≡ Ok 0 → StandOver new.runs tree d
     → TurnsTree mv 0 old new tree tree → LeavesMoved mv result old new tree tree d d
 rest_left mv result old new tree d timed makes stands is over trees = record {
   makes = makes;
@@ -90,11 +93,12 @@ rest_left mv result old new tree d timed makes stands is over trees = record {
   moved = λ well. (0, is, over, trees);
 }
 
-pub begun_over : (old new : Held) (tree : Tree) (d : DiskState) → new ≡ with_pass_begun old → ((t : Tree) (a : Entries) (file : List ℕ) → AreOf old.runs t a file → AreOf new.runs t a file)
-    → StandOver old.runs tree old.log.a.entries d → StandOver new.runs tree new.log.a.entries d
+pub begun_over : (old new : Held) (tree : Tree) (d : DiskState) → new ≡ with_pass_begun old
+    → ((t : Tree) (file : List ℕ) → AreOf old.runs t file → AreOf new.runs t file)
+    → StandOver old.runs tree d → StandOver new.runs tree d
 begun_over old new tree d is lists over = record {
   stands = subst (λ (h : Held). StandsOn h.runs.sizes tree d) (sym is) over.stands;
-  are_of = subst (λ (a : Entries). AreOf new.runs tree a d.bytes) (sym (ap (λ (h : Held). h.log.a.entries) is)) (lists tree old.log.a.entries d.bytes over.are_of);
+  are_of = lists tree d.bytes over.are_of;
 }
 
 pub begun_on : (old new : Held) (d : DiskState) → new ≡ with_pass_begun old → ((honest : Bool) (file : List ℕ) → AreRunning honest file old.runs → AreRunning honest file new.runs) → IsOn old d → IsOn new d

@@ -113,7 +113,7 @@ halted_turn w opening seat why old b m d timed honest is counts stands ok =
     quiet_step {end = 0} {most = 0} opening seat (kind_of_turn w) Well (Turn (machine.Halted why)) old old.runs.space b m then (only_reads_start d timed) honest stands ok (turn_fits w) (possible_well w m seat d.faults d.faults) refl
     (halted_as w seat why m stop_is)
     (record { same = record { lists = refl; merges = refl; gears = refl; spring = refl; catalogue = refl }; counts = record { charge = refl; peak = refl; quanta = counted_quanta w seat (machine.Halted why) m }; book = book_is; stopped = sym (ap (λ (x : BookState). x.stopped) book_is) ∙ ap (λ (x : BookState). x.stopped) stands.book; noted = inl refl })
-    (λ tree table file of. of) (λ none. tt)
+    (λ tree file of. of) (λ none. tt)
 
 -- ---- what the images show of a move
 
@@ -156,7 +156,7 @@ move_shown pacing.Idle w opening old m d tree next file r is may_move makes size
 -- ---- a turn that went well
 
 well_at : (w : Bool) (opening : List (Key × Value)) (seat n : ℕ) (old moved : Held) (tree next : Tree) (m : Machine) (file after : List ℕ) → IsSteady old tree m file → IsPacedTree opening m → IsOpenTo w m
-    → TurnsBy (move_in w old) seat n old moved → TurnsTree (move_in w old) n old moved tree next → AreOf moved.runs next moved.log.a.entries after
+    → TurnsBy (move_in w old) seat n old moved → TurnsTree (move_in w old) n old moved tree next → AreOf moved.runs next after
     → IsAt (with_book (counted_by w seat (end_of_move (move_in w old)) (quanta_of_move (move_in w old)) moved.book) moved) next (stepped_as m seat (kind_of_turn w) Well).state after
 well_at true opening seat n old moved tree next m file after steady paced opened moves trees are_of =
     help_lands seat n old moved (with_book (counted_by true seat (end_of_move (move_in true old)) (quanta_of_move (move_in true old)) moved.book) moved) tree next m file after steady opened (record { moves = moves; counted = refl }) trees are_of
@@ -211,13 +211,13 @@ well_turn w opening seat n old moved m numbers tree before after made made_is t 
     steady : IsSteady old tree m before.bytes
     steady = steady_at opening old m before tree o.runs
 
-    left_any : (x : ℕ) × (made ≡ Ok x) × StandOver moved.runs o.next moved.log.a.entries after × TurnsTree (move_in w old) x old moved tree o.next
+    left_any : (x : ℕ) × (made ≡ Ok x) × StandOver moved.runs o.next after × TurnsTree (move_in w old) x old moved tree o.next
     left_any = o.leaves.moved (λ same. cc (same, made_is))
 
     same_n : left_any.0 ≡ n
     same_n = let e = left_any.1 in cc (e, made_is)
 
-    left : (x : ℕ) × (made ≡ Ok x) × StandOver moved.runs o.next moved.log.a.entries after × TurnsTree (move_in w old) n old moved tree o.next
+    left : (x : ℕ) × (made ≡ Ok x) × StandOver moved.runs o.next after × TurnsTree (move_in w old) n old moved tree o.next
     left = (left_any.0, left_any.1, left_any.2, subst (λ (x : ℕ). TurnsTree (move_in w old) x old moved tree o.next) same_n left_any.3)
 
     at : IsAt (with_book (counted_by w seat (end_of_move (move_in w old)) (quanta_of_move (move_in w old)) moved.book) moved) o.next (stepped_as m seat (kind_of_turn w) Well).state after.bytes
@@ -292,7 +292,8 @@ failed_turn w opening seat f old moved m tree before after made kept counted ros
         reads = stop_shows after.bytes (shows after.bytes o.leaves.either.reads);
         each = λ c here. stop_shows c (shows c (o.leaves.either.each c here));
         commits = either_commits m.gears.sizes old.runs.sizes m.catalogue.version tree o.next after (same_sizes opening old m before tree o.runs)
-            (version_of old tree m old.log.a.entries before.bytes o.runs.over.are_of o.runs.holds) (moved_version (move_in w old) old tree o.next o.leaves.makes) o.leaves.either;
+            (version_of old tree m before.bytes o.runs.over.are_of o.runs.holds)
+                (moved_version (move_in w old) old tree o.next o.leaves.makes) o.leaves.either;
       };
     }
 
@@ -337,4 +338,4 @@ closed_turn opening seat old b m d timed honest ran closed counts stands ok =
     let closed_is : is_closed m ≡ true = ap is_closed_in stands.book ∙ closed in
     quiet_step {end = 0} {most = 0} opening seat kind.WorkerTurn Well (Turn machine.Closed) old old.runs.space b m (helped seat m) (only_reads_start d timed) honest stands ok tt tt refl (closed_as seat m runs closed_is)
     (record { same = record { lists = refl; merges = refl; gears = refl; spring = refl; catalogue = refl }; counts = record { charge = refl; peak = refl; quanta = refl }; book = ap (helped_in seat) stands.book ∙ sym counts; stopped = ap (λ (x : BookState). x.stopped) counts; noted = inl refl })
-    (λ tree table file of. of) (λ none. tt)
+    (λ tree file of. of) (λ none. tt)

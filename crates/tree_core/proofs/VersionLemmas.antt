@@ -7,7 +7,6 @@ use Rattle.std.proofs.Common.{◌∙◌, inl, inr, refl, ap, sym, subst}
 use Rattle.blsm_model.specs.Sizes.{Sizes}
 use Rattle.catalog_swap.specs.declared.catalog.Catalog.{Catalog}
 use Rattle.disk_trait.specs.Disk.{DiskState}
-use Rattle.record_delta.specs.Entries.{Entries}
 use Rattle.gear_sched.specs.Gears.{GearState}
 use Rattle.pacing.specs.Steps.{Move}
 use Rattle.tree_machine.specs.Machine.{Machine, Catalogue}
@@ -20,8 +19,9 @@ use Rattle.core_lists.specs.Shown.{CommitsAs, HasCommitted, HasVersion}
 use Rattle.tree_core.specs.Quanta.{MakesTree}
 
 -- the tree's version is the machine's
-pub version_of : (held : Held) (tree : Tree) (m : Machine) (a : Entries) (file : List ℕ) → AreOf held.runs tree a file → HoldsMachine held tree m → tree.catalogue.version ≡ m.catalogue.version
-version_of held tree m a file of holds = ap (λ (k : Catalog). k.version) of.catalogue ∙ sym (ap (λ (k : Catalogue). k.version) holds.catalogue)
+pub version_of : (held : Held) (tree : Tree) (m : Machine) (file : List ℕ) → AreOf held.runs tree file → HoldsMachine held tree m
+    → tree.catalogue.version ≡ m.catalogue.version
+version_of held tree m file of holds = ap (λ (k : Catalog). k.version) of.catalogue ∙ sym (ap (λ (k : Catalogue). k.version) holds.catalogue)
 
 -- A disk that holds the tree of a version, or the one after its commit, commits as the machine of that version.
 has_either : (sizes : Sizes) (version : ℕ) (tree next : Tree) (file : List ℕ) → tree.catalogue.version ≡ version → (next.catalogue.version ≡ tree.catalogue.version) ⊎ (next.catalogue.version ≡ tree.catalogue.version + 1)

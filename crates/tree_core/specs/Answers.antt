@@ -4,7 +4,7 @@ use Rattle.blsm_model.specs.declared.key.Key.{Key}
 use Rattle.blsm_model.specs.declared.row.Value.{Value}
 use Rattle.record_delta.specs.declared.record.Rec.{Rec}
 use Rattle.record_delta.specs.Records.{settled}
-use Rattle.record_delta.specs.Entries.{over_any, record_of_key, replayed}
+use Rattle.record_delta.specs.Entries.{over_any, record_of_key}
 use Rattle.page_file.specs.Component.{entries_of}
 use Rattle.tree_file.specs.Tree.{Tree}
 use Rattle.tree_runs.specs.Lookups.{IsFloorOf, first_record}
@@ -73,11 +73,11 @@ newest_in key held = over_any (record_of_key key held.log.b.entries) (record_of_
 
 -- In this file what was dropped of table A, which is the tree's, is on the pass's finished pages.
 abbrev pub HasDropped : Held → Tree → List ℕ → Type 0
-HasDropped held tree file = IsFloorOf held.log.a.floor held.runs (replayed tree.lane_a) tree.c1 file
+HasDropped held tree file = IsFloorOf held.log.a.floor held.runs tree file
 
 -- and the memory table's record over what was dropped of table A and the components of this tree have of the key
 abbrev pub found_in : Key → Held → Tree → Option Value
 found_in key held tree =
     settled (over_any (newest_in key held)
-    (over_any (first_record held.log.a.floor key (replayed tree.lane_a) (entries_of tree.c1))
+    (over_any (first_record held.log.a.floor key tree)
     (over_any (record_of_key key (entries_of tree.c1x)) (record_of_key key (entries_of tree.c2)))))

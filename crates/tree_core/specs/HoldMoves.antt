@@ -1,6 +1,5 @@
 -- What a call for a seat's hold does to what is in memory, before it notes its entry.
 use Rattle.std.specs.Prelude.{⊤, ◌≡◌, ◌≢◌, ℕ, Bool, List, Option}
-use Rattle.record_delta.specs.Entries.{Entries}
 use Rattle.page_space.specs.Space.{SpaceState, KeepsOtherPins}
 use Rattle.scan_view.specs.Hold.{HoldState}
 use Rattle.scan_view.specs.Holds.{hold_of}
@@ -21,7 +20,7 @@ pub record MovesHold (seat : ℕ) (old new : Held) (before after : List (Option 
   pub roles : new.runs.space.roles ≡ old.runs.space.roles
   pub holds : (other : ℕ) → other ≢ seat → hold_of other after ≡ hold_of other before
   pub running : (honest : Bool) (file : List ℕ) → AreRunning honest file old.runs → AreRunning honest file new.runs
-  pub lists : (tree : Tree) (table : Entries) (file : List ℕ) → AreOf old.runs tree table file → AreOf new.runs tree table file
+  pub lists : (tree : Tree) (file : List ℕ) → AreOf old.runs tree file → AreOf new.runs tree file
 
 -- a core without its disk
 abbrev pub undisked : Held → List (Option HoldState) → CoreState ⊤

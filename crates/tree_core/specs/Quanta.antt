@@ -33,7 +33,7 @@ MayTake Nothing held = ⊥
 pub record LeavesTaken (plan : Plan) (result : Result ℕ Broken) (old new : Held) (tree : Tree) (before after : DiskState) : Type 0 where
   pub stands : StandsOn old.runs.sizes tree after
   pub each : LeavesOnly before after (HoldsTree old.runs.sizes tree)
-  pub taken : result ≢ Err Fault → (n : ℕ) × (result ≡ Ok n) × StandOver new.runs tree new.log.a.entries after × TookByPlan plan n old new tree
+  pub taken : result ≢ Err Fault → (n : ℕ) × (result ≡ Ok n) × StandOver new.runs tree after × TookByPlan plan n old new tree
 
 -- ---- a move of a turn
 
@@ -45,7 +45,7 @@ as_moved (Err failed) = Err Fault
 -- the tree that it makes, also where it fails and an image may hold it
 abbrev pub MakesTree : Move → Held → Tree → Tree → Type 0
 MakesTree pacing.SwapDeep held tree next = IsDeepSwapped tree next
-MakesTree pacing.SwapPass held tree next = IsPassSwapped (is_run_full held) held.log.a.entries tree next
+MakesTree pacing.SwapPass held tree next = IsPassSwapped (is_run_full held) tree next
 MakesTree pacing.Rotate held tree next = IsRotated tree next
 MakesTree _ held tree next = next ≡ tree
 
@@ -54,7 +54,7 @@ pub record LeavesMoved (mv : Move) (result : Result ℕ Broken) (old new : Held)
   pub makes : MakesTree mv old tree next
   pub each : LeavesOnly before after (HoldsEither old.runs.sizes tree next)
   pub either : StandsOnEither old.runs.sizes tree next after
-  pub moved : result ≢ Err Fault → (n : ℕ) × (result ≡ Ok n) × StandOver new.runs next new.log.a.entries after × TurnsTree mv n old new tree next
+  pub moved : result ≢ Err Fault → (n : ℕ) × (result ≡ Ok n) × StandOver new.runs next after × TurnsTree mv n old new tree next
 
 -- ---- the end of a turn
 

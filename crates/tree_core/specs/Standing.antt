@@ -20,7 +20,7 @@ use Rattle.core_lists.specs.Shown.{CommitsAs, HasFronts, ShowsWhole}
 pub record RunsOver (held : Held) (m : Machine) (d : DiskState) : Type 0 where
   pub fronts : Fronts
   pub tree : Tree
-  pub over : StandOver held.runs tree held.log.a.entries d
+  pub over : StandOver held.runs tree d
   pub holds : HoldsMachine held tree m
   pub within : AreFronts (pace_of m) fronts
   pub lanes : HasFronts tree m.lists fronts

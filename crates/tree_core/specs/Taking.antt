@@ -54,7 +54,7 @@ pub record Runs (held : Held) (d : DiskState) : Type 0 where
 
 -- The tree that the pass's swap makes, also where it fails and an image may hold it.
 pub record PassMakesTree (old : Held) (tree next : Tree) : Type 0 where
-  pub done : IsPassDone old → IsPassSwapped (is_run_full old) old.log.a.entries tree next
+  pub done : IsPassDone old → IsPassSwapped (is_run_full old) tree next
   pub rests : (IsPassDone old → ⊥) → next ≡ tree
 
 -- What stands when the write is to be appended, after the swaps that were due and the begin.
@@ -82,7 +82,7 @@ pub record TellsOf (held : Held) (m : Machine) : Type 0 where
 pub record TakenOver (opening : List (Key × Value)) (seat : ℕ) (op : Op) (m : Machine) (new : Held) (after : DiskState) : Type 0 where
   pub tree : Tree
   pub fronts : Fronts
-  pub over : StandOver new.runs tree new.log.a.entries after
+  pub over : StandOver new.runs tree after
   pub holds : HoldsMachine new tree (with_peak (taken_once seat (writes_of op) (ready_for (total_weight (writes_of op)) m)))
   pub goes : GoesOn opening (admit m seat op Well).state fronts tree
 

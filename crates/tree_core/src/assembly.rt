@@ -60,7 +60,7 @@ impl<D: Disk + Drop> Core<D> {
         ensures opened { IsOpened parts.annals (D.state parts.disk).faults result.held }
 
         // On an honest disk that stands on a tree with empty lanes it stands at the machine's first state, whose history begins with the tree's map.
-        ensures stands { (tree : Tree) → IsTrue (D.state parts.disk).is_honest → StandOver parts.runs tree parts.log.a.entries (D.state parts.disk)
+        ensures stands { (tree : Tree) → IsTrue (D.state parts.disk).is_honest → StandOver parts.runs tree (D.state parts.disk)
             → tree.lane_a ≡ [] → tree.lane_b ≡ []
             → StandsWhole D.state (map_of_tree tree) result
             (opened parts.runs.sizes (entries_of tree.c1) (entries_of tree.c2) (catalogue_of parts.runs.catalogue) (D.state parts.disk).faults parts.annals.room) }

@@ -8,7 +8,6 @@ ghost use Rattle.blsm_model.specs.Format.{callers, most_rows};
 ghost use Rattle.blsm_model.specs.Geometry.{capacity, file_length};
 ghost use Rattle.blsm_model.specs.Stored.{as_reply};
 ghost use Rattle.disk_trait.specs.Reads.{OnlyReads};
-ghost use Rattle.record_delta.specs.Entries.{Entries};
 ghost use Rattle.page_file.specs.Component.{entries_of};
 ghost use Rattle.scan_view.specs.Holds.{hold_of, pages_behind};
 ghost use Rattle.scan_view.specs.Pins.{HasHeld};
@@ -53,7 +52,7 @@ fn take_hold(
     ensures moves { MovesHold seat held.old held.new holds.old holds.new }
     ensures cause { HoldsBecause result seat low.now high.now (undisked held.old holds.old) (undisked held.new holds.new) }
     ensures few { AreFew held.old.runs.sizes holds.old → AreFew held.new.runs.sizes holds.new }
-    ensures rows { (tree : Tree) (table : Entries) (file : List ℕ) → result ≡ holding.Held → AreOf held.old.runs tree table file
+    ensures rows { (tree : Tree) (file : List ℕ) → result ≡ holding.Held → AreOf held.old.runs tree file
         → HasHeld held.old.runs.sizes held.new.runs.space.pins seat (hold_of seat holds.new)
         (Some (rows_in (record { b = held.old.log.b.entries; a = held.old.log.a.entries; c1 = entries_of tree.c1; c1x = entries_of tree.c1x; c2 = entries_of tree.c2 }) low.now high.now)) file }
 {

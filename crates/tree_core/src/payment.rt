@@ -6,7 +6,7 @@ ghost use Rattle.disk_trait.specs.Disk.{TellsFaultsBy};
 ghost use Rattle.disk_trait.specs.Effects.{Affects};
 ghost use Rattle.scan_view.specs.Pins.{beside_pins};
 ghost use Rattle.tree_file.specs.Tree.{Tree};
-ghost use Rattle.tree_runs.specs.Holding.{StandOver};
+ghost use Rattle.tree_runs.specs.Holding.{HasAllAhead, StandOver};
 ghost use Rattle.core_moves.specs.Needs.{IsOn, IsReady};
 ghost use Rattle.core_moves.specs.Moves.{KeepsAllButMerges};
 ghost use Rattle.core_pace.specs.Events.{TakesByPlan};
@@ -26,8 +26,9 @@ fn take<D: Disk>(held: &mut Held, disk: &mut D, seat: u32, plan: Plan) -> Result
     requires seat { seat < callers }
     requires runs { MayTake plan held.old }
     requires ready { IsReady held.old (D.state disk.old) }
-    ensures lists { (tree : Tree) → IsTrue (D.state disk.old).is_honest → StandOver held.old.runs tree held.old.log.a.entries (D.state disk.old)
-        → LeavesTaken plan result held.old held.new tree (D.state disk.old) (D.state disk.new) }
+    ensures lists { (tree : Tree) → IsTrue (D.state disk.old).is_honest → StandOver held.old.runs tree (D.state disk.old)
+        → HasAllAhead held.old.runs.pass held.old.log.a.entries tree → LeavesTaken plan result held.old held.new tree (D.state disk.old)
+            (D.state disk.new) }
     ensures takes { IfOk result (λ n. TakesByPlan plan seat n held.old held.new) }
     ensures damaged { (n : ℕ) → result ≡ Err (Broken.Damaged n) → IsTrue (D.state disk.old).tells_bytes → IsDamageAhead plan held.new.runs n (D.state disk.new).bytes }
     ensures on { OnOk result (IsOn held.new (D.state disk.new)) }

@@ -13,7 +13,7 @@ ghost use Rattle.tree_machine.specs.Machine.{seats};
 ghost use Rattle.tree_machine.specs.Outcomes.{calls_disk};
 ghost use Rattle.paced_tree.specs.Booking.{quanta_of_move};
 ghost use Rattle.tree_file.specs.Tree.{Tree};
-ghost use Rattle.tree_runs.specs.Holding.{StandOver};
+ghost use Rattle.tree_runs.specs.Holding.{HasAllAhead, StandOver};
 ghost use Rattle.core_moves.specs.Needs.{IsOn, IsReady};
 ghost use Rattle.core_moves.specs.Moves.{KeepsAllButMerges};
 ghost use Rattle.core_pace.specs.Turns.{MayMove, TurnsBy, may_begin_in, move_at_rest, move_in, end_of_move};
@@ -108,7 +108,8 @@ fn make<D: Disk>(held: &mut Held, disk: &mut D, seat: u32, choice: Choice) -> Re
     requires seat { seat < seats }
     requires may { MayMove (move_of choice) held.old }
     requires ready { IsReady held.old (D.state disk.old) }
-    ensures lists { (tree : Tree) → IsTrue (D.state disk.old).is_honest → StandOver held.old.runs tree held.old.log.a.entries (D.state disk.old)
+    ensures lists { (tree : Tree) → IsTrue (D.state disk.old).is_honest → StandOver held.old.runs tree (D.state disk.old)
+        → HasAllAhead held.old.runs.pass held.old.log.a.entries tree
         → (next : Tree) × LeavesMoved (move_of choice) result held.old held.new tree next (D.state disk.old) (D.state disk.new) }
     ensures moves { IfOk result (λ n. TurnsBy (move_of choice) seat n held.old held.new) }
     ensures damaged { (n : ℕ) → result ≡ Err (Broken.Damaged n) → IsTrue (D.state disk.old).tells_bytes → IsDamageAhead (merge_of (move_of choice)) held.new.runs n (D.state disk.new).bytes }

@@ -4,7 +4,7 @@ use Rattle.std.proofs.lemmas.Grind.{common_steps}
 use Rattle.std.proofs.lemmas.Bool.Decides.{nat_tests}
 use Rattle.std.proofs.Common.{◌∙◌, sym, subst, ap, refl, arith}
 use Rattle.disk_trait.specs.Region.{outside}
-use Rattle.record_delta.specs.Entries.{Entries, entries_weight, up_to, with_record}
+use Rattle.record_delta.specs.Entries.{AreSorted, Entries, entries_weight, replayed, up_to, with_record}
 use Rattle.blsm_model.specs.Sizes.{Sizes}
 use Rattle.page_space.specs.Space.{SpaceState}
 use Rattle.page_file.specs.Component.{RunPage, entries_of}
@@ -16,6 +16,8 @@ use Rattle.deep_merge.specs.Merge.{DeepState}
 use Rattle.tree_machine.proofs.QuantumLemmas.{weight_parts}
 use Rattle.tree_file.specs.Tree.{Tree, HoldsTree}
 use Rattle.tree_file.specs.Places.{appended_a, appended_b}
+use Rattle.tree_file.proofs.ListLemmas.{lists_appended_a, sorted_replayed}
+use Rattle.tree_machine.specs.Lists.{Lists}
 use Rattle.tree_runs.specs.Runs.{GuideState, RunsState, guide_at, PassHasTag, DeepHasTag}
 use Rattle.tree_runs.specs.Holding.{AreFinished, AreOf, AreTagged, IsGuidedBy, IsPassOver, IsDeepOver, cursor_of_pass}
 use Rattle.tree_runs.specs.Laws.{used_region, IsBesideRuns, HeadIsBeside, RunsStay, ListsStay, EntriesJoin, EntriesWait, LeftGrows}
@@ -56,24 +58,31 @@ pub deep_has_it : (merge : Option DeepState) → DeepHasTag (tag_of_deep merge) 
 deep_has_it merge = grind (arith, common_steps, nat_tests)
 
 -- a pass over a table that grew ahead of its cursor
-grown_over : (sizes : Sizes) (file : List ℕ) (space : SpaceState) (guide : GuideState) (snow : Option SnowState) (a grown : Entries) (c1 : List RunPage) → up_to (cursor_of_pass snow) grown ≡ up_to (cursor_of_pass snow) a
+grown_over : (sizes : Sizes) (file : List ℕ) (space : SpaceState) (guide : GuideState) (snow : Option SnowState) (a grown : Entries)
+    (c1 : List RunPage) → AreSorted grown → up_to (cursor_of_pass snow) grown ≡ up_to (cursor_of_pass snow) a
     → IsPassOver sizes file space guide snow a c1 → IsPassOver sizes file space guide snow grown c1
-grown_over sizes file space guide None a grown c1 same over = tt
-grown_over sizes file space guide (Some snow) a grown c1 same over = grown_merge (merge_of snow) a grown (entries_of c1) same over
+grown_over sizes file space guide None a grown c1 sorted same over = tt
+grown_over sizes file space guide (Some snow) a grown c1 sorted same over =
+    grown_merge (merge_of snow) a a (entries_of c1) grown sorted same over
 
--- over the tree's lists and this table, where the file holds a tree of the same components
-over_tree : (runs : RunsState) (tree next : Tree) (a grown : Entries) (old new : List ℕ) → IsBesideRuns runs old new
-    → up_to (cursor_of_pass runs.pass) grown ≡ up_to (cursor_of_pass runs.pass) a → AreOf runs tree a old → HoldsTree runs.sizes next new
-    → next.catalogue ≡ tree.catalogue → next.c1 ≡ tree.c1 → next.c1x ≡ tree.c1x → next.c2 ≡ tree.c2 → next.output ≡ tree.output → AreOf runs next grown new
-over_tree runs tree next a grown old new same behind is holds catalogue c1 c1x c2 output = record {
+-- over the tree's lists, where the file holds a tree of the same components whose table A grew ahead
+over_tree : (runs : RunsState) (tree next : Tree) (old new : List ℕ) → IsBesideRuns runs old new
+    → up_to (cursor_of_pass runs.pass) (replayed next.lane_a) ≡ up_to (cursor_of_pass runs.pass) (replayed tree.lane_a) → AreOf runs tree old
+    → HoldsTree runs.sizes next new
+    → next.catalogue ≡ tree.catalogue → next.c1 ≡ tree.c1 → next.c1x ≡ tree.c1x → next.c2 ≡ tree.c2 → next.output ≡ tree.output → AreOf runs next new
+over_tree runs tree next old new same behind is holds catalogue c1 c1x c2 output = record {
   holds = holds;
   catalogue = catalogue ∙ is.catalogue;
   c1 = subst (λ (ps : List RunPage). AreTagged runs.space runs.tags.c1 ps) (sym c1) is.c1;
   c1x = subst (λ (ps : List RunPage). AreTagged runs.space runs.tags.c1x ps) (sym c1x) is.c1x;
   c2 = subst (λ (ps : List RunPage). AreTagged runs.space runs.tags.c2 ps) (sym c2) is.c2;
-  pass = subst (λ (ps : List RunPage). IsPassOver runs.sizes new runs.space (guide_at runs.guides runs.tags.pass) runs.pass grown ps) (sym c1)
-      (grown_over runs.sizes new runs.space (guide_at runs.guides runs.tags.pass) runs.pass a grown tree.c1 behind
-      (pass_over_still (guide_at runs.guides runs.tags.pass) runs.pass a tree.c1 (keeps_used runs true old new (tag_of_pass runs.pass) (λ told. same)) (pages_used runs runs.tags.c1) (pass_has_it runs.pass) is.c1 is.pass));
+  pass = subst (λ (ps : List RunPage). IsPassOver runs.sizes new runs.space (guide_at runs.guides runs.tags.pass) runs.pass
+      (replayed next.lane_a) ps) (sym c1)
+      (grown_over runs.sizes new runs.space (guide_at runs.guides runs.tags.pass) runs.pass (replayed tree.lane_a) (replayed next.lane_a) tree.c1
+      (sorted_replayed next.lane_a) behind
+      (pass_over_still (guide_at runs.guides runs.tags.pass) runs.pass (replayed tree.lane_a) tree.c1
+          (keeps_used runs true old new (tag_of_pass runs.pass) (λ told. same)) (pages_used runs runs.tags.c1)
+          (pass_has_it runs.pass) is.c1 is.pass));
   deep = subst (λ (ps : List RunPage). IsDeepOver runs.sizes new runs.space (guide_at runs.guides runs.tags.deep) runs.deep ps next.c2) (sym c1x)
       (subst (λ (ps : List RunPage). IsDeepOver runs.sizes new runs.space (guide_at runs.guides runs.tags.deep) runs.deep tree.c1x ps) (sym c2)
       (deep_over_still (guide_at runs.guides runs.tags.deep) runs.deep tree.c1x tree.c2 (keeps_used runs true old new (tag_of_deep runs.deep) (λ told. same)) (pages_used runs runs.tags.c1x) (pages_used runs runs.tags.c2) (deep_has_it runs.deep) is.c1x is.c2 is.deep));
@@ -86,16 +95,18 @@ over_tree runs tree next a grown old new same behind is holds catalogue c1 c1x c
 }
 
 pub lists_stay : ListsStay
-lists_stay runs tree a old new same is holds =
-    over_tree runs tree tree a a old new same refl is holds refl refl refl refl refl
+lists_stay runs tree old new same is holds =
+    over_tree runs tree tree old new same refl is holds refl refl refl refl refl
 
 pub entries_join : EntriesJoin
-entries_join runs tree a old new key rec same is_ahead is holds =
-    over_tree runs tree (appended_a (key, rec) tree) a (with_record key rec a) old new same (grown_ahead (cursor_of_pass runs.pass) key rec a is_ahead) is holds refl refl refl refl refl
+entries_join runs tree old new key rec same is_ahead is holds =
+    over_tree runs tree (appended_a (key, rec) tree) old new same
+    (ap (λ (lists : Lists). up_to (cursor_of_pass runs.pass) lists.a) (lists_appended_a (key, rec) tree)
+    ∙ grown_ahead (cursor_of_pass runs.pass) key rec (replayed tree.lane_a) is_ahead) is holds refl refl refl refl refl
 
 pub entries_wait : EntriesWait
-entries_wait runs tree a old new key rec same is holds =
-    over_tree runs tree (appended_b (key, rec) tree) a a old new same refl is holds refl refl refl refl refl
+entries_wait runs tree old new key rec same is holds =
+    over_tree runs tree (appended_b (key, rec) tree) old new same refl is holds refl refl refl refl refl
 
 -- ---- numbers
 

@@ -12,7 +12,7 @@ use Rattle.blsm_model.specs.declared.key.Key.{Key}
 use Rattle.blsm_model.specs.Sizes.{Sizes}
 use Rattle.blsm_model.specs.Geometry.{file_length}
 use Rattle.record_delta.specs.declared.record.Rec.{Rec}
-use Rattle.record_delta.specs.Entries.{Entries, over_any, record_of_key}
+use Rattle.record_delta.specs.Entries.{over_any, record_of_key}
 use Rattle.page_file.specs.declared.file.Broken.{Broken}
 use Rattle.page_file.specs.declared.file.Broken.TheVariants.{Damaged, Fault}
 use Rattle.page_file.specs.File.{Reads}
@@ -131,28 +131,28 @@ LooksUp runs floor key calls newer result old new =
     (HasRecord runs.sizes runs.catalogue.c2 (guide_at runs.guides runs.tags.c2) key))
     newer result old new
 
--- in this file the tree is read, and the floor is that of a table A with this list
-pub record IsTreeAt (runs : RunsState) (floor : Option Key) (a : Entries) (tree : Tree) (file : List ℕ) : Type 0 where
+-- in this file the tree is read, and the floor is that of its table A
+pub record IsTreeAt (runs : RunsState) (floor : Option Key) (tree : Tree) (file : List ℕ) : Type 0 where
   pub holds : HoldsTree runs.sizes tree file
   pub now : tree.catalogue ≡ runs.catalogue
   pub guided : AreGuided runs.guides runs.tags tree
-  pub released : IsFloorOf floor runs a tree.c1 file
+  pub released : IsFloorOf floor runs tree file
 
 pub record FindsAll (runs : RunsState) (floor : Option Key) (key : Key) (newer : Option Rec) (result : Result (Option Rec) Broken)
     (old new : DiskState) : Type 0 where
   pub looks : (c1 c1x c2 : ℕ) → CountsYes (filter_of runs (first_tag floor key runs)) key c1 → CountsYes (filter_of runs runs.tags.c1x) key c1x
       → CountsYes (filter_of runs runs.tags.c2) key c2
       → LooksUp runs floor key (c1 + c1x + c2) newer result old new
-  pub ends : (tree : Tree) (a : Entries) (c1 c1x c2 : ℕ) → IsTrue old.is_honest → IsTreeAt runs floor a tree old.bytes
-      → AreAsked newer floor key runs a tree c1 c1x c2
+  pub ends : (tree : Tree) (c1 c1x c2 : ℕ) → IsTrue old.is_honest → IsTreeAt runs floor tree old.bytes
+      → AreAsked newer floor key runs tree c1 c1x c2
       → Reads (file_length runs.sizes) (c1 + c1x + c2) result old new
   pub tells : Tells runs.sizes key (from_newest floor key runs) newer result old
 
 -- the records that the tree has
-module _ (runs : RunsState) (floor : Option Key) (key : Key) (a : Entries) (tree : Tree) (file : List ℕ) (at : IsTreeAt runs floor a tree file) where
+module _ (runs : RunsState) (floor : Option Key) (key : Key) (tree : Tree) (file : List ℕ) (at : IsTreeAt runs floor tree file) where
   first_at : HasRecord runs.sizes (first_run floor key runs) (guide_at runs.guides (first_tag floor key runs)) key file
-      (first_record floor key a (entries_of tree.c1))
-  first_at = first_has runs floor key a tree file at.holds at.now at.guided at.released
+      (first_record floor key tree)
+  first_at = first_has runs floor key tree file at.holds at.now at.guided at.released
 
   second_at : HasRecord runs.sizes runs.catalogue.c1x (guide_at runs.guides runs.tags.c1x) key file (record_of_key key (entries_of tree.c1x))
   second_at = component_has runs.sizes runs.catalogue.c1x (guide_at runs.guides runs.tags.c1x) key tree.c1x file
@@ -166,10 +166,10 @@ module _ (runs : RunsState) (floor : Option Key) (key : Key) (a : Entries) (tree
 pub finds_failed : {newer : Option Rec} {broken : Broken} {result : Result (Option Rec) Broken} {old new : DiskState} (runs : RunsState)
     (floor : Option Key) (key : Key) → IsTimed old
     → FindsBelow runs (first_run floor key runs) (first_tag floor key runs) key newer (Err broken) old new → result ≡ Err broken
-    → FindsAll runs floor key newer result old new
+        → FindsAll runs floor key newer result old new
 finds_failed {newer} {broken} {result} {old} {new} runs floor key timed one is = record {
   looks = λ c1 c1x c2 asked others last. looks c1 c1x c2 (inr asked);
-  ends = λ tree a c1 c1x c2 honest at asked. (looks c1 c1x c2 asked.first).reads;
+  ends = λ tree c1 c1x c2 honest at asked. (looks c1 c1x c2 asked.first).reads;
   tells = tells_failed runs.sizes key _ _ one.told is;
 }
   where
@@ -180,12 +180,12 @@ finds_failed {newer} {broken} {result} {old} {new} runs floor key timed one is =
 module _ (runs : RunsState) (floor : Option Key) (key : Key) {newer found : Option Rec} {old mid : DiskState} (timed : IsTimed old)
     (one : FindsBelow runs (first_run floor key runs) (first_tag floor key runs) key newer (Ok found) old mid) (timed_too : IsTimed mid) where
   -- what was found first in a tree that is read hides C1' or doesn't
-  found_first : (tree : Tree) (a : Entries) (n : ℕ) → IsTrue old.is_honest → IsTreeAt runs floor a tree old.bytes
-      → CountsAsked (over_any newer (first_record floor key a (entries_of tree.c1))) (filter_of runs runs.tags.c1x) key n
-      → CountsAsked found (filter_of runs runs.tags.c1x) key n
-  found_first tree a n honest at asked =
+  found_first : (tree : Tree) (n : ℕ) → IsTrue old.is_honest → IsTreeAt runs floor tree old.bytes
+      → CountsAsked (over_any newer (first_record floor key tree)) (filter_of runs runs.tags.c1x) key n
+          → CountsAsked found (filter_of runs runs.tags.c1x) key n
+  found_first tree n honest at asked =
       subst (λ (r : Option Rec). CountsAsked r (filter_of runs runs.tags.c1x) key n)
-      (sym (found_in one honest (first_record floor key a (entries_of tree.c1)) (first_at runs floor key a tree old.bytes at))) asked
+      (sym (found_in one honest (first_record floor key tree) (first_at runs floor key tree old.bytes at))) asked
 
   -- the first was, and C1' wasn't
   pub finds_failed_second : {broken : Broken} {result : Result (Option Rec) Broken} {new : DiskState}
@@ -193,7 +193,7 @@ module _ (runs : RunsState) (floor : Option Key) (key : Key) {newer found : Opti
       → FindsAll runs floor key newer result old new
   finds_failed_second {broken} {result} {new} two is = record {
     looks = λ c1 c1x c2 asked others last. looks c1 c1x c2 (inr asked) (inr others);
-    ends = λ tree a c1 c1x c2 honest at asked. (looks c1 c1x c2 asked.first (found_first tree a c1x honest at asked.second)).reads;
+    ends = λ tree c1 c1x c2 honest at asked. (looks c1 c1x c2 asked.first (found_first tree c1x honest at asked.second)).reads;
     tells = tells_behind runs.sizes key _ _ one.told (one.reads 1 (inl (omega arith))).effect (tells_failed runs.sizes key _ _ two.told is);
   }
     where
@@ -206,17 +206,17 @@ module _ (runs : RunsState) (floor : Option Key) (key : Key) {newer found : Opti
       → FindsBelow runs runs.catalogue.c2 runs.tags.c2 key found' result then new → FindsAll runs floor key newer result old new
   finds_all {found'} {result} {then} {new} two timed_last three = record {
     looks = λ c1 c1x c2 asked others last. looks c1 c1x c2 (inr asked) (inr others) (inr last);
-    ends = λ tree a c1 c1x c2 honest at asked.
+    ends = λ tree c1 c1x c2 honest at asked.
         let read = (one.reads 1 (inl (omega arith))).effect in
         let there = record_of_key key (entries_of tree.c1x) in
         let second = subst (λ (file : List ℕ). HasRecord runs.sizes runs.catalogue.c1x (guide_at runs.guides runs.tags.c1x) key file there)
-        (sym (only_reads_same read honest))
-        (second_at runs floor key a tree old.bytes at) in
+            (sym (only_reads_same read honest))
+        (second_at runs floor key tree old.bytes at) in
         let below = found_in two (subst IsTrue (sym read.effect.goes_on.is_honest) honest) there second
-        ∙ ap (λ (r : Option Rec). over_any r there) (found_in one honest (first_record floor key a (entries_of tree.c1))
-        (first_at runs floor key a tree old.bytes at)) in
-        (looks c1 c1x c2 asked.first (found_first tree a c1x honest at asked.second)
-        (subst (λ (r : Option Rec). CountsAsked r (filter_of runs runs.tags.c2) key c2) (sym below) asked.third)).reads;
+        ∙ ap (λ (r : Option Rec). over_any r there) (found_in one honest (first_record floor key tree)
+            (first_at runs floor key tree old.bytes at)) in
+        (looks c1 c1x c2 asked.first (found_first tree c1x honest at asked.second)
+            (subst (λ (r : Option Rec). CountsAsked r (filter_of runs runs.tags.c2) key c2) (sym below) asked.third)).reads;
     tells = tells_behind runs.sizes key _ _ one.told (one.reads 1 (inl (omega arith))).effect
         (tells_behind runs.sizes key _ _ two.told (two.reads 1 (inl (omega arith))).effect (tells_last runs.sizes key _ three.told));
   }
@@ -234,21 +234,21 @@ module _ {runs : RunsState} {floor : Option Key} {key : Key} {newer : Option Rec
   pub once_each : LooksUp runs floor key 3 newer result old new
   once_each = all.looks 1 1 1 (inl (omega arith)) (inl (omega arith)) (inl (omega arith))
 
-  pub looked_up : (tree : Tree) (a : Entries) → IsTrue old.is_honest → IsTreeAt runs floor a tree old.bytes → result ≢ Err Fault
-      → result ≡ Ok (over_any newer (over_any (first_record floor key a (entries_of tree.c1))
-      (over_any (record_of_key key (entries_of tree.c1x)) (record_of_key key (entries_of tree.c2)))))
-  looked_up tree a honest at other =
+  pub looked_up : (tree : Tree) → IsTrue old.is_honest → IsTreeAt runs floor tree old.bytes → result ≢ Err Fault
+      → result ≡ Ok (over_any newer (over_any (first_record floor key tree)
+          (over_any (record_of_key key (entries_of tree.c1x)) (record_of_key key (entries_of tree.c2)))))
+  looked_up tree honest at other =
       once_each.list (over_any (over_any one two) three) honest (
         over_any one two,
         three,
-        (one, two, first_at runs floor key a tree old.bytes at, second_at runs floor key a tree old.bytes at, refl),
-        third_at runs floor key a tree old.bytes at,
+        (one, two, first_at runs floor key tree old.bytes at, second_at runs floor key tree old.bytes at, refl),
+        third_at runs floor key tree old.bytes at,
         refl,
       ) other
       ∙ ap (λ (o : Option Rec). Ok (over_any newer o)) (over_any_assoc one two three)
     where
       one : Option Rec
-      one = first_record floor key a (entries_of tree.c1)
+      one = first_record floor key tree
 
       two : Option Rec
       two = record_of_key key (entries_of tree.c1x)
@@ -325,14 +325,14 @@ below_by result found list told damaged reads none = record {
 module _ {runs : RunsState} {floor : Option Key} {key : Key} {newer : Option Rec} {old new : DiskState} (result : Result (Unit {0}) Broken)
     (found : Option Rec)
     (all : FindsAll runs floor key newer (found_by result found) old new) where
-  pub lists_by : (tree : Tree) (a : Entries) → IsTrue old.is_honest → HoldsTree runs.sizes tree old.bytes → tree.catalogue ≡ runs.catalogue
+  pub lists_by : (tree : Tree) → IsTrue old.is_honest → HoldsTree runs.sizes tree old.bytes → tree.catalogue ≡ runs.catalogue
       → AreGuided runs.guides runs.tags tree
-      → IsFloorOf floor runs a tree.c1 old.bytes → result ≢ Err Fault
-      → found_by result found ≡ Ok (over_any newer (over_any (first_record floor key a (entries_of tree.c1))
-      (over_any (record_of_key key (entries_of tree.c1x)) (record_of_key key (entries_of tree.c2)))))
-  lists_by tree a honest holds is guided released other =
-      looked_up all tree a honest (record { holds = holds; now = is; guided = guided; released = released })
-      (λ wrong. other (broken_by result found Fault wrong))
+      → IsFloorOf floor runs tree old.bytes → result ≢ Err Fault
+      → found_by result found ≡ Ok (over_any newer (over_any (first_record floor key tree)
+          (over_any (record_of_key key (entries_of tree.c1x)) (record_of_key key (entries_of tree.c2)))))
+  lists_by tree honest holds is guided released other =
+      looked_up all tree honest (record { holds = holds; now = is; guided = guided; released = released })
+          (λ wrong. other (broken_by result found Fault wrong))
 
   pub damaged_by : (n : ℕ) → result ≡ Err (Damaged n) → IsTrue old.is_honest
       → IsDamageBelow runs.sizes key old.bytes (from_newest floor key runs) newer n
@@ -343,12 +343,12 @@ module _ {runs : RunsState} {floor : Option Key} {key : Key} {newer : Option Rec
       → Reads (file_length runs.sizes) (c1 + c1x + c2) result old new
   asks_by c1 c1x c2 one two three = reads_of result found (all.looks c1 c1x c2 one two three).reads
 
-  pub ends_by : (tree : Tree) (a : Entries) (c1 c1x c2 : ℕ) → IsTrue old.is_honest → HoldsTree runs.sizes tree old.bytes
+  pub ends_by : (tree : Tree) (c1 c1x c2 : ℕ) → IsTrue old.is_honest → HoldsTree runs.sizes tree old.bytes
       → tree.catalogue ≡ runs.catalogue → AreGuided runs.guides runs.tags tree
-      → IsFloorOf floor runs a tree.c1 old.bytes → AreAsked newer floor key runs a tree c1 c1x c2
-      → Reads (file_length runs.sizes) (c1 + c1x + c2) result old new
-  ends_by tree a c1 c1x c2 honest holds now guided released asked =
-      reads_of result found (all.ends tree a c1 c1x c2 honest (record { holds = holds; now = now; guided = guided; released = released }) asked)
+      → IsFloorOf floor runs tree old.bytes → AreAsked newer floor key runs tree c1 c1x c2
+          → Reads (file_length runs.sizes) (c1 + c1x + c2) result old new
+  ends_by tree c1 c1x c2 honest holds now guided released asked =
+      reads_of result found (all.ends tree c1 c1x c2 honest (record { holds = holds; now = now; guided = guided; released = released }) asked)
 
   pub thrice_by : Reads (file_length runs.sizes) 3 result old new
   thrice_by = reads_of result found (once_each all).reads

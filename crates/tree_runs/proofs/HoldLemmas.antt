@@ -11,7 +11,7 @@ use Rattle.blsm_model.specs.Geometry.{capacity}
 use Rattle.blsm_model.specs.Sizes.{Sizes}
 use Rattle.blsm_model.specs.declared.key.Key.{Key}
 use Rattle.blsm_model.specs.declared.row.Row.{Row}
-use Rattle.record_delta.specs.Entries.{Entries}
+use Rattle.record_delta.specs.Entries.{Entries, replayed}
 use Rattle.page_space.specs.PageSet.{Members, IsIn, none_of, size}
 use Rattle.page_space.specs.Space.{SpaceState, HasRole, IsPinnedBy, IsSpace, KeepsOtherPins, pin_size, pins_of, role_size, seat_count}
 use Rattle.scan_view.specs.Hold.{HoldState, HasRows, pages_held}
@@ -83,15 +83,16 @@ running_repinned runs after is honest file running = record {
   deep = deep_runs_still runs.tags.deep (guide_at runs.guides runs.tags.deep) runs.deep (keeps_run file runs.tags.deep is) running.in_order.deep_tag running.deep;
 }
 
-pub lists_repinned : (runs : RunsState) (after : SpaceState) → Repinned runs after → (tree : Tree) (a : Entries) (file : List ℕ) → AreOf runs tree a file
-    → AreOf (record runs { space = after }) tree a file
-lists_repinned runs after is tree a file of = record {
+pub lists_repinned : (runs : RunsState) (after : SpaceState) → Repinned runs after → (tree : Tree) (file : List ℕ) → AreOf runs tree file
+    → AreOf (record runs { space = after }) tree file
+lists_repinned runs after is tree file of = record {
   holds = of.holds;
   catalogue = of.catalogue;
   c1 = λ n has. has_now is runs.tags.c1 n (of.c1 n has);
   c1x = λ n has. has_now is runs.tags.c1x n (of.c1x n has);
   c2 = λ n has. has_now is runs.tags.c2 n (of.c2 n has);
-  pass = pass_over_still (guide_at runs.guides runs.tags.pass) runs.pass a tree.c1 (keeps_run file (tag_of_pass runs.pass) is) (keeps_pages runs.tags.c1 is) (pass_has_it runs.pass) of.c1 of.pass;
+  pass = pass_over_still (guide_at runs.guides runs.tags.pass) runs.pass (replayed tree.lane_a) tree.c1
+      (keeps_run file (tag_of_pass runs.pass) is) (keeps_pages runs.tags.c1 is) (pass_has_it runs.pass) of.c1 of.pass;
   deep = deep_over_still (guide_at runs.guides runs.tags.deep) runs.deep tree.c1x tree.c2 (keeps_run file (tag_of_deep runs.deep) is) (keeps_pages runs.tags.c1x is) (keeps_pages runs.tags.c2 is)
       (deep_has_it runs.deep) of.c1x of.c2 of.deep;
   guided = of.guided;
@@ -164,9 +165,10 @@ rows_pinned sizes pins seat rows file numbers (Ok hold) has pinned =
 rows_pinned sizes pins seat rows file numbers (Err error) has pinned = tt
 
 -- the pages of a tree's components are pinned
-pub live_pinned : (runs : RunsState) (after : SpaceState) (seat : ℕ) (tree : Tree) (a : Entries) (file : List ℕ) → Pins seat runs.tags.c1 runs.tags.c1x runs.tags.c2 runs.space after
-    → AreOf runs tree a file → (page : ℕ) → Contains (live_pages tree) page → IsPinnedBy after seat page
-live_pinned runs after seat tree a file pins of page has =
+pub live_pinned : (runs : RunsState) (after : SpaceState) (seat : ℕ) (tree : Tree) (file : List ℕ)
+    → Pins seat runs.tags.c1 runs.tags.c1x runs.tags.c2 runs.space after
+    → AreOf runs tree file → (page : ℕ) → Contains (live_pages tree) page → IsPinnedBy after seat page
+live_pinned runs after seat tree file pins of page has =
     (pins.pinned page).1
     (⊎_elim
     (λ front. ⊎_elim (λ first. inl (of.c1 page first)) (λ second. inr (inl (of.c1x page second))) front)

@@ -13,7 +13,7 @@ use Rattle.blsm_model.specs.Format.{least_full}
 use Rattle.blsm_model.specs.Sizes.{IsGeometry, Sizes}
 use Rattle.blsm_model.specs.Geometry.{capacity, page_shares}
 use Rattle.blsm_model.specs.declared.component.Component.{Component}
-use Rattle.record_delta.specs.Entries.{Entries}
+use Rattle.record_delta.specs.Entries.{Entries, above, replayed}
 use Rattle.page_space.specs.Space.{SpaceState, IsSpace, role_size, role_count, seat_count}
 use Rattle.page_file.specs.declared.file.Broken.{Broken}
 use Rattle.page_file.specs.declared.file.Broken.TheVariants.{Fault}
@@ -35,7 +35,7 @@ use Rattle.scan_view.proofs.StayLemmas.{unpinned_on}
 use Rattle.tree_runs.specs.Runs.{GuideState, RunsState, Tags, AreGuides, AreRuns, AreRunning, Fits, HasOneTag, IsFilled, PassRuns, DeepRuns}
 use Rattle.tree_runs.specs.Runs.{PassHasTag, PinsOfPass, DeepHasTag, guide_at, left_for_deep, left_for_pass, made_by_pass, made_by_deep, pages_in_use}
 use Rattle.tree_runs.specs.Runs.{hold_share, run_most}
-use Rattle.tree_runs.specs.Holding.{AreFinished, IsPassOver, IsDeepOver, StandOver, KeepsAllButPass, KeepsAllButDeep, PassTook, DeepTook}
+use Rattle.tree_runs.specs.Holding.{AreFinished, HasAllAhead, IsPassOver, IsDeepOver, StandOver, KeepsAllButPass, KeepsAllButDeep, PassTook, DeepTook}
 use Rattle.tree_runs.proofs.CountLemmas.{within_more, other_size}
 use Rattle.tree_runs.proofs.GuideLemmas.{WritesGuide, all_guided_still}
 use Rattle.tree_runs.proofs.FinishedLemmas.{finished_grown, finished_other, finished_still}
@@ -64,11 +64,12 @@ pub deep_is_run : (runs : RunsState) → AreRuns runs → IsRunTag runs.tags run
 deep_is_run runs are = record { below = are.tags.deep_below; c1 = are.tags.c1_deep; c1x = are.tags.c1x_deep; c2 = are.tags.c2_deep }
 
 -- A run that takes pages and writes them, and no finished one, leaves the tree, in each image of each moment.
-tree_stays : {region : Region} {end most : ℕ} (runs : RunsState) (tree : Tree) (a : Entries) (role : ℕ) (after : SpaceState) (old new : DiskState) → AreRuns runs → IsRunTag runs.tags role
+tree_stays : {region : Region} {end most : ℕ} (runs : RunsState) (tree : Tree) (role : ℕ) (after : SpaceState) (old new : DiskState) → AreRuns runs
+    → IsRunTag runs.tags role
     → IsSpace after → TakesPages role runs.space after → Affects region end most old new → IsWithin region (role_region runs.sizes after role)
-    → AreApart region (pages_region runs.sizes (numbers_of tree.output)) → IsTrue old.is_honest → IsTimed new → StandOver runs tree a old
+    → AreApart region (pages_region runs.sizes (numbers_of tree.output)) → IsTrue old.is_honest → IsTimed new → StandOver runs tree old
     → StandsOn runs.sizes tree new × LeavesOnly old new (HoldsTree runs.sizes tree)
-tree_stays runs tree a role after old new are tag shape takes effect within finished honest timed stand =
+tree_stays runs tree role after old new are tag shape takes effect within finished honest timed stand =
     stands_beside runs.sizes tree effect
     (role_is_beside runs.sizes tree after role old.bytes stand.stands.reads shape (takes.pages ∙ are.pages) tag.below
     (not_live runs.tags tree after role (one_tag_after takes are.one_tag) tag.c1 tag.c1x tag.c2
@@ -84,11 +85,11 @@ finished_beside : (runs : RunsState) (after : SpaceState) (pages : List RunPage)
 finished_beside runs after pages are takes =
     finished_still runs.space after runs.tags.deep runs.deep pages are.deep_tag (tag_kept takes runs.tags.deep (λ same. are.tags.pass_deep (sym same)))
 
-pub pass_stays : (runs : RunsState) (tree : Tree) (a : Entries) (most : ℕ) (after : SpaceState) (old new : DiskState) → AreRuns runs → IsSpace after
-    → Works runs.sizes runs.tags.pass most runs.space after old new → IsTrue old.is_honest → IsTimed new → StandOver runs tree a old
+pub pass_stays : (runs : RunsState) (tree : Tree) (most : ℕ) (after : SpaceState) (old new : DiskState) → AreRuns runs → IsSpace after
+    → Works runs.sizes runs.tags.pass most runs.space after old new → IsTrue old.is_honest → IsTimed new → StandOver runs tree old
     → StandsOn runs.sizes tree new × LeavesOnly old new (HoldsTree runs.sizes tree)
-pass_stays runs tree a most after old new are shape works honest timed stand =
-    tree_stays runs tree a runs.tags.pass after old new are (pass_is_run runs are) shape works.takes works.effect (λ i here. here)
+pass_stays runs tree most after old new are shape works honest timed stand =
+    tree_stays runs tree runs.tags.pass after old new are (pass_is_run runs are) shape works.takes works.effect (λ i here. here)
     (finished_other runs.sizes after runs.tags.pass runs.tags.deep runs.deep tree.output (one_tag_after works.takes are.one_tag) are.tags.pass_deep are.deep_tag
     (finished_beside runs after tree.output are works.takes stand.are_of.output))
     honest timed stand
@@ -172,8 +173,10 @@ passed_is space guides quanta snow keeps s g q p = λ j. record { sizes = keeps.
 
 -- what its quantum ensures
 pub record PassQuantum (sizes : Sizes) (space after : SpaceState) (guide guide_after : GuideState) (snow next : SnowState) (a : Entries) (result : Result ℕ Broken) (old new : DiskState) : Type 0 where
-  pub took : (pages : List ℕ) (c1 : Entries) → IsTrue old.is_honest → IsPass sizes old.bytes space snow guide.filter guide.fences pages a c1 → result ≢ Err Fault
-      → (n : ℕ) × (result ≡ Ok n) × IsPass sizes new.bytes after next guide_after.filter guide_after.fences pages a c1 × IsQuantum sizes.quantum snow.at next.at a c1 n
+  pub took : (pages : List ℕ) (all c1 : Entries) → IsTrue old.is_honest → above snow.at all ≡ above snow.at a
+      → IsPass sizes old.bytes space snow guide.filter guide.fences pages all c1 → result ≢ Err Fault
+      → (n : ℕ) × (result ≡ Ok n) × IsPass sizes new.bytes after next guide_after.filter guide_after.fences pages all c1
+      × IsQuantum sizes.quantum snow.at next.at all c1 n
   pub on : MergesOn sizes (sizes.quantum / 7 + 2) (TakesQuantum sizes.quantum) (stage (progress_of_pass snow a) space guide.filter guide.fences old)
       (stage (progress_of_pass next a) after guide_after.filter guide_after.fences new) result
 
@@ -244,12 +247,16 @@ pass_ran runs after guides quanta guide snow next a result old new is running sh
 pub pass_stands : (runs : RunsState) (after : SpaceState) (guides : List GuideState) (quanta : ℕ) (guide : GuideState) (snow next : SnowState) (a : Entries) (result : Result ℕ Broken) (old new : DiskState) → runs.pass ≡ Some snow → AreRuns runs → IsSpace after
     → WritesGuide runs.sizes runs.tags runs.tags.pass runs.guides guides guide
     → PassQuantum runs.sizes runs.space after (guide_at runs.guides runs.tags.pass) guide snow next a result old new → IsTimed new → (tree : Tree)
-    → IsTrue old.is_honest → StandOver runs tree a old → result ≢ Err Fault
-    → (n : ℕ) × (result ≡ Ok n) × StandOver (passed runs after guides quanta next) tree a new × PassTook runs.sizes.quantum runs.pass (Some next) a (entries_of tree.c1) n
-pass_stands runs after guides quanta guide snow next a result old new is are shape writes quantum timed tree honest stand other =
-    let over = subst (λ (p : Option SnowState). IsPassOver runs.sizes old.bytes runs.space (guide_at runs.guides runs.tags.pass) p a tree.c1) is stand.are_of.pass in
-    let took = quantum.took (numbers_of tree.c1) (entries_of tree.c1) honest over other in
-    let stood = (pass_stays runs tree a (runs.sizes.quantum / 7 + 2) after old new are shape works honest timed stand).0 in (
+    → IsTrue old.is_honest → StandOver runs tree old → HasAllAhead runs.pass a tree → result ≢ Err Fault
+    → (n : ℕ) × (result ≡ Ok n) × StandOver (passed runs after guides quanta next) tree new
+    × PassTook runs.sizes.quantum runs.pass (Some next) (replayed tree.lane_a) (entries_of tree.c1) n
+pass_stands runs after guides quanta guide snow next a result old new is are shape writes quantum timed tree honest stand ahead other =
+    let list = replayed tree.lane_a in
+    let over = subst (λ (p : Option SnowState). IsPassOver runs.sizes old.bytes runs.space (guide_at runs.guides runs.tags.pass) p list tree.c1) is
+    stand.are_of.pass in
+    let same = subst (λ (p : Option SnowState). HasAllAhead p a tree) is ahead in
+    let took = quantum.took (numbers_of tree.c1) list (entries_of tree.c1) honest same over other in
+    let stood = (pass_stays runs tree (runs.sizes.quantum / 7 + 2) after old new are shape works honest timed stand).0 in (
       took.0,
       took.1,
       record {
@@ -260,7 +267,7 @@ pass_stands runs after guides quanta guide snow next a result old new is are sha
           c1 = λ n has. tag_kept works.takes runs.tags.c1 are.tags.c1_pass n (stand.are_of.c1 n has);
           c1x = λ n has. tag_kept works.takes runs.tags.c1x are.tags.c1x_pass n (stand.are_of.c1x n has);
           c2 = λ n has. tag_kept works.takes runs.tags.c2 are.tags.c2_pass n (stand.are_of.c2 n has);
-          pass = subst (λ (g : GuideState). IsPassOver runs.sizes new.bytes after g (Some next) a tree.c1) (sym writes.here) took.2;
+          pass = subst (λ (g : GuideState). IsPassOver runs.sizes new.bytes after g (Some next) list tree.c1) (sym writes.here) took.2;
           deep = subst (λ (g : GuideState). IsDeepOver runs.sizes new.bytes after g runs.deep tree.c1x tree.c2) (sym (writes.others runs.tags.deep (λ same. are.tags.pass_deep (sym same))))
               (deep_over_still (guide_at runs.guides runs.tags.deep) runs.deep tree.c1x tree.c2 (keeps_other runs.sizes runs.tags.deep (λ same. are.tags.pass_deep (sym same)) one_tag works.takes (λ told. works.effect.bytes honest))
               (pages_other runs.sizes runs.tags.c1x are.tags.c1x_pass one_tag works.takes) (pages_other runs.sizes runs.tags.c2 are.tags.c2_pass one_tag works.takes) are.deep_tag stand.are_of.c1x stand.are_of.c2 stand.are_of.deep);
@@ -268,7 +275,7 @@ pass_stands runs after guides quanta guide snow next a result old new is are sha
           output = finished_beside runs after tree.output are works.takes stand.are_of.output;
         };
       },
-      subst (λ (p : Option SnowState). PassTook runs.sizes.quantum p (Some next) a (entries_of tree.c1) took.0) (sym is) took.3,
+      subst (λ (p : Option SnowState). PassTook runs.sizes.quantum p (Some next) list (entries_of tree.c1) took.0) (sym is) took.3,
     )
   where
     works : Works runs.sizes runs.tags.pass (runs.sizes.quantum / 7 + 2) runs.space after old new
@@ -301,12 +308,15 @@ pub deep_works : (runs : RunsState) (after : SpaceState) (guide guide_after : Gu
 deep_works runs after guide guide_after merge next result old new is are quantum =
     subst (λ (r : ℕ). Works runs.sizes r (runs.sizes.quantum / 4 + 3) runs.space after old new) (deep_role runs merge is are) (works_of quantum.on.works)
 
-pub deep_stays : (runs : RunsState) (tree : Tree) (a : Entries) (most : ℕ) (after : SpaceState) (merge : DeepState) (next : WriterState) (old new : DiskState) → runs.deep ≡ Some merge
-    → AreRuns runs → IsSpace after → Grows runs.sizes most runs.space after merge.writer next old new → IsTrue old.is_honest → IsTimed new → StandOver runs tree a old
+pub deep_stays : (runs : RunsState) (tree : Tree) (most : ℕ) (after : SpaceState) (merge : DeepState) (next : WriterState) (old new : DiskState)
+    → runs.deep ≡ Some merge
+    → AreRuns runs → IsSpace after → Grows runs.sizes most runs.space after merge.writer next old new → IsTrue old.is_honest → IsTimed new
+        → StandOver runs tree old
     → StandsOn runs.sizes tree new × LeavesOnly old new (HoldsTree runs.sizes tree)
-deep_stays runs tree a most after merge next old new is are shape grows honest timed stand =
+deep_stays runs tree most after merge next old new is are shape grows honest timed stand =
     let role = deep_role runs merge is are in
-    tree_stays runs tree a runs.tags.deep after old new are (deep_is_run runs are) shape (subst (λ (r : ℕ). TakesPages r runs.space after) role grows.takes) grows.effect
+    tree_stays runs tree runs.tags.deep after old new are (deep_is_run runs are) shape
+        (subst (λ (r : ℕ). TakesPages r runs.space after) role grows.takes) grows.effect
     (λ i here. subst (λ (r : ℕ). role_region runs.sizes after r i) role here.0)
     (finished_grown runs.sizes runs.space after merge tree.output (subst (λ (d : Option DeepState). AreFinished runs.space d tree.output) is stand.are_of.output))
     honest timed stand
@@ -368,12 +378,14 @@ deep_ran runs after guides quanta guide merge next result old new is running sha
 pub deep_stands : (runs : RunsState) (after : SpaceState) (guides : List GuideState) (quanta : ℕ) (guide : GuideState) (merge next : DeepState) (result : Result ℕ Broken) (old new : DiskState) → runs.deep ≡ Some merge → AreRuns runs → IsSpace after
     → WritesGuide runs.sizes runs.tags runs.tags.deep runs.guides guides guide
     → DeepQuantum runs.sizes runs.space after (guide_at runs.guides runs.tags.deep) guide merge next result old new → IsTimed new
-    → (tree : Tree) (a : Entries) → IsTrue old.is_honest → StandOver runs tree a old → result ≢ Err Fault
-    → (n : ℕ) × (result ≡ Ok n) × StandOver (deepened runs after guides quanta next) tree a new × DeepTook runs.sizes.quantum runs.deep (Some next) (entries_of tree.c1x) (entries_of tree.c2) n
-deep_stands runs after guides quanta guide merge next result old new is are shape writes quantum timed tree a honest stand other =
+    → (tree : Tree) → IsTrue old.is_honest → StandOver runs tree old → result ≢ Err Fault
+    → (n : ℕ) × (result ≡ Ok n) × StandOver (deepened runs after guides quanta next) tree new
+        × DeepTook runs.sizes.quantum runs.deep (Some next) (entries_of tree.c1x) (entries_of tree.c2) n
+deep_stands runs after guides quanta guide merge next result old new is are shape writes quantum timed tree honest stand other =
     let over = subst (λ (d : Option DeepState). IsDeepOver runs.sizes old.bytes runs.space (guide_at runs.guides runs.tags.deep) d tree.c1x tree.c2) is stand.are_of.deep in
     let took = quantum.took (numbers_of tree.c1x) (numbers_of tree.c2) (entries_of tree.c1x) (entries_of tree.c2) honest over other in
-    let stood = (deep_stays runs tree a (runs.sizes.quantum / 4 + 3) after merge next.writer old new is are shape quantum.on.works honest timed stand).0 in (
+    let stood = (deep_stays runs tree (runs.sizes.quantum / 4 + 3) after merge next.writer old new is are shape quantum.on.works honest timed
+        stand).0 in (
       took.0,
       took.1,
       record {
@@ -384,8 +396,10 @@ deep_stands runs after guides quanta guide merge next result old new is are shap
           c1 = λ n has. tag_kept works.takes runs.tags.c1 are.tags.c1_deep n (stand.are_of.c1 n has);
           c1x = λ n has. tag_kept works.takes runs.tags.c1x are.tags.c1x_deep n (stand.are_of.c1x n has);
           c2 = λ n has. tag_kept works.takes runs.tags.c2 are.tags.c2_deep n (stand.are_of.c2 n has);
-          pass = subst (λ (g : GuideState). IsPassOver runs.sizes new.bytes after g runs.pass a tree.c1) (sym (writes.others runs.tags.pass are.tags.pass_deep))
-              (pass_over_still (guide_at runs.guides runs.tags.pass) runs.pass a tree.c1 (keeps_other runs.sizes runs.tags.pass are.tags.pass_deep one_tag works.takes (λ told. works.effect.bytes honest))
+          pass = subst (λ (g : GuideState). IsPassOver runs.sizes new.bytes after g runs.pass (replayed tree.lane_a) tree.c1)
+              (sym (writes.others runs.tags.pass are.tags.pass_deep))
+              (pass_over_still (guide_at runs.guides runs.tags.pass) runs.pass (replayed tree.lane_a) tree.c1
+              (keeps_other runs.sizes runs.tags.pass are.tags.pass_deep one_tag works.takes (λ told. works.effect.bytes honest))
               (pages_other runs.sizes runs.tags.c1 are.tags.c1_deep one_tag works.takes) are.pass_tag stand.are_of.c1 stand.are_of.pass);
           deep = subst (λ (g : GuideState). IsDeepOver runs.sizes new.bytes after g (Some next) tree.c1x tree.c2) (sym writes.here) took.2;
           guided = all_guided_still runs.guides guides runs.tags tree writes.others are.tags.c1_deep are.tags.c1x_deep are.tags.c2_deep stand.are_of.guided;

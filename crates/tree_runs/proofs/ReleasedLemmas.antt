@@ -19,7 +19,7 @@ use Rattle.bloom_bits.specs.Fences.{IsBelowAll}
 use Rattle.bloom_bits.specs.Guides.{fences_of}
 use Rattle.catalog_swap.specs.declared.catalog.Catalog.{Catalog}
 use Rattle.record_delta.specs.declared.record.Rec.{Rec}
-use Rattle.record_delta.specs.Entries.{AreSorted, Entries, above, folded_over, is_above, over_any, record_of_key, up_to}
+use Rattle.record_delta.specs.Entries.{AreSorted, Entries, above, folded_over, is_above, over_any, record_of_key, replayed, up_to}
 use Rattle.page_space.specs.Space.{SpaceState}
 use Rattle.page_file.specs.Component.{RunPage, ReadsAs, ReadsOn, entries_of}
 use Rattle.page_file.specs.Entry.{AreRising, keys_of}
@@ -133,7 +133,6 @@ below_open floor key number (e ∷ es) up all =
 -- ---- the finished pages
 
 module _ (sizes : Sizes) (file : List ℕ) (space : SpaceState) (guide : GuideState) (floor key : Key) (a : Entries) (c1 : List RunPage)
-    (sorted : AreSorted a)
     (up : is_above (Some floor) key ≡ false) where
   front_has : (pass : Option SnowState) → released_by pass ≡ Some floor → IsPassOver sizes file space guide pass a c1
       → HasRecord sizes (front_of (finished_by_pass pass)) guide key file (over_any (record_of_key key a) (record_of_key key (entries_of c1)))
@@ -157,10 +156,10 @@ module _ (sizes : Sizes) (file : List ℕ) (space : SpaceState) (guide : GuideSt
             (closed_reads sizes true file space snow.writer guide.filter guide.fences out has refl);
         guided = λ some. has.guide;
         below = below_open floor key run.number run.entries up
-            (λ e more is_more. beyond (Some floor) snow.at a (entries_of c1) (entries_of run.closed) more e sorted
+            (λ e more is_more. beyond (Some floor) snow.at a (entries_of c1) (entries_of run.closed) more e over.newer_is.0
             (subst (λ (es : Entries). AreRising (entries_of run.closed ++ es)) is_more rise) front
             (ap (λ (es : Entries). entries_of run.closed ++ es) (sym is_more) ∙ all));
-        found_is = sym (ap (record_of_key key) front ∙ find_fold (Some floor) a (entries_of c1) sorted key
+        found_is = sym (ap (record_of_key key) front ∙ find_fold (Some floor) a (entries_of c1) over.newer_is.0 key
             ∙ ap (λ (b : Bool). cond b None (over_any (record_of_key key a) (record_of_key key (entries_of c1)))) up);
       }
 
@@ -181,39 +180,48 @@ component_has sizes run guide key pages file reads guided = record {
 }
 
 -- C1's; or, where the table's was dropped, that of the finished pages
-pub first_has : (runs : RunsState) (floor : Option Key) (key : Key) (a : Entries) (tree : Tree) (file : List ℕ) → HoldsTree runs.sizes tree file
-    → tree.catalogue ≡ runs.catalogue → AreGuided runs.guides runs.tags tree → IsFloorOf floor runs a tree.c1 file
+pub first_has : (runs : RunsState) (floor : Option Key) (key : Key) (tree : Tree) (file : List ℕ) → HoldsTree runs.sizes tree file
+    → tree.catalogue ≡ runs.catalogue → AreGuided runs.guides runs.tags tree → IsFloorOf floor runs tree file
     → HasRecord runs.sizes (first_run floor key runs) (guide_at runs.guides (first_tag floor key runs)) key file
-    (first_record floor key a (entries_of tree.c1))
-first_has runs floor key a tree file holds now guided = by floor
+    (first_record floor key tree)
+first_has runs floor key tree file holds now guided = by floor
   where
+    list : Entries
+    list = replayed tree.lane_a
+
     c1 : HasRecord runs.sizes runs.catalogue.c1 (guide_at runs.guides runs.tags.c1) key file (record_of_key key (entries_of tree.c1))
     c1 = component_has runs.sizes runs.catalogue.c1 (guide_at runs.guides runs.tags.c1) key tree.c1 file
         (subst (λ (k : Catalog). ReadsAs runs.sizes k.c1 tree.c1 file) now holds.c1) guided.c1
 
-    by_order : (low : Key) (b : Bool) → is_above (Some low) key ≡ b → IsReleased low runs a tree.c1 file
+    by_order : (low : Key) (b : Bool) → is_above (Some low) key ≡ b → IsReleased low runs tree file
         → HasRecord runs.sizes (cond b runs.catalogue.c1 (front_of (finished_by_pass runs.pass)))
         (guide_at runs.guides (cond b runs.tags.c1 runs.tags.pass)) key file
-        (cond b (record_of_key key (entries_of tree.c1)) (over_any (record_of_key key a) (record_of_key key (entries_of tree.c1))))
+        (cond b (record_of_key key (entries_of tree.c1)) (over_any (record_of_key key list) (record_of_key key (entries_of tree.c1))))
     by_order low true is of = c1
     by_order low false is of =
-        front_has runs.sizes file runs.space (guide_at runs.guides runs.tags.pass) low key a tree.c1 of.sorted is runs.pass of.floor_is of.over
+        front_has runs.sizes file runs.space (guide_at runs.guides runs.tags.pass) low key list tree.c1 is runs.pass of.floor_is of.over
 
-    by : (low : Option Key) → IsFloorOf low runs a tree.c1 file
+    by : (low : Option Key) → IsFloorOf low runs tree file
         → HasRecord runs.sizes (first_run low key runs) (guide_at runs.guides (first_tag low key runs)) key file
-        (first_record low key a (entries_of tree.c1))
+        (first_record low key tree)
     by None of = c1
     by (Some low) of = by_order low (is_above (Some low) key) refl of
 
 -- ---- the table above its floor
 
 -- What is left of the table has a record over what is asked first just as its list has over C1.
-pub rest_over : (floor : Option Key) (key : Key) (a c1 : Entries)
-    → over_any (record_of_key key (above floor a)) (first_record floor key a c1) ≡ over_any (record_of_key key a) (record_of_key key c1)
-rest_over floor key a c1 = ap (λ (r : Option Rec). over_any r (first_record floor key a c1)) (find-ahead floor a key) ∙ by (is_above floor key)
+pub rest_over : (floor : Option Key) (key : Key) (tree : Tree)
+    → over_any (record_of_key key (above floor (replayed tree.lane_a))) (first_record floor key tree)
+    ≡ over_any (record_of_key key (replayed tree.lane_a)) (record_of_key key (entries_of tree.c1))
+rest_over floor key tree =
+    ap (λ (r : Option Rec). over_any r (first_record floor key tree)) (find-ahead floor (replayed tree.lane_a) key) ∙ by (is_above floor key)
   where
-    by : (b : Bool)
-        → over_any (cond b (record_of_key key a) None) (cond b (record_of_key key c1) (over_any (record_of_key key a) (record_of_key key c1)))
-        ≡ over_any (record_of_key key a) (record_of_key key c1)
+    a : Option Rec
+    a = record_of_key key (replayed tree.lane_a)
+
+    c1 : Option Rec
+    c1 = record_of_key key (entries_of tree.c1)
+
+    by : (b : Bool) → over_any (cond b a None) (cond b c1 (over_any a c1)) ≡ over_any a c1
     by true = refl
     by false = refl

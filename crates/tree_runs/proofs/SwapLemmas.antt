@@ -36,27 +36,29 @@ use Rattle.tree_runs.proofs.Terms.{swap_region}
 -- ---- a tag that is no component's
 
 -- the run's pages aren't the tree's
-pub run_others : {tree : Tree} {a : Entries} {file : List ℕ} (runs : RunsState) (tag : ℕ) → AreRuns runs → IsRunTag runs.tags tag → AreOf runs tree a file
+pub run_others : {tree : Tree} {file : List ℕ} (runs : RunsState) (tag : ℕ) → AreRuns runs → IsRunTag runs.tags tag → AreOf runs tree file
     → (n : ℕ) → HasRole runs.space tag n → Contains (live_pages tree) n → ⊥
 run_others {tree} runs tag are is of = not_live runs.tags tree runs.space tag are.one_tag is.c1 is.c1x is.c2 of.c1 of.c1x of.c2
 
 -- Once the run is finished the disk stands on the tree still.
-stands_finished : {region : Region} {tree : Tree} {a : Entries} {end most : ℕ} {old new : DiskState} (runs : RunsState) (tag : ℕ) → AreRuns runs → IsRunTag runs.tags tag
-    → StandOver runs tree a old → Affects region end most old new → IsWithin region (role_region runs.sizes runs.space tag)
+stands_finished : {region : Region} {tree : Tree} {end most : ℕ} {old new : DiskState} (runs : RunsState) (tag : ℕ) → AreRuns runs
+    → IsRunTag runs.tags tag
+    → StandOver runs tree old → Affects region end most old new → IsWithin region (role_region runs.sizes runs.space tag)
     → AreApart region (pages_region runs.sizes (numbers_of tree.output)) → IsTrue old.is_honest → IsTimed new → StandsOn runs.sizes tree new × LeavesOnly old new (HoldsTree runs.sizes tree)
 stands_finished {tree = tree} {old = old} runs tag are is over effect within finished honest timed =
     stands_beside runs.sizes tree effect
     (role_is_beside runs.sizes tree runs.space tag old.bytes over.stands.reads are.shape are.pages is.below (run_others runs tag are is over.are_of) within finished)
     honest timed over.stands
 
-pub stands_behind_pass : {tree : Tree} {a : Entries} {end most : ℕ} {old new : DiskState} (runs : RunsState) → AreRuns runs → StandOver runs tree a old
+pub stands_behind_pass : {tree : Tree} {end most : ℕ} {old new : DiskState} (runs : RunsState) → AreRuns runs → StandOver runs tree old
     → Affects (role_region runs.sizes runs.space runs.tags.pass) end most old new → IsTrue old.is_honest → IsTimed new
     → StandsOn runs.sizes tree new × LeavesOnly old new (HoldsTree runs.sizes tree)
 stands_behind_pass {tree} runs are over effect =
     stands_finished runs runs.tags.pass are (pass_is_run runs are) over effect (λ i here. here)
     (finished_other runs.sizes runs.space runs.tags.pass runs.tags.deep runs.deep tree.output are.one_tag are.tags.pass_deep are.deep_tag over.are_of.output)
 
-pub stands_behind_deep : {tree : Tree} {a : Entries} {end most : ℕ} {old new : DiskState} (runs : RunsState) → AreRunning old.is_honest old.bytes runs → StandOver runs tree a old
+pub stands_behind_deep : {tree : Tree} {end most : ℕ} {old new : DiskState} (runs : RunsState) → AreRunning old.is_honest old.bytes runs
+    → StandOver runs tree old
     → Affects (open_of_deep runs.sizes runs.deep) end most old new → IsTrue old.is_honest → IsTimed new
     → StandsOn runs.sizes tree new × LeavesOnly old new (HoldsTree runs.sizes tree)
 stands_behind_deep {tree} {old = old} runs running over effect =
@@ -67,13 +69,15 @@ stands_behind_deep {tree} {old = old} runs running over effect =
 -- ---- what is said of both
 
 -- the commit failed, or was done
-pub leaves_swapped : {a : Entries} {done committed : Bool} {old mid new : DiskState} (runs after : RunsState) (tree next : Tree) → LeavesOnly old mid (HoldsTree runs.sizes tree) → Becomes runs.sizes tree next committed mid new
-    → (IsTrue done → StandOver after next a new) → LeavesSwapped runs after tree next a done old new
+pub leaves_swapped : {done committed : Bool} {old mid new : DiskState} (runs after : RunsState) (tree next : Tree)
+    → LeavesOnly old mid (HoldsTree runs.sizes tree) → Becomes runs.sizes tree next committed mid new
+    → (IsTrue done → StandOver after next new) → LeavesSwapped runs after tree next done old new
 leaves_swapped runs after tree next first becomes stands = record { each = (becomes_behind first becomes).each; either = becomes.either; stands = stands }
 
 -- or there was none
-pub leaves_unswapped : {a : Entries} {done : Bool} {old new : DiskState} (runs after : RunsState) (tree next : Tree) → StandsOn runs.sizes tree new → LeavesOnly old new (HoldsTree runs.sizes tree) → (IsTrue done → ⊥)
-    → LeavesSwapped runs after tree next a done old new
+pub leaves_unswapped : {done : Bool} {old new : DiskState} (runs after : RunsState) (tree next : Tree) → StandsOn runs.sizes tree new
+    → LeavesOnly old new (HoldsTree runs.sizes tree) → (IsTrue done → ⊥)
+    → LeavesSwapped runs after tree next done old new
 leaves_unswapped runs after tree next stands each not_done = record {
   each = leaves_only_weaken (λ c holds. inl holds) each;
   either = record { reads = inl stands.reads; each = λ c left. inl (stands.each c left) };

@@ -18,7 +18,7 @@ use Rattle.bloom_bits.specs.Guides.{Guide}
 use Rattle.catalog_swap.specs.declared.catalog.Catalog.{Catalog}
 use Rattle.catalog_swap.specs.declared.catalog.Progress.{Progress}
 use Rattle.catalog_swap.specs.Text.{HasKey}
-use Rattle.record_delta.specs.Entries.{Entries, folded_over, settled_entries}
+use Rattle.record_delta.specs.Entries.{folded_over, replayed, settled_entries}
 use Rattle.page_space.specs.Space.{SpaceState, HasRole, role_count, role_size}
 use Rattle.page_file.specs.Component.{RunPage, ReadsAs, HasList, entries_of, numbers_of}
 use Rattle.run_writer.specs.Writer.{role_region}
@@ -45,10 +45,10 @@ pub record Switches {T E : Type 0} (sizes : Sizes) (now next : Catalog) (result 
       → Becomes sizes tree after (is_ok result) old new
 
 -- what is known when a run is finished
-pub record IsFinished (runs : RunsState) (tree : Tree) (a : Entries) (tag : ℕ) (old mid : DiskState) : Type 0 where
+pub record IsFinished (runs : RunsState) (tree : Tree) (tag : ℕ) (old mid : DiskState) : Type 0 where
   pub end : ℕ
   pub running : AreRunning old.is_honest old.bytes runs
-  pub over : StandOver runs tree a old
+  pub over : StandOver runs tree old
   pub few : runs.catalogue.version + 1 < 2 ^ 64
   pub effect : Affects (role_region runs.sizes runs.space tag) end 1 old mid
   pub honest : IsTrue old.is_honest
@@ -85,11 +85,13 @@ pass_suits {now} honest file runs made run are running is reads = by runs.pass r
 -- ---- the swaps
 
 -- the version of the tree's catalogue
-few_of_tree : {a : Entries} {file : List ℕ} (runs : RunsState) (tree : Tree) → AreOf runs tree a file → runs.catalogue.version + 1 < 2 ^ 64 → tree.catalogue.version + 1 < 2 ^ 64
+few_of_tree : {file : List ℕ} (runs : RunsState) (tree : Tree) → AreOf runs tree file → runs.catalogue.version + 1 < 2 ^ 64
+    → tree.catalogue.version + 1 < 2 ^ 64
 few_of_tree runs tree of few = subst (λ (k : Catalog). k.version + 1 < 2 ^ 64) (sym of.catalogue) few
 
 -- the next version, as the tree has it
-pub version_of_next : {a : Entries} {file : List ℕ} (runs : RunsState) (tree : Tree) (next : Catalog) → AreOf runs tree a file → next.version ≡ runs.catalogue.version + 1 → next.version ≡ tree.catalogue.version + 1
+pub version_of_next : {file : List ℕ} (runs : RunsState) (tree : Tree) (next : Catalog) → AreOf runs tree file
+    → next.version ≡ runs.catalogue.version + 1 → next.version ≡ tree.catalogue.version + 1
 version_of_next runs tree next of is = is ∙ ap (λ (k : Catalog). k.version + 1) (sym of.catalogue)
 
 -- a catalogue that was never written
@@ -105,8 +107,9 @@ pub record DeepCommitted (runs : RunsState) (tree : Tree) (made : Component) (ne
   pub first : LeavesOnly old mid (HoldsTree runs.sizes tree)
   pub becomes : Becomes runs.sizes tree (with_components next tree.c1 [] list.pages tree) done mid new
 
-pub deep_becomes : {T E : Type 0} {result : Result T E} {a : Entries} {old mid new : DiskState} (runs : RunsState) (tree : Tree) (made : Component) (next : Catalog)
-    → IsFinished runs tree a runs.tags.deep old mid → made ≡ made_by_deep runs.deep → (list : HasList runs.sizes made (settled_entries (folded_over (entries_of tree.c1x) (entries_of tree.c2))) mid.bytes)
+pub deep_becomes : {T E : Type 0} {result : Result T E} {old mid new : DiskState} (runs : RunsState) (tree : Tree) (made : Component) (next : Catalog)
+    → IsFinished runs tree runs.tags.deep old mid → made ≡ made_by_deep runs.deep
+        → (list : HasList runs.sizes made (settled_entries (folded_over (entries_of tree.c1x) (entries_of tree.c2))) mid.bytes)
     → AreTagged runs.space runs.tags.deep list.pages → Guide (filter_of runs runs.tags.deep) (fences_of_tag runs runs.tags.deep) list.pages → next ≡ with_deep_run made runs.catalogue
     → Switches runs.sizes runs.catalogue next result mid new → DeepCommitted runs tree made next (is_ok result) old mid new
 deep_becomes {old = old} {mid = mid} runs tree made next is made_is list tagged guided next_is switches =
@@ -130,22 +133,25 @@ pub deep_unswapped : (tree : Tree) → IsDeepSwapped tree (with_components (next
 deep_unswapped tree = record { version = refl; c1 = refl; c1x = refl; c2 = one_page_entries (settled_entries (folded_over (entries_of tree.c1x) (entries_of tree.c2))); lane_a = refl; lane_b = refl }
 
 -- the run and what its swap makes of the tree
-pub record PassCommitted (runs : RunsState) (tree : Tree) (a : Entries) (b : Bool) (made : Component) (next : Catalog) (done : Bool) (old mid new : DiskState) : Type 0 where
-  pub list : HasList runs.sizes made (folded_over a (entries_of tree.c1)) mid.bytes
+pub record PassCommitted (runs : RunsState) (tree : Tree) (b : Bool) (made : Component) (next : Catalog) (done : Bool)
+    (old mid new : DiskState) : Type 0 where
+  pub list : HasList runs.sizes made (folded_over (replayed tree.lane_a) (entries_of tree.c1)) mid.bytes
   pub tagged : AreTagged runs.space runs.tags.pass list.pages
   pub guided : Guide (filter_of runs runs.tags.pass) (fences_of_tag runs runs.tags.pass) list.pages
   pub output : List RunPage
   pub finished : AreFinished runs.space runs.deep output
-  pub swapped : IsPassSwapped (is_full runs.sizes (made_by_pass runs.pass)) a tree (pass_tree b next list.pages output tree)
+  pub swapped : IsPassSwapped (is_full runs.sizes (made_by_pass runs.pass)) tree (pass_tree b next list.pages output tree)
   pub first : LeavesOnly old mid (HoldsTree runs.sizes tree)
   pub becomes : Becomes runs.sizes tree (pass_tree b next list.pages output tree) done mid new
 
-pub pass_swapped : (b : Bool) (a : Entries) (tree : Tree) (next : Catalog) (run output : List RunPage) → entries_of run ≡ folded_over a (entries_of tree.c1) → next.version ≡ tree.catalogue.version + 1
-    → IsPassSwapped b a tree (pass_tree b next run output tree)
-pass_swapped b a tree next run output h1 h2 = grind (arith, common_steps, nat_tests)
+pub pass_swapped : (b : Bool) (tree : Tree) (next : Catalog) (run output : List RunPage)
+    → entries_of run ≡ folded_over (replayed tree.lane_a) (entries_of tree.c1) → next.version ≡ tree.catalogue.version + 1
+    → IsPassSwapped b tree (pass_tree b next run output tree)
+pass_swapped b tree next run output h1 h2 = grind (arith, common_steps, nat_tests)
 
 -- what is named: once the run is finished the deep merge stands over its lists still
-pub named_for_pass : {a : Entries} {old mid : DiskState} (runs : RunsState) (tree : Tree) (b : Bool) → (b ≡ true → runs.deep ≡ None) → IsFinished runs tree a runs.tags.pass old mid
+pub named_for_pass : {old mid : DiskState} (runs : RunsState) (tree : Tree) (b : Bool) → (b ≡ true → runs.deep ≡ None)
+    → IsFinished runs tree runs.tags.pass old mid
     → AreRoles runs.catalogue.lanes → PassNames b runs.sizes tree mid.bytes runs.space runs.tags.deep runs.deep (progress_of runs.catalogue runs.deep)
 named_for_pass runs tree true rests is roles = ap (λ (d : Option DeepState). progress_of runs.catalogue d) (rests refl)
 named_for_pass {old = old} {mid} runs tree false rests is roles =
@@ -166,7 +172,8 @@ named_finished true sizes tree file space tag deep progress none = nothing_finis
 named_finished false sizes tree file space tag deep progress is = is.finished
 
 -- neither the run nor C1' nor C2 has the deep run's tag
-not_of_deep : {tree : Tree} {a : Entries} {file : List ℕ} (runs : RunsState) (run : List RunPage) → AreRuns runs → AreOf runs tree a file → AreTagged runs.space runs.tags.pass run
+not_of_deep : {tree : Tree} {file : List ℕ} (runs : RunsState) (run : List RunPage) → AreRuns runs → AreOf runs tree file
+    → AreTagged runs.space runs.tags.pass run
     → (n : ℕ) → Contains (numbers_of run ++ numbers_of tree.c1x ++ numbers_of tree.c2) n → HasRole runs.space runs.tags.deep n → ⊥
 not_of_deep {tree} runs run are of tagged n has also =
     ⊎_elim
@@ -176,13 +183,15 @@ not_of_deep {tree} runs run are of tagged n has also =
     (λ here. are.tags.c2_deep (are.one_tag n runs.tags.c2 runs.tags.deep (of.c2 n here) also))
     (Contains-append_cases (numbers_of run ++ numbers_of tree.c1x) (numbers_of tree.c2) n has)
 
-pub pass_becomes : {T E : Type 0} {result : Result T E} {a : Entries} {old mid new : DiskState} (runs : RunsState) (tree : Tree) (made : Component) (next : Catalog) (b : Bool) → is_full runs.sizes (made_by_pass runs.pass) ≡ b
+pub pass_becomes : {T E : Type 0} {result : Result T E} {old mid new : DiskState} (runs : RunsState) (tree : Tree) (made : Component)
+    (next : Catalog) (b : Bool) → is_full runs.sizes (made_by_pass runs.pass) ≡ b
     → (b ≡ true → runs.deep ≡ None) → AreRoles runs.catalogue.lanes
-    → IsFinished runs tree a runs.tags.pass old mid → made ≡ made_by_pass runs.pass → (list : HasList runs.sizes made (folded_over a (entries_of tree.c1)) mid.bytes)
+    → IsFinished runs tree runs.tags.pass old mid → made ≡ made_by_pass runs.pass
+        → (list : HasList runs.sizes made (folded_over (replayed tree.lane_a) (entries_of tree.c1)) mid.bytes)
     → AreTagged runs.space runs.tags.pass list.pages → Guide (filter_of runs runs.tags.pass) (fences_of_tag runs runs.tags.pass) list.pages
     → next ≡ with_pass_run runs.sizes made (progress_of runs.catalogue runs.deep) runs.catalogue
-    → Switches runs.sizes runs.catalogue next result mid new → PassCommitted runs tree a b made next (is_ok result) old mid new
-pass_becomes {a = a} {old = old} {mid = mid} runs tree made next b full rests roles is made_is list tagged guided next_is switches =
+    → Switches runs.sizes runs.catalogue next result mid new → PassCommitted runs tree b made next (is_ok result) old mid new
+pass_becomes {old = old} {mid = mid} runs tree made next b full rests roles is made_is list tagged guided next_is switches =
     let are = is.running.in_order in
     let of = is.over.are_of in
     let stands = is.stands in
@@ -190,7 +199,8 @@ pass_becomes {a = a} {old = old} {mid = mid} runs tree made next b full rests ro
     let progress = progress_of runs.catalogue runs.deep in
     let named = named_for_pass runs tree b rests is roles in
     let output = named_pages b runs.sizes tree mid.bytes runs.space runs.tags.deep runs.deep progress named in
-    let ready = ready_for_pass runs.sizes tree mid.bytes stands.0.reads (few_of_tree runs tree of is.few) b next made (folded_over a (entries_of tree.c1)) progress list suits
+    let ready = ready_for_pass runs.sizes tree mid.bytes stands.0.reads (few_of_tree runs tree of is.few) b next made
+        (folded_over (replayed tree.lane_a) (entries_of tree.c1)) progress list suits
     (subst (λ (k : Catalog). next ≡ with_pass_run runs.sizes made progress k) (sym of.catalogue) next_is) (ap (λ (k : Component). is_full runs.sizes k) made_is ∙ full) (λ n has. run_others runs runs.tags.pass are (pass_is_run runs are) of n (tagged n has))
     runs.space runs.tags.deep runs.deep (not_of_deep runs list.pages are of tagged) named in
     record {
@@ -199,8 +209,8 @@ pass_becomes {a = a} {old = old} {mid = mid} runs tree made next b full rests ro
       guided = guided;
       output = output;
       finished = named_finished b runs.sizes tree mid.bytes runs.space runs.tags.deep runs.deep progress named;
-      swapped = subst (λ (f : Bool). IsPassSwapped f a tree (pass_tree b next list.pages output tree)) (sym full)
-          (pass_swapped b a tree next list.pages output list.entries_are (version_of_next runs tree next of (ap (λ (k : Catalog). k.version) next_is)));
+      swapped = subst (λ (f : Bool). IsPassSwapped f tree (pass_tree b next list.pages output tree)) (sym full)
+          (pass_swapped b tree next list.pages output list.entries_are (version_of_next runs tree next of (ap (λ (k : Catalog). k.version) next_is)));
       first = stands.1;
       becomes = switches.becomes tree (pass_tree b next list.pages output tree) (subst IsTrue (sym is.effect.goes_on.is_honest) is.honest) of.catalogue (catalogue_of b output)
           (λ key. ready.may (subst (λ (k : Catalog). HasKey k.progress) (sym (catalogue_of b output)) key)) stands.0 ready.reads;
@@ -210,7 +220,8 @@ pass_becomes {a = a} {old = old} {mid = mid} runs tree made next b full rests ro
     catalogue_of true output = refl
     catalogue_of false output = refl
 
-pub rotation_becomes : {T E : Type 0} {result : Result T E} {a : Entries} {old new : DiskState} (runs : RunsState) (tree : Tree) (next : Catalog) → StandOver runs tree a old → IsTrue old.is_honest → IsTimed old
+pub rotation_becomes : {T E : Type 0} {result : Result T E} {old new : DiskState} (runs : RunsState) (tree : Tree) (next : Catalog)
+    → StandOver runs tree old → IsTrue old.is_honest → IsTimed old
     → runs.catalogue.version + 1 < 2 ^ 64 → next ≡ with_rotation runs.catalogue → Switches runs.sizes runs.catalogue next result old new
     → IsRotated tree (with_components next [] tree.c1 tree.c2 tree) × LeavesOnly old old (HoldsTree runs.sizes tree) × Becomes runs.sizes tree (with_components next [] tree.c1 tree.c2 tree) (is_ok result) old new
 rotation_becomes {old = old} runs tree next over honest timed few next_is switches =

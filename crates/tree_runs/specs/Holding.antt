@@ -14,7 +14,7 @@ use Rattle.blsm_model.specs.declared.key.Key.{Key}
 use Rattle.blsm_model.specs.declared.component.Component.{Component}
 use Rattle.catalog_swap.specs.declared.catalog.Catalog.{Catalog}
 use Rattle.catalog_swap.specs.declared.catalog.Progress.{Progress}
-use Rattle.record_delta.specs.Entries.{Entries, folded_over, settled_entries}
+use Rattle.record_delta.specs.Entries.{Entries, above, folded_over, replayed, settled_entries}
 use Rattle.page_space.specs.Space.{SpaceState, HasRole, IsFree, KeepsOtherPins}
 use Rattle.page_file.specs.declared.file.Broken.{Broken}
 use Rattle.page_file.specs.declared.file.Broken.TheVariants.{Fault, Damaged}
@@ -71,23 +71,23 @@ pub record AreGuided (guides : List GuideState) (tags : Tags) (tree : Tree) : Ty
   pub c1x : IsGuidedBy (guide_at guides tags.c1x) tree.c1x
   pub c2 : IsGuidedBy (guide_at guides tags.c2) tree.c2
 
--- In this file the tree has this catalogue, its components' pages have their tags, filters and fences, the merges run over its lists and this
--- table A, and the deep merge has finished the pages that are named of it.
-pub record AreOf (runs : RunsState) (tree : Tree) (a : Entries) (file : List ℕ) : Type 0 where
+-- In this file the tree has this catalogue, its components' pages have their tags, filters and fences, the merges run over its lists, table A's being
+-- what lane A replays to, and the deep merge has finished the pages that are named of it.
+pub record AreOf (runs : RunsState) (tree : Tree) (file : List ℕ) : Type 0 where
   pub holds : HoldsTree runs.sizes tree file
   pub catalogue : tree.catalogue ≡ runs.catalogue
   pub c1 : AreTagged runs.space runs.tags.c1 tree.c1
   pub c1x : AreTagged runs.space runs.tags.c1x tree.c1x
   pub c2 : AreTagged runs.space runs.tags.c2 tree.c2
-  pub pass : IsPassOver runs.sizes file runs.space (guide_at runs.guides runs.tags.pass) runs.pass a tree.c1
+  pub pass : IsPassOver runs.sizes file runs.space (guide_at runs.guides runs.tags.pass) runs.pass (replayed tree.lane_a) tree.c1
   pub deep : IsDeepOver runs.sizes file runs.space (guide_at runs.guides runs.tags.deep) runs.deep tree.c1x tree.c2
   pub guided : AreGuided runs.guides runs.tags tree
   pub output : AreFinished runs.space runs.deep tree.output
 
 -- The disk stands on the tree, and these are of it.
-pub record StandOver (runs : RunsState) (tree : Tree) (a : Entries) (d : DiskState) : Type 0 where
+pub record StandOver (runs : RunsState) (tree : Tree) (d : DiskState) : Type 0 where
   pub stands : StandsOn runs.sizes tree d
-  pub are_of : AreOf runs tree a d.bytes
+  pub are_of : AreOf runs tree d.bytes
 
 -- ---- the swaps, as the catalogue has them
 
@@ -148,11 +148,11 @@ pub record IsRotated (old new : Tree) : Type 0 where
   pub lane_a : new.lane_a ≡ old.lane_a
   pub lane_b : new.lane_b ≡ old.lane_b
 
--- The pass's output, table A folded over C1, is C1; or it is C1', and C1 is empty. Lane B is lane A, and lane B is empty.
-pub record IsPassSwapped (rotates : Bool) (a : Entries) (old new : Tree) : Type 0 where
+-- The pass's output, table A's list folded over C1, is C1; or it is C1', and C1 is empty. Lane B is lane A, and lane B is empty.
+pub record IsPassSwapped (rotates : Bool) (old new : Tree) : Type 0 where
   pub version : new.catalogue.version ≡ old.catalogue.version + 1
-  pub c1 : entries_of new.c1 ≡ (if rotates then [] else folded_over a (entries_of old.c1))
-  pub c1x : entries_of new.c1x ≡ (if rotates then folded_over a (entries_of old.c1) else entries_of old.c1x)
+  pub c1 : entries_of new.c1 ≡ (if rotates then [] else folded_over (replayed old.lane_a) (entries_of old.c1))
+  pub c1x : entries_of new.c1x ≡ (if rotates then folded_over (replayed old.lane_a) (entries_of old.c1) else entries_of old.c1x)
   pub c2 : new.c2 ≡ old.c2
   pub lane_a : new.lane_a ≡ old.lane_b
   pub lane_b : new.lane_b ≡ []
@@ -220,10 +220,14 @@ DeepTook least (Some old) (Some new) c1x c2 n = IsQuantum least old.at new.at c1
 DeepTook least old new c1x c2 n = ⊥
 
 -- What a quantum tells of the disk and of the lists. On an honest disk it still stands on its tree, in each image of each moment, and the merge is
--- further on by one quantum; a page that is named is damaged. It writes no page that a seat pins, in so many calls at most.
-pub record TellsQuantum (a a_after : Entries) (most : ℕ) (Took : Tree → ℕ → Type 0) (IsDamage : ℕ → List ℕ → Type 0) (old new : RunsState) (result : Result ℕ Broken) (before after : DiskState) : Type 0 where
-  pub stands : (tree : Tree) → IsTrue before.is_honest → StandOver old tree a before → StandsOn old.sizes tree after × LeavesOnly before after (HoldsTree old.sizes tree)
-  pub lists : (tree : Tree) → IsTrue before.is_honest → StandOver old tree a before → result ≢ Err Fault → (n : ℕ) × (result ≡ Ok n) × StandOver new tree a_after after × Took tree n
+-- further on by one quantum, where it was lent what is left of the tree's lists; a page that is named is damaged. It writes no page that a seat
+-- pins, in so many calls at most.
+pub record TellsQuantum (IsLent : Tree → Type 0) (most : ℕ) (Took : Tree → ℕ → Type 0) (IsDamage : ℕ → List ℕ → Type 0) (old new : RunsState)
+    (result : Result ℕ Broken) (before after : DiskState) : Type 0 where
+  pub stands : (tree : Tree) → IsTrue before.is_honest → StandOver old tree before → StandsOn old.sizes tree after
+      × LeavesOnly before after (HoldsTree old.sizes tree)
+  pub lists : (tree : Tree) → IsTrue before.is_honest → StandOver old tree before → IsLent tree → result ≢ Err Fault
+      → (n : ℕ) × (result ≡ Ok n) × StandOver new tree after × Took tree n
   pub running : OnOk result (AreRunning after.is_honest after.bytes new)
   pub damaged : (n : ℕ) → result ≡ Err (Damaged n) → IsTrue before.tells_bytes → IsDamage n after.bytes
   pub effect : Affects (beside_pins old.sizes old.space.pins) (file_length old.sizes) most before after
@@ -237,6 +241,10 @@ cursor_of_pass (Some snow) = snow.at
 abbrev pub cursor_of_deep : Option DeepState → Option Key
 cursor_of_deep None = None
 cursor_of_deep (Some merge) = merge.at
+
+-- Above the pass's cursor this table has what the tree's list of table A has.
+abbrev pub HasAllAhead : Option SnowState → Entries → Tree → Type 0
+HasAllAhead pass table tree = above (cursor_of_pass pass) (replayed tree.lane_a) ≡ above (cursor_of_pass pass) table
 
 -- The deep merge's run is C2 now: its tag is C2's, and the tag of the old C2 is free for the next run. Filters and fences go with their tags, so
 -- none of them moves.
@@ -278,10 +286,10 @@ pub record SwapsPass (old new : RunsState) : Type 0 where
   pub quanta : new.quanta ≡ old.quanta
 
 -- what a swap leaves of the disk: the old tree or the next, in each image of each moment; once it is done the disk stands on the next
-pub record LeavesSwapped (old new : RunsState) (one next : Tree) (a : Entries) (done : Bool) (before after : DiskState) : Type 0 where
+pub record LeavesSwapped (old new : RunsState) (one next : Tree) (done : Bool) (before after : DiskState) : Type 0 where
   pub each : LeavesOnly before after (HoldsEither old.sizes one next)
   pub either : StandsOnEither old.sizes one next after
-  pub stands : IsTrue done → StandOver new next a after
+  pub stands : IsTrue done → StandOver new next after
 
 -- ---- holds
 

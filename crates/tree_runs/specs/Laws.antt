@@ -41,19 +41,21 @@ RunsStay = (runs : RunsState) (honest : Bool) (old new : List ℕ) → (IsTrue h
 
 -- over the same lists, where the file still holds the tree
 abbrev pub ListsStay : Type 0
-ListsStay = (runs : RunsState) (tree : Tree) (a : Entries) (old new : List ℕ) → IsBesideRuns runs old new → AreOf runs tree a old → HoldsTree runs.sizes tree new → AreOf runs tree a new
+ListsStay = (runs : RunsState) (tree : Tree) (old new : List ℕ) → IsBesideRuns runs old new → AreOf runs tree old → HoldsTree runs.sizes tree new
+    → AreOf runs tree new
 
 -- An entry that comes into lane A joins the table that the pass takes from, ahead of its cursor.
 abbrev pub EntriesJoin : Type 0
 EntriesJoin =
-    (runs : RunsState) (tree : Tree) (a : Entries) (old new : List ℕ) (key : Key) (rec : Rec) → IsBesideRuns runs old new → is_above (cursor_of_pass runs.pass) key ≡ true → AreOf runs tree a old
-    → HoldsTree runs.sizes (appended_a (key, rec) tree) new → AreOf runs (appended_a (key, rec) tree) (with_record key rec a) new
+    (runs : RunsState) (tree : Tree) (old new : List ℕ) (key : Key) (rec : Rec) → IsBesideRuns runs old new
+    → is_above (cursor_of_pass runs.pass) key ≡ true → AreOf runs tree old
+    → HoldsTree runs.sizes (appended_a (key, rec) tree) new → AreOf runs (appended_a (key, rec) tree) new
 
 -- one that comes into lane B waits for the next pass
 abbrev pub EntriesWait : Type 0
 EntriesWait =
-    (runs : RunsState) (tree : Tree) (a : Entries) (old new : List ℕ) (key : Key) (rec : Rec) → IsBesideRuns runs old new → AreOf runs tree a old
-    → HoldsTree runs.sizes (appended_b (key, rec) tree) new → AreOf runs (appended_b (key, rec) tree) a new
+    (runs : RunsState) (tree : Tree) (old new : List ℕ) (key : Key) (rec : Rec) → IsBesideRuns runs old new → AreOf runs tree old
+    → HoldsTree runs.sizes (appended_b (key, rec) tree) new → AreOf runs (appended_b (key, rec) tree) new
 
 -- what is left for a pass grows by as much as the table does
 abbrev pub LeftGrows : Type 0

@@ -9,7 +9,7 @@ use Rattle.bloom_bits.specs.Filter.{MayHave}
 use Rattle.bloom_bits.specs.Guides.{fences_of}
 use Rattle.record_delta.specs.declared.record.Rec.{Rec}
 use Rattle.record_delta.specs.declared.record.Rec.TheVariants.{Base, Delta, Tomb}
-use Rattle.record_delta.specs.Entries.{AreSorted, Entries, is_above, over_any, record_of_key}
+use Rattle.record_delta.specs.Entries.{is_above, over_any, record_of_key, replayed}
 use Rattle.page_file.specs.Component.{RunPage, ReadsOn, entries_of}
 use Rattle.page_file.specs.declared.file.Broken.{Broken}
 use Rattle.run_cursor.specs.Lookup.{IsDamaged, IsFoundBy}
@@ -47,27 +47,27 @@ first_run floor key runs = if is_above floor key then runs.catalogue.c1 else fro
 abbrev pub first_tag : Option Key → Key → RunsState → ℕ
 first_tag floor key runs = if is_above floor key then runs.tags.c1 else runs.tags.pass
 
--- What they have of the key, where the table's list and C1's have this: C1's record; or, where the table's was dropped, this over it.
-abbrev pub first_record : Option Key → Key → (a c1 : Entries) → Option Rec
-first_record floor key a c1 = if is_above floor key then record_of_key key c1 else over_any (record_of_key key a) (record_of_key key c1)
+-- What they have of the key: C1's record; or, where the table's was dropped, that of the tree's list of table A over it.
+abbrev pub first_record : Option Key → Key → Tree → Option Rec
+first_record floor key tree =
+    if is_above floor key then record_of_key key (entries_of tree.c1)
+    else over_any (record_of_key key (replayed tree.lane_a)) (record_of_key key (entries_of tree.c1))
 
--- In this file the finished pages are those of a pass over this list of table A and this C1, up to the floor.
-pub record IsReleased (floor : Key) (runs : RunsState) (a : Entries) (c1 : List RunPage) (file : List ℕ) : Type 0 where
-  pub sorted : AreSorted a
+-- In this file the finished pages are those of a pass over the tree's list of table A and its C1, up to the floor.
+pub record IsReleased (floor : Key) (runs : RunsState) (tree : Tree) (file : List ℕ) : Type 0 where
   pub floor_is : released_by runs.pass ≡ Some floor
-  pub over : IsPassOver runs.sizes file runs.space (guide_at runs.guides runs.tags.pass) runs.pass a c1
+  pub over : IsPassOver runs.sizes file runs.space (guide_at runs.guides runs.tags.pass) runs.pass (replayed tree.lane_a) tree.c1
 
--- the floor of a table A, whose list is this: up to there what was dropped is on these pages, and where it has none nothing was
-abbrev pub IsFloorOf : Option Key → RunsState → Entries → List RunPage → List ℕ → Type 0
-IsFloorOf None runs a c1 file = ⊤
-IsFloorOf (Some floor) runs a c1 file = IsReleased floor runs a c1 file
+-- the floor of this tree's table A: up to there what was dropped is on these pages, and where it has none nothing was
+abbrev pub IsFloorOf : Option Key → RunsState → Tree → List ℕ → Type 0
+IsFloorOf None runs tree file = ⊤
+IsFloorOf (Some floor) runs tree file = IsReleased floor runs tree file
 
 -- So often C1, or the finished pages in its place, C1' and C2 of the tree are asked for the key, from the top on, below a record that is newer.
-pub record AreAsked (newer : Option Rec) (floor : Option Key) (key : Key) (runs : RunsState) (a : Entries) (tree : Tree)
-    (one two three : ℕ) : Type 0 where
+pub record AreAsked (newer : Option Rec) (floor : Option Key) (key : Key) (runs : RunsState) (tree : Tree) (one two three : ℕ) : Type 0 where
   pub first : CountsAsked newer (filter_of runs (first_tag floor key runs)) key one
-  pub second : CountsAsked (over_any newer (first_record floor key a (entries_of tree.c1))) (filter_of runs runs.tags.c1x) key two
-  pub third : CountsAsked (over_any (over_any newer (first_record floor key a (entries_of tree.c1))) (record_of_key key (entries_of tree.c1x)))
+  pub second : CountsAsked (over_any newer (first_record floor key tree)) (filter_of runs runs.tags.c1x) key two
+  pub third : CountsAsked (over_any (over_any newer (first_record floor key tree)) (record_of_key key (entries_of tree.c1x)))
       (filter_of runs runs.tags.c2) key three
 
 -- In this file the run has this record of the key on these pages: its filter and fences are those of them, and of pages behind whose first keys are

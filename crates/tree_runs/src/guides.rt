@@ -5,7 +5,7 @@ ghost use Rattle.blsm_model.specs.Components.{empty_component};
 ghost use Rattle.blsm_model.specs.Geometry.{capacity};
 ghost use Rattle.blsm_model.specs.Sizes.{Sizes};
 ghost use Rattle.bloom_bits.specs.Filter.{rounded, HasKeys};
-ghost use Rattle.record_delta.specs.Entries.{Entries};
+ghost use Rattle.record_delta.specs.Entries.{AreSorted, Entries};
 ghost use Rattle.page_space.specs.Space.{SpaceState, role_count};
 ghost use Rattle.page_file.specs.Component.{RunPage, ReadsAs};
 ghost use Rattle.snow_merge.specs.Pass.{started};
@@ -193,7 +193,8 @@ pub(crate) fn begin_snow(
     ensures guides { guides.new.items ≡ emptied role (pass_bits geo.now c1.now memory) guides.old.items }
     ensures others { KeepsOtherGuides role guides.old.items guides.new.items }
     ensures running { (sizes : Sizes) (honest : Bool) (file : List ℕ) (space : SpaceState) → PassRuns sizes honest file space (guide_at guides.new.items role) (Some result) }
-    ensures pass { (sizes : Sizes) (file : List ℕ) (space : SpaceState) (a : Entries) (pages : List RunPage) → ReadsAs sizes c1.now pages file → AreElsewhere space role pages
+    ensures pass { (sizes : Sizes) (file : List ℕ) (space : SpaceState) (a : Entries) (pages : List RunPage) → AreSorted a
+        → ReadsAs sizes c1.now pages file → AreElsewhere space role pages
         → IsPassOver sizes file space (guide_at guides.new.items role) (Some result) a pages }
 {
     let weight = c1.weight.saturating_add(memory).saturating_add(geo.half());

@@ -2,7 +2,6 @@
 ghost use Rattle.std.specs.Prelude.{◌≡◌, ◌+◌, ◌<◌, ◌≤◌, ℕ, Bool, List, Some, length, IfOk, OnOk, OnErr};
 ghost use Rattle.blsm_model.specs.Format.{callers};
 ghost use Rattle.blsm_model.specs.Geometry.{capacity};
-ghost use Rattle.record_delta.specs.Entries.{Entries};
 ghost use Rattle.page_file.specs.Component.{entries_of};
 ghost use Rattle.page_space.specs.PageSet.{none_of};
 ghost use Rattle.page_space.specs.Space.{pins_of, role_count};
@@ -43,7 +42,7 @@ impl Runs {
         requires live { self.old.catalogue.c1.weight + self.old.catalogue.c1x.weight + self.old.catalogue.c2.weight ≤ capacity self.old.sizes }
         ensures hold { IfOk result (IsHeldFrom self.old low.now high.now b.now.entries a.now.entries) }
         // In a file that holds a tree it has the rows of its lists to give, from pages that the seat pins.
-        ensures rows { (tree : Tree) (table : Entries) (file : List ℕ) → AreOf self.old tree table file
+        ensures rows { (tree : Tree) (file : List ℕ) → AreOf self.old tree file
             → IfOk result (λ hold. HasHeld self.old.sizes self.new.space.pins seat (Some hold)
             (Some (rows_in (record { b = b.now.entries; a = a.now.entries; c1 = entries_of tree.c1; c1x = entries_of tree.c1x; c2 = entries_of tree.c2 }) low.now high.now)) file) }
         // It has no more pages than a hold may pin.
@@ -52,7 +51,7 @@ impl Runs {
         ensures exact { OnOk result (PinsComponents seat self.old self.new) }
         ensures kept { OnErr result (self.new ≡ self.old) }
         ensures running { (honest : Bool) (file : List ℕ) → AreRunning honest file self.old → AreRunning honest file self.new }
-        ensures lists { (tree : Tree) (table : Entries) (file : List ℕ) → AreOf self.old tree table file → AreOf self.new tree table file }
+        ensures lists { (tree : Tree) (file : List ℕ) → AreOf self.old tree file → AreOf self.new tree file }
     {
         let c1 = self.part_from(&self.catalogue.c1, self.c1, low);
         let c1x = self.part_from(&self.catalogue.c1x, self.c1x, low);
@@ -90,7 +89,7 @@ impl Runs {
         ensures pins { Repins seat self.old self.new }
         ensures none { pins_of self.new.space seat ≡ none_of self.old.space.pages }
         ensures running { (honest : Bool) (file : List ℕ) → AreRunning honest file self.old → AreRunning honest file self.new }
-        ensures lists { (tree : Tree) (table : Entries) (file : List ℕ) → AreOf self.old tree table file → AreOf self.new tree table file }
+        ensures lists { (tree : Tree) (file : List ℕ) → AreOf self.old tree file → AreOf self.new tree file }
     {
         self.space.unpin(seat);
     }

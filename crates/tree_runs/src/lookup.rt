@@ -1,7 +1,7 @@
 //! Lookups in the components.
 ghost use Rattle.std.specs.Prelude.{◌≡◌, ◌≢◌, ◌+◌, ◌↔◌, ℕ, Option, Some, Ok, Err, length, IsTrue, IfOk};
 ghost use Rattle.blsm_model.specs.Geometry.{file_length};
-ghost use Rattle.record_delta.specs.Entries.{Entries, is_above as is_above_key, over_any, record_of_key};
+ghost use Rattle.record_delta.specs.Entries.{is_above as is_above_key, over_any, record_of_key};
 ghost use Rattle.page_space.specs.Space.{role_count};
 ghost use Rattle.page_file.specs.Component.{entries_of};
 ghost use Rattle.page_file.specs.File.{Reads};
@@ -70,10 +70,10 @@ impl Runs {
     ) -> Result<(), Broken>
         requires runs { AreRuns self.now }
         requires length { IsTrue (D.state disk.old).tells_bytes → length (D.state disk.old).bytes ≡ file_length self.now.sizes }
-        ensures lists { (tree : Tree) (a : Entries) → IsTrue (D.state disk.old).is_honest → HoldsTree self.now.sizes tree (D.state disk.old).bytes
+        ensures lists { (tree : Tree) → IsTrue (D.state disk.old).is_honest → HoldsTree self.now.sizes tree (D.state disk.old).bytes
             → tree.catalogue ≡ self.now.catalogue → AreGuided self.now.guides self.now.tags tree
-            → IsFloorOf floor.now self.now a tree.c1 (D.state disk.old).bytes → result ≢ Err Broken.Fault
-            → found_by result found.new ≡ Ok (over_any found.old (over_any (first_record floor.now key.now a (entries_of tree.c1))
+            → IsFloorOf floor.now self.now tree (D.state disk.old).bytes → result ≢ Err Broken.Fault
+            → found_by result found.new ≡ Ok (over_any found.old (over_any (first_record floor.now key.now tree)
             (over_any (record_of_key key.now (entries_of tree.c1x)) (record_of_key key.now (entries_of tree.c2))))) }
 
         // Whatever the components read as, the answer is what the pages that are asked say of the key, and the first of them that is damaged is
@@ -88,10 +88,10 @@ impl Runs {
             → CountsYes (filter_of self.now self.now.tags.c1x) key.now c1x → CountsYes (filter_of self.now self.now.tags.c2) key.now c2
             → Reads (file_length self.now.sizes) (c1 + c1x + c2) result (D.state disk.old) (D.state disk.new) }
         // Where it reads the tree, it asks no component below the first base or tombstone.
-        ensures ends { (tree : Tree) (a : Entries) (c1 c1x c2 : ℕ) → IsTrue (D.state disk.old).is_honest
+        ensures ends { (tree : Tree) (c1 c1x c2 : ℕ) → IsTrue (D.state disk.old).is_honest
             → HoldsTree self.now.sizes tree (D.state disk.old).bytes → tree.catalogue ≡ self.now.catalogue
-            → AreGuided self.now.guides self.now.tags tree → IsFloorOf floor.now self.now a tree.c1 (D.state disk.old).bytes
-            → AreAsked found.old floor.now key.now self.now a tree c1 c1x c2
+            → AreGuided self.now.guides self.now.tags tree → IsFloorOf floor.now self.now tree (D.state disk.old).bytes
+            → AreAsked found.old floor.now key.now self.now tree c1 c1x c2
             → Reads (file_length self.now.sizes) (c1 + c1x + c2) result (D.state disk.old) (D.state disk.new) }
         ensures reads { Reads (file_length self.now.sizes) 3 result (D.state disk.old) (D.state disk.new) }
         ensures none { HidesOlder found.old → disk.new ≡ disk.old }

@@ -1,12 +1,14 @@
 //! Quanta of the merges.
-ghost use Rattle.std.specs.Prelude.{◌≡◌, ◌+◌, ◌/◌, length, IsTrue, IsErr, IsSome, IfOk, OnOk};
+ghost use Rattle.std.specs.Prelude.{◌≡◌, ⊤, ◌+◌, ◌/◌, length, IsTrue, IsErr, IsSome, IfOk, OnOk};
 ghost use Rattle.disk_trait.specs.Effects.{Affects};
 ghost use Rattle.blsm_model.specs.Geometry.{file_length};
+ghost use Rattle.record_delta.specs.Entries.{replayed};
 ghost use Rattle.page_file.specs.Component.{entries_of};
 ghost use Rattle.tree_runs.specs.Runs.{AreRunning, Fits};
 ghost use Rattle.tree_runs.specs.Damage.{PassMeetsDamage, DeepMeetsDamage};
 ghost use Rattle.tree_runs.specs.Writing.{region_of_pass, region_of_deep};
-ghost use Rattle.tree_runs.specs.Holding.{CountsMore, KeepsAllButPass, KeepsAllButDeep, PassTakes, PassTook, DeepTakes, DeepTook, TellsQuantum, cursor_of_pass, cursor_of_deep};
+ghost use Rattle.tree_runs.specs.Holding.{CountsMore, HasAllAhead, KeepsAllButPass, KeepsAllButDeep, PassTakes, PassTook, DeepTakes, DeepTook};
+ghost use Rattle.tree_runs.specs.Holding.{TellsQuantum, cursor_of_pass, cursor_of_deep};
 
 use crate::runs::Runs;
 use disk_trait::Disk;
@@ -25,8 +27,8 @@ impl Runs {
         requires length { IsTrue (D.state disk.old).tells_bytes → length (D.state disk.old).bytes ≡ file_length self.old.sizes }
         requires running { AreRunning (D.state disk.old).is_honest (D.state disk.old).bytes self.old }
         requires fits { Fits self.old a.now.entries }
-        ensures told { TellsQuantum a.now.entries a.now.entries (self.old.sizes.quantum / 7 + 2)
-            (λ tree n. PassTook self.old.sizes.quantum self.old.pass self.new.pass a.now.entries (entries_of tree.c1) n)
+        ensures told { TellsQuantum (HasAllAhead self.old.pass a.now.entries) (self.old.sizes.quantum / 7 + 2)
+            (λ tree n. PassTook self.old.sizes.quantum self.old.pass self.new.pass (replayed tree.lane_a) (entries_of tree.c1) n)
             (PassMeetsDamage self.new.sizes self.new.pass) self.old self.new result (D.state disk.old) (D.state disk.new) }
         // It writes the page that was open, and pages that the run takes: none that was closed.
         ensures writes { Affects (region_of_pass self.old.sizes self.old.space self.new.space self.old.pass) (file_length self.old.sizes)
@@ -66,7 +68,7 @@ impl Runs {
         requires length { IsTrue (D.state disk.old).tells_bytes → length (D.state disk.old).bytes ≡ file_length self.old.sizes }
         requires running { AreRunning (D.state disk.old).is_honest (D.state disk.old).bytes self.old }
         requires fits { Fits self.old a.now.entries }
-        ensures told { TellsQuantum a.now.entries a.now.entries (self.old.sizes.quantum / 4 + 3)
+        ensures told { TellsQuantum (λ tree. ⊤) (self.old.sizes.quantum / 4 + 3)
             (λ tree n. DeepTook self.old.sizes.quantum self.old.deep self.new.deep (entries_of tree.c1x) (entries_of tree.c2) n)
             (DeepMeetsDamage self.new.sizes self.new.deep) self.old self.new result (D.state disk.old) (D.state disk.new) }
         // It writes the page that was open, and pages that the run takes: none that was closed.

@@ -2,7 +2,6 @@
 ghost use Rattle.std.specs.Prelude.{◌≡◌, ◌↔◌, ◌<◌, ◌+◌, ◌∷◌, [], ℕ, Bool, List, Some, None, IsTrue, is_some};
 ghost use Rattle.blsm_model.specs.Components.{empty_component};
 ghost use Rattle.blsm_model.specs.Sizes.{Sizes};
-ghost use Rattle.record_delta.specs.Entries.{Entries};
 ghost use Rattle.page_space.specs.Space.{SpaceState};
 ghost use Rattle.page_file.specs.Component.{RunPage, ReadsAs};
 ghost use Rattle.tree_file.specs.Tree.{Tree, HoldsTree};
@@ -109,10 +108,10 @@ impl Runs {
         ensures opened { result ≡ opened_from geometry.now catalogue space guides ahead }
         ensures running { (honest : Bool) (file : List ℕ) → IsAheadOn geometry.now honest file space first_tags.deep (guide_at guides first_tags.deep) ahead
             → AreRunning honest file result }
-        ensures lists { (tree : Tree) (a : Entries) (file : List ℕ) → HoldsTree geometry.now tree file → tree.catalogue ≡ catalogue
+        ensures lists { (tree : Tree) (file : List ℕ) → HoldsTree geometry.now tree file → tree.catalogue ≡ catalogue
             → AreTagged space first_tags.c1 tree.c1 → AreTagged space first_tags.c1x tree.c1x → AreTagged space first_tags.c2 tree.c2
             → AreGuided guides first_tags tree
-            → IsAheadOver geometry.now file space first_tags.deep (guide_at guides first_tags.deep) tree.c1x tree.c2 ahead → AreOf result tree a file }
+            → IsAheadOver geometry.now file space first_tags.deep (guide_at guides first_tags.deep) tree.c1x tree.c2 ahead → AreOf result tree file }
     {
         let deep = Role::new(4);
         let mut guides = guides.guides;
@@ -149,7 +148,7 @@ impl Runs {
         requires runs { AreRuns self.old }
         ensures begun { self.new ≡ pass_begun memory self.old }
         ensures running { (honest : Bool) (file : List ℕ) → AreRunning honest file self.old → AreRunning honest file self.new }
-        ensures lists { (tree : Tree) (a : Entries) (file : List ℕ) → AreOf self.old tree a file → AreOf self.new tree a file }
+        ensures lists { (tree : Tree) (file : List ℕ) → AreOf self.old tree file → AreOf self.new tree file }
     {
         let merges = &mut *self.merges;
         merges.pass = Some(begin_snow(

@@ -6,7 +6,7 @@ ghost use Rattle.blsm_model.specs.Geometry.{file_length};
 ghost use Rattle.blsm_model.specs.Lanes.{AreRoles};
 ghost use Rattle.bloom_bits.specs.Guides.{Guide};
 ghost use Rattle.catalog_swap.specs.Text.{HasKey};
-ghost use Rattle.record_delta.specs.Entries.{Entries, folded_over, settled_entries};
+ghost use Rattle.record_delta.specs.Entries.{Entries, above, folded_over, replayed, settled_entries};
 ghost use Rattle.page_file.specs.Component.{RunPage, HasList, entries_of};
 ghost use Rattle.page_file.specs.File.{Writes};
 ghost use Rattle.run_writer.specs.Writer.{role_region};
@@ -15,7 +15,7 @@ ghost use Rattle.tree_file.specs.Tree.{Tree, HoldsTree};
 ghost use Rattle.tree_file.specs.Places.{StandsOn, Becomes, ReadsNext, with_components, with_pass};
 ghost use Rattle.tree_runs.specs.Runs.{AreRuns, AreRunning, PassRuns, DeepRuns, fences_of_tag, filter_of, guide_at, left_for_pass, left_for_deep, made_by_pass, made_by_deep};
 ghost use Rattle.tree_runs.specs.Holding.{AreOf, AreTagged, IsGuidedBy, IsPassOver, IsDeepOver, StandOver, LeavesSwapped, SwapsDeep, SwapsPass, Rotates, IsDeepSwapped, IsPassSwapped, IsRotated, is_full, commit_region, with_deep_run, with_pass_run, with_rotation};
-ghost use Rattle.tree_runs.specs.Holding.{AreFinished, progress_of};
+ghost use Rattle.tree_runs.specs.Holding.{AreFinished, HasAllAhead, cursor_of_pass, progress_of};
 ghost use Rattle.tree_runs.specs.Swaps.{MayFollow};
 ghost use Rattle.tree_runs.specs.Writing.{open_of_deep, open_of_pass};
 
@@ -62,8 +62,9 @@ impl Runs {
         requires version { self.old.catalogue.version + 1 < 2 ^ 64 }
         requires roles { AreRoles self.old.catalogue.lanes }
 
-        ensures lists { (tree : Tree) (a : Entries) → IsTrue (D.state disk.old).is_honest → StandOver self.old tree a (D.state disk.old)
-            → (next : Tree) × IsDeepSwapped tree next × LeavesSwapped self.old self.new tree next a (is_ok result) (D.state disk.old) (D.state disk.new) }
+        ensures lists { (tree : Tree) → IsTrue (D.state disk.old).is_honest → StandOver self.old tree (D.state disk.old)
+            → (next : Tree) × IsDeepSwapped tree next × LeavesSwapped self.old self.new tree next (is_ok result) (D.state disk.old)
+                (D.state disk.new) }
         ensures swaps { OnOk result (SwapsDeep self.old self.new) }
         ensures running { OnOk result (AreRunning (D.state disk.new).is_honest (D.state disk.new).bytes self.new) }
         ensures kept { OnErr result (self.new ≡ self.old) }
@@ -91,9 +92,10 @@ impl Runs {
         requires version { self.old.catalogue.version + 1 < 2 ^ 64 }
         requires roles { AreRoles self.old.catalogue.lanes }
 
-        ensures lists { (tree : Tree) → IsTrue (D.state disk.old).is_honest → StandOver self.old tree a.now.entries (D.state disk.old)
-            → (next : Tree) × IsPassSwapped (is_full self.old.sizes (made_by_pass self.old.pass)) a.now.entries tree next
-            × ((table : Entries) → LeavesSwapped self.old self.new tree next table (is_ok result) (D.state disk.old) (D.state disk.new)) }
+        ensures lists { (tree : Tree) → IsTrue (D.state disk.old).is_honest → StandOver self.old tree (D.state disk.old)
+            → HasAllAhead self.old.pass a.now.entries tree
+            → (next : Tree) × IsPassSwapped (is_full self.old.sizes (made_by_pass self.old.pass)) tree next
+            × LeavesSwapped self.old self.new tree next (is_ok result) (D.state disk.old) (D.state disk.new) }
         ensures rotated { IfOk result (λ rotated. rotated ≡ is_full self.old.sizes (made_by_pass self.old.pass)) }
         ensures swaps { OnOk result (SwapsPass self.old self.new) }
         ensures running { OnOk result (AreRunning (D.state disk.new).is_honest (D.state disk.new).bytes self.new) }
@@ -190,8 +192,8 @@ impl Runs {
         requires version { self.old.catalogue.version + 1 < 2 ^ 64 }
         requires roles { AreRoles self.old.catalogue.lanes }
 
-        ensures lists { (tree : Tree) (a : Entries) → IsTrue (D.state disk.old).is_honest → StandOver self.old tree a (D.state disk.old)
-            → (next : Tree) × IsRotated tree next × LeavesSwapped self.old self.new tree next a (is_ok result) (D.state disk.old) (D.state disk.new) }
+        ensures lists { (tree : Tree) → IsTrue (D.state disk.old).is_honest → StandOver self.old tree (D.state disk.old)
+            → (next : Tree) × IsRotated tree next × LeavesSwapped self.old self.new tree next (is_ok result) (D.state disk.old) (D.state disk.new) }
         ensures rotates { OnOk result (Rotates self.old self.new) }
         ensures running { OnOk result (AreRunning (D.state disk.new).is_honest (D.state disk.new).bytes self.new) }
         ensures kept { OnErr result (self.new ≡ self.old) }
@@ -212,10 +214,11 @@ impl Runs {
         ensures runs { AreRuns self.new }
         ensures goes_on { (honest : Bool) (file : List ℕ) → PassRuns self.old.sizes honest file self.old.space (guide_at self.old.guides self.old.tags.pass) self.old.pass
             → PassRuns self.old.sizes honest file self.new.space (guide_at self.new.guides self.new.tags.pass) self.new.pass }
-        ensures lists { (tree : Tree) (run : List RunPage) (a : Entries) (file : List ℕ) → HoldsTree self.old.sizes (with_components next tree.c1 [] run tree) file
+        ensures lists { (tree : Tree) (run : List RunPage) (file : List ℕ) → HoldsTree self.old.sizes (with_components next tree.c1 [] run tree) file
             → AreTagged self.old.space self.old.tags.c1 tree.c1 → AreTagged self.old.space self.old.tags.deep run
             → IsGuidedBy (guide_at self.old.guides self.old.tags.c1) tree.c1 → IsGuidedBy (guide_at self.old.guides self.old.tags.deep) run
-            → IsPassOver self.old.sizes file self.old.space (guide_at self.old.guides self.old.tags.pass) self.old.pass a tree.c1 → AreOf self.new (with_components next tree.c1 [] run tree) a file }
+            → IsPassOver self.old.sizes file self.old.space (guide_at self.old.guides self.old.tags.pass) self.old.pass (replayed tree.lane_a) tree.c1
+            → AreOf self.new (with_components next tree.c1 [] run tree) file }
     {
         self.catalogue = next;
         self.space.release(self.c1x);
@@ -234,11 +237,12 @@ impl Runs {
         ensures runs { AreRuns self.new }
         ensures goes_on { (honest : Bool) (file : List ℕ) → DeepRuns self.old.sizes honest file self.old.space (guide_at self.old.guides self.old.tags.deep) self.old.deep
             → DeepRuns self.old.sizes honest file self.new.space (guide_at self.new.guides self.new.tags.deep) self.new.deep }
-        ensures lists { (tree : Tree) (run output : List RunPage) (a : Entries) (file : List ℕ) → HoldsTree self.old.sizes (with_pass next run tree.c1x tree.c2 output tree) file
+        ensures lists { (tree : Tree) (run output : List RunPage) (file : List ℕ)
+            → HoldsTree self.old.sizes (with_pass next run tree.c1x tree.c2 output tree) file
             → AreTagged self.old.space self.old.tags.c1x tree.c1x → AreTagged self.old.space self.old.tags.c2 tree.c2 → AreTagged self.old.space self.old.tags.pass run
             → IsGuidedBy (guide_at self.old.guides self.old.tags.pass) run → IsGuidedBy (guide_at self.old.guides self.old.tags.c1x) tree.c1x → IsGuidedBy (guide_at self.old.guides self.old.tags.c2) tree.c2
             → IsDeepOver self.old.sizes file self.old.space (guide_at self.old.guides self.old.tags.deep) self.old.deep tree.c1x tree.c2
-            → AreFinished self.old.space self.old.deep output → AreOf self.new (with_pass next run tree.c1x tree.c2 output tree) a file }
+            → AreFinished self.old.space self.old.deep output → AreOf self.new (with_pass next run tree.c1x tree.c2 output tree) file }
     {
         self.catalogue = next;
         self.space.release(self.c1);
@@ -256,10 +260,10 @@ impl Runs {
         ensures swaps { SwapsPass self.old self.new }
         ensures runs { AreRuns self.new }
         ensures goes_on { (honest : Bool) (file : List ℕ) → DeepRuns self.old.sizes honest file self.new.space (guide_at self.new.guides self.new.tags.deep) self.new.deep }
-        ensures lists { (tree : Tree) (run : List RunPage) (a : Entries) (file : List ℕ) → HoldsTree self.old.sizes (with_pass next [] run tree.c2 [] tree) file
+        ensures lists { (tree : Tree) (run : List RunPage) (file : List ℕ) → HoldsTree self.old.sizes (with_pass next [] run tree.c2 [] tree) file
             → AreTagged self.old.space self.old.tags.c2 tree.c2 → AreTagged self.old.space self.old.tags.pass run
             → IsGuidedBy (guide_at self.old.guides self.old.tags.c2) tree.c2 → IsGuidedBy (guide_at self.old.guides self.old.tags.pass) run
-            → AreOf self.new (with_pass next [] run tree.c2 [] tree) a file }
+            → AreOf self.new (with_pass next [] run tree.c2 [] tree) file }
     {
         self.catalogue = next;
         self.space.release(self.c1);
@@ -283,10 +287,10 @@ impl Runs {
         ensures rotates { Rotates self.old self.new }
         ensures runs { AreRuns self.new }
         ensures goes_on { (honest : Bool) (file : List ℕ) → DeepRuns self.old.sizes honest file self.new.space (guide_at self.new.guides self.new.tags.deep) self.new.deep }
-        ensures lists { (tree : Tree) (a : Entries) (file : List ℕ) → HoldsTree self.old.sizes (with_components next [] tree.c1 tree.c2 tree) file
+        ensures lists { (tree : Tree) (file : List ℕ) → HoldsTree self.old.sizes (with_components next [] tree.c1 tree.c2 tree) file
             → AreTagged self.old.space self.old.tags.c1 tree.c1 → AreTagged self.old.space self.old.tags.c2 tree.c2
             → IsGuidedBy (guide_at self.old.guides self.old.tags.c1) tree.c1 → IsGuidedBy (guide_at self.old.guides self.old.tags.c2) tree.c2
-            → AreOf self.new (with_components next [] tree.c1 tree.c2 tree) a file }
+            → AreOf self.new (with_components next [] tree.c1 tree.c2 tree) file }
     {
         self.catalogue = next;
         (self.c1, self.c1x) = (self.c1x, self.c1);
@@ -325,8 +329,12 @@ impl Runs {
         requires length { IsTrue (D.state disk.old).tells_bytes → length (D.state disk.old).bytes ≡ file_length self.old.sizes }
         requires running { AreRunning (D.state disk.old).is_honest (D.state disk.old).bytes self.old }
         ensures component { IfOk result (λ c. c ≡ made_by_pass self.old.pass) }
-        ensures list { (c1 : List RunPage) → IsTrue (D.state disk.old).is_honest → IsPassOver self.old.sizes (D.state disk.old).bytes self.old.space (guide_at self.old.guides self.old.tags.pass) self.old.pass a.now.entries c1
-            → IfOk result (λ c. (list : HasList self.old.sizes c (folded_over a.now.entries (entries_of c1)) (D.state disk.new).bytes) × AreTagged self.old.space self.old.tags.pass list.pages × Guide (filter_of self.old self.old.tags.pass) (fences_of_tag self.old self.old.tags.pass) list.pages) }
+        ensures list { (all : Entries) (c1 : List RunPage) → IsTrue (D.state disk.old).is_honest
+            → above (cursor_of_pass self.old.pass) all ≡ above (cursor_of_pass self.old.pass) a.now.entries
+            → IsPassOver self.old.sizes (D.state disk.old).bytes self.old.space (guide_at self.old.guides self.old.tags.pass) self.old.pass all c1
+            → IfOk result (λ c. (list : HasList self.old.sizes c (folded_over all (entries_of c1)) (D.state disk.new).bytes)
+            × AreTagged self.old.space self.old.tags.pass list.pages
+            × Guide (filter_of self.old self.old.tags.pass) (fences_of_tag self.old self.old.tags.pass) list.pages) }
         ensures same { self.new ≡ self.old }
         ensures writes { Writes (role_region self.old.sizes self.old.space self.old.tags.pass) (file_length self.old.sizes) result (D.state disk.old) (D.state disk.new) }
         ensures opens { Affects (open_of_pass self.old.sizes self.old.pass) (file_length self.old.sizes) 1 (D.state disk.old) (D.state disk.new) }

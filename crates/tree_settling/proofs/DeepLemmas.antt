@@ -14,8 +14,7 @@ use Rattle.blsm_model.specs.declared.key.Key.{Key}
 use Rattle.blsm_model.specs.declared.row.Value.{Value}
 use Rattle.catalog_swap.specs.declared.catalog.Catalog.{Catalog}
 use Rattle.deep_merge.specs.Merge.{DeepState}
-use Rattle.mem_table.specs.Tables.{Contents}
-use Rattle.record_delta.specs.Entries.{Entries}
+use Rattle.mem_table.specs.Tables.{Contents, IsWhole}
 use Rattle.tree_file.specs.Tree.{Tree, HoldsTree, FitsSizes}
 use Rattle.tree_file.specs.Places.{HoldsEither}
 use Rattle.tree_log.specs.Log.{LogState, IsLogOf, weight_of_tables}
@@ -36,16 +35,18 @@ use Rattle.tree_settling.specs.Settling.{
 }
 use Rattle.tree_settling.proofs.LightLemmas.{light_unnamed}
 use Rattle.tree_settling.proofs.NextLemmas.{Follows, deep_follows}
-use Rattle.tree_settling.proofs.StepLemmas.{honest_still, kept_swapped, stays_long}
+use Rattle.tree_settling.proofs.StepLemmas.{honest_still, kept_swapped, stays_long, table_of}
 use Rattle.tree_settling.proofs.TakenLemmas.{goes_then}
 
 -- what is known of it once the swap has answered
 pub record IsDeepSwap (done : Bool) (a : Contents) (runs mid new : RunsState) (log : LogState) (before d after : DiskState) : Type 0 where
   pub timed : IsTimed d
   pub table : a ≡ log.a
+  pub whole : IsWhole log.a
   pub goes : MergesGoOn a.entries runs mid before d
   pub pass : mid.pass ≡ runs.pass
-  pub lists : (tree : Tree) (table : Entries) → IsTrue d.is_honest → StandOver mid tree table d → (next : Tree) × IsDeepSwapped tree next × LeavesSwapped mid new tree next table done d after
+  pub lists : (tree : Tree) → IsTrue d.is_honest → StandOver mid tree d → (next : Tree) × IsDeepSwapped tree next
+      × LeavesSwapped mid new tree next done d after
   pub few : CallsFew (taking_calls runs.sizes (left_for_deep runs.deep)) before d
   pub effect : Affects anywhere (file_length mid.sizes) 9 d after
 
@@ -55,15 +56,16 @@ log_keeps old new log roles a b is = grind (arith, common_steps, nat_tests)
 
 module _ {done : Bool} {a : Contents} {runs mid new : RunsState} {log : LogState} {before d after : DiskState} (swap : IsDeepSwap done a runs mid new log before d after) where
   -- the disk still stands on the tree before the swap
-  over_mid : (pairs : List (Key × Value)) → IsTrue before.is_honest → (shows : ShowsMap runs log pairs before) → StandOver mid shows.tree a.entries d
-  over_mid pairs honest shows = swap.goes.stands shows.tree honest (subst (λ (t : Contents). StandOver runs shows.tree t.entries before) (sym swap.table) shows.over)
+  over_mid : (pairs : List (Key × Value)) → IsTrue before.is_honest → (shows : ShowsMap runs log pairs before) → StandOver mid shows.tree d
+  over_mid pairs honest shows =
+      swap.goes.stands shows.tree honest (table_of shows.tree log a swap.table swap.whole shows.log_of) shows.over
 
   -- and leaves it for one that follows it
   next_of : (pairs : List (Key × Value)) → IsTrue before.is_honest → (shows : ShowsMap runs log pairs before)
-      → (next : Tree) × IsDeepSwapped shows.tree next × LeavesSwapped mid new shows.tree next log.a.entries done d after × Follows runs.sizes shows.tree next
+      → (next : Tree) × IsDeepSwapped shows.tree next × LeavesSwapped mid new shows.tree next done d after × Follows runs.sizes shows.tree next
   next_of pairs honest shows =
       let over = over_mid pairs honest shows in
-      let x = swap.lists shows.tree log.a.entries (honest_still swap.goes.effect honest) (subst (λ (t : Contents). StandOver mid shows.tree t.entries d) swap.table over) in (
+      let x = swap.lists shows.tree (honest_still swap.goes.effect honest) over in (
         x.0,
         x.1,
         x.2,
@@ -75,7 +77,7 @@ module _ {done : Bool} {a : Contents} {runs mid new : RunsState} {log : LogState
     keeps = λ pairs honest shows.
         let x = next_of pairs honest shows in
         kept_swapped runs.sizes shows.tree x.0 pairs before d after shows.fits shows.map_is x.3
-        (swap.goes.leaves shows.tree honest (subst (λ (t : Contents). StandOver runs shows.tree t.entries before) (sym swap.table) shows.over))
+        (swap.goes.leaves shows.tree honest (table_of shows.tree log a swap.table swap.whole shows.log_of) shows.over)
         (subst (λ (s : Sizes). LeavesOnly d after (HoldsEither s shows.tree x.0)) swap.goes.sizes x.2.each)
         (subst (λ (s : Sizes). HoldsEither s shows.tree x.0 after.bytes) swap.goes.sizes x.2.either.reads);
     effect = affects_counted (omega (arith, swap.few, swap.effect.calls, light.run)) (goes_then swap.timed swap.goes swap.effect);

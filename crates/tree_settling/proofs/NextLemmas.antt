@@ -99,7 +99,8 @@ passed lists = record { b = []; a = lists.b; c1 = folded_over lists.a lists.c1; 
 
 -- It is C1's place or that of C1', which is empty, that the fold of table A over C1 takes: C1's only where it is below the mark.
 pub pass_follows : (rotates : Bool) (sizes : Sizes) (old new : Tree) (file : List ℕ) → HoldsTree sizes old file → FitsSizes sizes old → old.c1x ≡ []
-    → (rotates ≡ false → entries_weight (folded_over (replayed old.lane_a) (entries_of old.c1)) < c1_mark sizes) → IsPassSwapped rotates (replayed old.lane_a) old new → Follows sizes old new
+    → (rotates ≡ false → entries_weight (folded_over (replayed old.lane_a) (entries_of old.c1)) < c1_mark sizes) → IsPassSwapped rotates old new
+        → Follows sizes old new
 pass_follows rotates sizes old new file holds fits none below swapped = by rotates below swapped
   where
     five : AreFive (lists_of old)
@@ -123,7 +124,8 @@ pass_follows rotates sizes old new file holds fits none below swapped = by rotat
         (subst (λ (l : Entries). ReplaysWithin sizes (components_weight new) old.lane_b l) (sym is_b)
         (replays_turned sizes (components_weight old) (components_weight new) old.lane_a old.lane_b light fits.replays))
 
-    by : (b : Bool) → (b ≡ false → entries_weight (folded_over (replayed old.lane_a) (entries_of old.c1)) < c1_mark sizes) → IsPassSwapped b (replayed old.lane_a) old new → Follows sizes old new
+    by : (b : Bool) → (b ≡ false → entries_weight (folded_over (replayed old.lane_a) (entries_of old.c1)) < c1_mark sizes) → IsPassSwapped b old new
+        → Follows sizes old new
     by true below swapped =
         let light : components_weight new ≤ components_weight old + entries_weight (replayed old.lane_a) =
         omega (arith, ap entries_weight swapped.c1, ap entries_weight swapped.c1x, ap (λ (ps : List RunPage). entries_weight (entries_of ps)) swapped.c2, light_fold) in

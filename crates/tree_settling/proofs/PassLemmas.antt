@@ -18,19 +18,20 @@ use Rattle.catalog_swap.specs.declared.catalog.Catalog.{Catalog}
 use Rattle.deep_merge.specs.Merge.{DeepState, started as deep_started}
 use Rattle.mem_table.specs.Tables.{Contents, IsWhole}
 use Rattle.page_file.specs.Component.{RunPage, entries_of}
-use Rattle.record_delta.specs.Entries.{Entries, entries_weight, folded_over, replayed}
+use Rattle.record_delta.specs.Entries.{Entries, above, entries_weight, folded_over, replayed}
 use Rattle.merge_ends.proofs.GroupLemmas.{above_none}
 use Rattle.snow_merge.specs.Pass.{SnowState}
 use Rattle.snow_merge.proofs.PassLemmas.{above_light, pushed_all}
 use Rattle.tree_file.specs.Tree.{Tree, HoldsTree, FitsSizes}
 use Rattle.tree_file.specs.Places.{HoldsEither, StandsOn, TurnsRoles}
 use Rattle.tree_log.specs.Log.{LogState, IsLogOf, listed_in_a, turned_log, weight_of_tables}
-use Rattle.tree_log.proofs.RestLemmas.{whole_list}
 use Rattle.tree_runs.specs.Runs.{GuideState, RunsState, AreRunning, Fits, guide_at, left_for_deep, left_for_pass, made_by_deep, made_by_pass, pass_begun}
-use Rattle.tree_runs.specs.Holding.{AreOf, CountsMore, IsDeepOver, IsPassOver, IsPassSwapped, LeavesSwapped, StandOver, SwapsPass, is_full, progress_of, with_pass_run}
+use Rattle.tree_runs.specs.Holding.{AreOf, CountsMore, HasAllAhead, IsDeepOver, IsPassOver, IsPassSwapped, LeavesSwapped, StandOver, SwapsPass}
+use Rattle.tree_runs.specs.Holding.{cursor_of_pass, is_full, progress_of, with_pass_run}
 use Rattle.tree_settling.specs.Counting.{CountsQuanta, HasPassed, TakeQuanta}
 use Rattle.tree_settling.specs.Settling.{
   CallsFew,
+  IsTableOf,
   merge_calls,
   settling_weight,
   taking_calls,
@@ -43,17 +44,17 @@ use Rattle.tree_settling.specs.Settling.{
 }
 use Rattle.tree_settling.proofs.LightLemmas.{light_unnamed}
 use Rattle.tree_settling.proofs.NextLemmas.{Follows, pass_follows}
-use Rattle.tree_settling.proofs.StepLemmas.{honest_still, kept_swapped, stays_long}
+use Rattle.tree_settling.proofs.StepLemmas.{honest_still, kept_swapped, stays_long, table_of}
 use Rattle.tree_settling.proofs.TakenLemmas.{goes_then}
 
 -- ---- a pass that begins
 
 -- it runs over the trees that the components are of
-pub begun_over : (memory : ℕ) (runs begun : RunsState) (tree : Tree) (a : Entries) (d : DiskState) → begun ≡ pass_begun memory runs
-    → ((tree : Tree) (a : Entries) (file : List ℕ) → AreOf runs tree a file → AreOf begun tree a file) → StandOver runs tree a d → StandOver begun tree a d
-begun_over memory runs begun tree a d is lists over = record {
+pub begun_over : (memory : ℕ) (runs begun : RunsState) (tree : Tree) (d : DiskState) → begun ≡ pass_begun memory runs
+    → ((tree : Tree) (file : List ℕ) → AreOf runs tree file → AreOf begun tree file) → StandOver runs tree d → StandOver begun tree d
+begun_over memory runs begun tree d is lists over = record {
   stands = subst (λ (s : Sizes). StandsOn s tree d) (sym (ap (λ (r : RunsState). r.sizes) is)) over.stands;
-  are_of = lists tree a d.bytes over.are_of;
+  are_of = lists tree d.bytes over.are_of;
 }
 
 -- and has room
@@ -130,13 +131,13 @@ pub record IsPassSwap (done : Bool) (memory : ℕ) (a : Contents) (runs begun mi
   pub whole : IsWhole log.a
   pub rests : runs.deep ≡ None
   pub begins : begun ≡ pass_begun memory runs
-  pub begun_lists : (tree : Tree) (a : Entries) (file : List ℕ) → AreOf runs tree a file → AreOf begun tree a file
+  pub begun_lists : (tree : Tree) (file : List ℕ) → AreOf runs tree file → AreOf begun tree file
   pub goes : MergesGoOn a.entries begun mid before d
   pub deep : mid.deep ≡ begun.deep
   pub some : IsTrue (is_some mid.pass)
   pub none : left_for_pass mid.pass a.entries ≡ 0
-  pub lists : (tree : Tree) → IsTrue d.is_honest → StandOver mid tree a.entries d
-      → (next : Tree) × IsPassSwapped (is_full mid.sizes (made_by_pass mid.pass)) a.entries tree next × ((table : Entries) → LeavesSwapped mid new tree next table done d after)
+  pub lists : (tree : Tree) → IsTrue d.is_honest → StandOver mid tree d → HasAllAhead mid.pass a.entries tree
+      → (next : Tree) × IsPassSwapped (is_full mid.sizes (made_by_pass mid.pass)) tree next × LeavesSwapped mid new tree next done d after
   pub few : CallsFew (taking_calls runs.sizes (left_for_pass begun.pass a.entries)) before d
   pub effect : Affects anywhere (file_length mid.sizes) 9 d after
 
@@ -151,40 +152,44 @@ module _ {done : Bool} {memory : ℕ} {a : Contents} {runs begun mid new : RunsS
   rests_still = swap.deep ∙ ap (λ (r : RunsState). r.deep) swap.begins ∙ swap.rests
 
   -- the disk stands on the tree when the pass begins, and before the swap
-  over_begun : (pairs : List (Key × Value)) (shows : ShowsMap runs log pairs before) → StandOver begun shows.tree a.entries before
-  over_begun pairs shows = begun_over memory runs begun shows.tree a.entries before swap.begins swap.begun_lists (subst (λ (t : Contents). StandOver runs shows.tree t.entries before) (sym swap.table) shows.over)
+  over_begun : (pairs : List (Key × Value)) (shows : ShowsMap runs log pairs before) → StandOver begun shows.tree before
+  over_begun pairs shows = begun_over memory runs begun shows.tree before swap.begins swap.begun_lists shows.over
 
-  over_mid : (pairs : List (Key × Value)) → IsTrue before.is_honest → (shows : ShowsMap runs log pairs before) → StandOver mid shows.tree a.entries d
-  over_mid pairs honest shows = swap.goes.stands shows.tree honest (over_begun pairs shows)
+  is_table : (pairs : List (Key × Value)) (shows : ShowsMap runs log pairs before) → IsTableOf a.entries shows.tree
+  is_table pairs shows = table_of shows.tree log a swap.table swap.whole shows.log_of
+
+  over_mid : (pairs : List (Key × Value)) → IsTrue before.is_honest → (shows : ShowsMap runs log pairs before) → StandOver mid shows.tree d
+  over_mid pairs honest shows = swap.goes.stands shows.tree honest (is_table pairs shows) (over_begun pairs shows)
 
   -- and leaves it for one that follows it
   next_of : (pairs : List (Key × Value)) → IsTrue before.is_honest → (shows : ShowsMap runs log pairs before)
-      → (next : Tree) × IsPassSwapped (is_full mid.sizes (made_by_pass mid.pass)) (replayed shows.tree.lane_a) shows.tree next
-      × ((table : Entries) → LeavesSwapped mid new shows.tree next table done d after) × Follows runs.sizes shows.tree next
+      → (next : Tree) × IsPassSwapped (is_full mid.sizes (made_by_pass mid.pass)) shows.tree next
+      × LeavesSwapped mid new shows.tree next done d after × Follows runs.sizes shows.tree next
   next_of pairs honest shows =
       let over = over_mid pairs honest shows in
-      let x = swap.lists shows.tree (honest_still swap.goes.effect honest) over in
-      let table : a.entries ≡ replayed shows.tree.lane_a = ap (λ (t : Contents). t.entries) swap.table
-      ∙ whole_list (replayed shows.tree.lane_a) log.a swap.whole shows.log_of.a in
-      let swapped = subst (λ (es : Entries). IsPassSwapped (is_full mid.sizes (made_by_pass mid.pass)) es shows.tree x.0) table x.1 in
+      let is = is_table pairs shows in
+      let x = swap.lists shows.tree (honest_still swap.goes.effect honest) over (ap (above (cursor_of_pass mid.pass)) is) in
       let weighs : entries_weight (folded_over (replayed shows.tree.lane_a) (entries_of shows.tree.c1)) ≡ (made_by_pass mid.pass).weight =
-      ap (λ (es : Entries). entries_weight (folded_over es (entries_of shows.tree.c1))) (sym table) ∙ pass_weighs mid.sizes mid (guide_at mid.guides mid.tags.pass) mid.pass a.entries shows.tree.c1 d.bytes swap.some swap.none over.are_of.pass in
+      pass_weighs mid.sizes mid (guide_at mid.guides mid.tags.pass) mid.pass (replayed shows.tree.lane_a) shows.tree.c1 d.bytes swap.some
+      (ap (left_for_pass mid.pass) is ∙ swap.none) over.are_of.pass in
       let empty : shows.tree.c1x ≡ [] = subst (λ (o : Option DeepState). IsDeepOver mid.sizes d.bytes mid.space (guide_at mid.guides mid.tags.deep) o shows.tree.c1x shows.tree.c2) rests_still over.are_of.deep in (
         x.0,
-        swapped,
+        x.1,
         x.2,
         pass_follows (is_full mid.sizes (made_by_pass mid.pass)) runs.sizes shows.tree x.0 d.bytes (subst (λ (s : Sizes). HoldsTree s shows.tree d.bytes) same_sizes over.are_of.holds) shows.fits empty
             (λ light. omega (arith, weighs, leb-false (c1_mark mid.sizes) (made_by_pass mid.pass).weight light, ap c1_mark same_sizes))
-            swapped,
+            x.1,
       )
 
   pub pass_leaves : LeavesMaps (1 * merge_calls runs.sizes (settling_weight runs log)) runs log before after
   pass_leaves = record {
     keeps = λ pairs honest shows.
         let x = next_of pairs honest shows in
-        let left = x.2 [] in
+        let left = x.2 in
         kept_swapped runs.sizes shows.tree x.0 pairs before d after shows.fits shows.map_is x.3
-        (subst (λ (s : Sizes). LeavesOnly before d (HoldsTree s shows.tree)) (ap (λ (r : RunsState). r.sizes) swap.begins) (swap.goes.leaves shows.tree honest (over_begun pairs shows)))
+        (subst (λ (s : Sizes). LeavesOnly before d (HoldsTree s shows.tree)) (ap (λ (r : RunsState). r.sizes) swap.begins)
+            (swap.goes.leaves shows.tree honest (is_table pairs shows)
+        (over_begun pairs shows)))
         (subst (λ (s : Sizes). LeavesOnly d after (HoldsEither s shows.tree x.0)) same_sizes left.each)
         (subst (λ (s : Sizes). HoldsEither s shows.tree x.0 after.bytes) same_sizes left.either.reads);
     effect =
@@ -206,7 +211,7 @@ module _ {done : Bool} {memory : ℕ} {a : Contents} {runs begun mid new : RunsS
       → (pairs : List (Key × Value)) → IsTrue before.is_honest → ShowsMap runs log pairs before → ShowsMap new log' pairs after
   pass_shows log' well swaps turns pairs honest shows =
       let x = next_of pairs honest shows in
-      let over = (x.2 log'.a.entries).stands well in
+      let over = x.2.stands well in
       let catalogue : mid.catalogue ≡ shows.tree.catalogue = same_catalogue ∙ sym shows.over.are_of.catalogue in
       record {
         tree = x.0;

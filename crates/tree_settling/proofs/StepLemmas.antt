@@ -17,16 +17,19 @@ use Rattle.blsm_model.specs.Geometry.{file_length}
 use Rattle.blsm_model.specs.declared.key.Key.{Key}
 use Rattle.blsm_model.specs.declared.row.Value.{Value}
 use Rattle.catalog_swap.specs.declared.catalog.Catalog.{Catalog}
-use Rattle.mem_table.specs.Tables.{Contents}
+use Rattle.mem_table.specs.Tables.{Contents, IsWhole}
+use Rattle.record_delta.specs.Entries.{replayed}
 use Rattle.page_file.specs.declared.file.Broken.{Broken}
 use Rattle.page_file.specs.declared.file.Broken.TheVariants.{Fault}
 use Rattle.refusal.specs.Count.{HasRisen}
 use Rattle.tree_file.specs.Tree.{Tree, HoldsTree, FitsSizes, ReadsAsMap, map_of_tree}
 use Rattle.tree_file.specs.Places.{StandsOn, HoldsEither}
-use Rattle.tree_log.specs.Log.{LogState}
+use Rattle.tree_log.specs.Log.{IsLogOf, LogState}
+use Rattle.tree_log.proofs.RestLemmas.{whole_list}
 use Rattle.tree_runs.specs.Runs.{RunsState}
 use Rattle.tree_runs.specs.Holding.{StandOver}
 use Rattle.tree_settling.specs.Settling.{
+  IsTableOf,
   KeepsMap,
   LeavesMaps,
   MaySettle,
@@ -163,27 +166,34 @@ step_faulted mid calm failed rises leaves = record {
   faults = fault_then mid calm failed rises;
 }
 
+-- a whole table has all of its list
+pub table_of : (tree : Tree) (log : LogState) (a : Contents) → a ≡ log.a → IsWhole log.a → IsLogOf tree log → IsTableOf a.entries tree
+table_of tree log a same whole is =
+    sym (ap (λ (t : Contents). t.entries) same ∙ whole_list (replayed tree.lane_a) log.a whole is.a)
+
 -- its merge failed, which began over the trees of these components
 pub step_untaken : {a : Contents} {weight : ℕ} {runs begun mid runs' : RunsState} {log log' : LogState} {e : Broken}
     {result inner : Result ℕ Broken} {old new : DiskState} → inner ≡ Err e
-    → IsErrAnd result (λ (x : Broken). x ≡ e) → a ≡ log.a → begun.sizes ≡ runs.sizes → ((tree : Tree) → StandOver runs tree a.entries old → StandOver begun tree a.entries old)
+    → IsErrAnd result (λ (x : Broken). x ≡ e) → a ≡ log.a → IsWhole log.a → begun.sizes ≡ runs.sizes
+    → ((tree : Tree) → StandOver runs tree old → StandOver begun tree old)
     → TakesAll a.entries weight begun mid inner old new → weight ≤ settling_weight runs log → Settles 1 runs runs' log log' result old new
-step_untaken {a} {weight} {runs} {begun} {log = log} {old = old} {new} was failed table same begins takes light = record {
+step_untaken {a} {weight} {runs} {begun} {log = log} {old = old} {new} was failed table whole same begins takes light = record {
   leaves = record {
     keeps = λ pairs honest shows.
-        let now = takes.keeps shows.tree honest (over pairs shows) in
+        let now = takes.keeps shows.tree honest (table_of shows.tree log a table whole shows.log_of) (over pairs shows) in
         kept_standing runs.sizes shows.tree pairs old new shows.fits shows.map_is (subst (λ (s : Sizes). LeavesOnly old new (HoldsTree s shows.tree)) same now.1)
         (subst (λ (s : Sizes). StandsOn s shows.tree new) same now.0).reads;
     effect = affects_wider (λ i here. here) (omega (arith, ap file_length same)) (omega (arith, ap quantum_calls same, light)) takes.effect;
   };
   on = on_failed _ (is_err failed);
-  ends = λ pairs honest shows. ends_from was failed (takes.ends shows.tree honest (over pairs shows));
+  ends = λ pairs honest shows.
+      ends_from was failed (takes.ends shows.tree honest (table_of shows.tree log a table whole shows.log_of) (over pairs shows));
   version = on_failed _ (is_err failed);
   faults = told_then refl was failed takes.faults;
 }
   where
-    over : (pairs : List (Key × Value)) (shows : ShowsMap runs log pairs old) → StandOver begun shows.tree a.entries old
-    over pairs shows = begins shows.tree (subst (λ (t : Contents). StandOver runs shows.tree t.entries old) (sym table) shows.over)
+    over : (pairs : List (Key × Value)) (shows : ShowsMap runs log pairs old) → StandOver begun shows.tree old
+    over pairs shows = begins shows.tree shows.over
 
 -- what is handed on of one that failed
 pub step_failed : {n : ℕ} (more : ℕ) {runs runs' : RunsState} {log log' : LogState} {e : Broken} {result inner : Result ℕ Broken}

@@ -21,7 +21,7 @@ use Rattle.tree_file.specs.Places.{StandsOn}
 use Rattle.tree_runs.specs.Runs.{RunsState, AreRunning, left_for_pass, left_for_deep, made_by_pass, made_by_deep}
 use Rattle.page_file.specs.declared.file.Broken.{Broken}
 use Rattle.tree_runs.specs.Holding.{StandOver, PassTakes, DeepTakes, TellsQuantum}
-use Rattle.tree_settling.specs.Settling.{CallsFew, MergesGoOn, TakesAll, anywhere, due_to_deep, due_to_pass, quantum_calls, taking_calls}
+use Rattle.tree_settling.specs.Settling.{CallsFew, IsTableOf, MergesGoOn, TakesAll, anywhere, due_to_deep, due_to_pass, quantum_calls, taking_calls}
 use Rattle.tree_settling.proofs.StepLemmas.{honest_still}
 use Rattle.tree_settling.proofs.ToldLemmas.{ends_then, is_err, ok_is_no_err, on_failed, told_then, well_told}
 
@@ -96,8 +96,8 @@ begun {runs = runs} {d = d} timed running = record {
   catalogue = refl;
   pass = omega arith;
   deep = omega arith;
-  stands = λ tree honest over. over;
-  leaves = λ tree honest over. leaves_only_start d (HoldsTree runs.sizes tree) timed (λ c left. over.stands.each c left);
+  stands = λ tree honest is over. over;
+  leaves = λ tree honest is over. leaves_only_start d (HoldsTree runs.sizes tree) timed (λ c left. over.stands.each c left);
   calls = 0;
   effect = affects_start d timed;
   calm = refl;
@@ -110,26 +110,30 @@ goes_then timed goes run = affects_more timed goes.calm goes.effect run (λ i he
 
 -- what a call that leaves a tree standing has left of it from the start on
 pub left_standing : {a : Entries} {old mid : RunsState} {before d : DiskState} (after : DiskState) → MergesGoOn a old mid before d
-    → ((tree : Tree) → IsTrue d.is_honest → StandOver mid tree a d → StandsOn mid.sizes tree after × LeavesOnly d after (HoldsTree mid.sizes tree))
-    → (tree : Tree) → IsTrue before.is_honest → StandOver old tree a before → StandsOn old.sizes tree after × LeavesOnly before after (HoldsTree old.sizes tree)
-left_standing {d = d} after so_far stands tree honest over =
-    let now = stands tree (honest_still so_far.effect honest) (so_far.stands tree honest over) in (
+    → ((tree : Tree) → IsTrue d.is_honest → StandOver mid tree d → StandsOn mid.sizes tree after × LeavesOnly d after (HoldsTree mid.sizes tree))
+    → (tree : Tree) → IsTrue before.is_honest → IsTableOf a tree → StandOver old tree before
+    → StandsOn old.sizes tree after × LeavesOnly before after (HoldsTree old.sizes tree)
+left_standing {d = d} after so_far stands tree honest is over =
+    let now = stands tree (honest_still so_far.effect honest) (so_far.stands tree honest is over) in (
       subst (λ (s : Sizes). StandsOn s tree after) so_far.sizes now.0,
-      leaves_only_run (so_far.leaves tree honest over) (subst (λ (s : Sizes). LeavesOnly d after (HoldsTree s tree)) so_far.sizes now.1),
+      leaves_only_run (so_far.leaves tree honest is over) (subst (λ (s : Sizes). LeavesOnly d after (HoldsTree s tree)) so_far.sizes now.1),
     )
 
 -- one quantum more
-pub more : {most n : ℕ} {took : Tree → ℕ → Type 0} {is_damage : ℕ → List ℕ → Type 0} {a : Entries} {old mid new : RunsState} {before d after : DiskState} → IsTimed d → MergesGoOn a old mid before d
-    → TellsQuantum a a most took is_damage mid new (Ok n) d after → new.sizes ≡ mid.sizes → new.catalogue ≡ mid.catalogue → due_to_pass new a ≤ due_to_pass mid a → due_to_deep new ≤ due_to_deep mid
+pub more : {most n : ℕ} {lent : Tree → Type 0} {took : Tree → ℕ → Type 0} {is_damage : ℕ → List ℕ → Type 0} {a : Entries} {old mid new : RunsState}
+    {before d after : DiskState} → IsTimed d → MergesGoOn a old mid before d
+    → ((tree : Tree) → IsTableOf a tree → lent tree) → TellsQuantum lent most took is_damage mid new (Ok n) d after → new.sizes ≡ mid.sizes
+        → new.catalogue ≡ mid.catalogue → due_to_pass new a ≤ due_to_pass mid a → due_to_deep new ≤ due_to_deep mid
     → MergesGoOn a old new before after
-more {most} {n} {after = after} timed so_far told sizes catalogue pass deep = record {
+more {most} {n} {after = after} timed so_far lends told sizes catalogue pass deep = record {
   running = told.running;
   sizes = sizes ∙ so_far.sizes;
   catalogue = catalogue ∙ so_far.catalogue;
   pass = omega (arith, pass, so_far.pass);
   deep = omega (arith, deep, so_far.deep);
-  stands = λ tree honest over. (told.lists tree (honest_still so_far.effect honest) (so_far.stands tree honest over) (ok_is_no_err n)).2;
-  leaves = λ tree honest over. (left_standing after so_far told.stands tree honest over).1;
+  stands = λ tree honest is over.
+      (told.lists tree (honest_still so_far.effect honest) (so_far.stands tree honest is over) (lends tree is) (ok_is_no_err n)).2;
+  leaves = λ tree honest is over. (left_standing after so_far told.stands tree honest is over).1;
   calls = so_far.calls + most;
   effect = goes_then timed so_far told.effect;
   calm = told.faults.stands (ok_is_no_err n) ∙ so_far.calm;
@@ -140,22 +144,28 @@ pub took_all : {a : Entries} {old mid : RunsState} {before d : DiskState} (quant
     old.sizes first left before d → first ≤ weight
     → TakesAll a weight old mid (Ok quanta) before d
 took_all {old = old} {before = before} {d} quanta weight first left so_far calls within = record {
-  keeps = λ tree honest over. (subst (λ (s : Sizes). StandsOn s tree d) so_far.sizes (so_far.stands tree honest over).stands, so_far.leaves tree honest over);
-  ends = λ tree honest over other. refl;
+  keeps = λ tree honest is over.
+      (subst (λ (s : Sizes). StandsOn s tree d) so_far.sizes (so_far.stands tree honest is over).stands, so_far.leaves tree honest is over);
+  ends = λ tree honest is over other. refl;
   goes_on = so_far;
   effect = affects_counted (calls_done old.sizes weight first left before d calls within) so_far.effect;
   faults = well_told quanta before d so_far.calm;
 }
 
 -- a quantum failed
-pub took_less : {most : ℕ} {took : Tree → ℕ → Type 0} {is_damage : ℕ → List ℕ → Type 0} {a : Entries} {old mid new : RunsState} {before d after : DiskState} {e : Broken} {inner : Result ℕ Broken}
+pub took_less : {most : ℕ} {lent : Tree → Type 0} {took : Tree → ℕ → Type 0} {is_damage : ℕ → List ℕ → Type 0} {a : Entries}
+    {old mid new : RunsState} {before d after : DiskState} {e : Broken} {inner : Result ℕ Broken}
     {result : Result ℕ Broken} (weight first left : ℕ) → IsTimed d → MergesGoOn a old mid before d → CallsSoFar old.sizes first left before d →
     left ≢ 0 → first ≤ weight → QuantumFits old.sizes
-    → TellsQuantum a a most took is_damage mid new inner d after → most ≤ mid.sizes.quantum / 4 + 3 → inner ≡ Err e → IsErrAnd result
+    → ((tree : Tree) → IsTableOf a tree → lent tree) → TellsQuantum lent most took is_damage mid new inner d after → most ≤ mid.sizes.quantum / 4 + 3
+        → inner ≡ Err e → IsErrAnd result
     (λ (x : Broken). x ≡ e) → TakesAll a weight old new result before after
-took_less {most} {old = old} {mid} {before = before} {d} {after} weight first left timed so_far calls some within fits told few was failed = record {
+took_less {most} {old = old} {mid} {before = before} {d} {after} weight first left timed so_far calls some within fits lends told few was failed
+    = record {
   keeps = left_standing after so_far told.stands;
-  ends = λ tree honest over. ends_then was failed (λ other. let got = told.lists tree (honest_still so_far.effect honest) (so_far.stands tree honest over) other in (got.0, got.1));
+  ends = λ tree honest is over. ends_then was failed
+      (λ other. let got = told.lists tree (honest_still so_far.effect honest) (so_far.stands tree honest is over)
+          (lends tree is) other in (got.0, got.1));
   goes_on = on_failed _ (is_err failed);
   effect =
       affects_counted (calls_failed old.sizes weight first left most before d after calls some told.effect.calls

@@ -14,7 +14,7 @@ use Rattle.catalog_swap.specs.declared.catalog.Progress.{Progress}
 use Rattle.page_file.specs.declared.file.Broken.{Broken}
 use Rattle.page_file.specs.declared.file.Broken.TheVariants.{Fault}
 use Rattle.mem_table.specs.Tables.{IsWhole}
-use Rattle.record_delta.specs.Entries.{Entries}
+use Rattle.record_delta.specs.Entries.{Entries, replayed}
 use Rattle.tree_file.specs.Tree.{Tree, HoldsTree, FitsSizes, ReadsAsMap, map_of_tree}
 use Rattle.tree_file.specs.Places.{StandsOn}
 use Rattle.tree_log.specs.Log.{LogState, IsLogOf, end_of_a, end_of_b, weight_of_tables}
@@ -64,6 +64,10 @@ due_to_pass runs a = (made_by_pass runs.pass).weight + left_for_pass runs.pass a
 abbrev pub due_to_deep : RunsState → ℕ
 due_to_deep runs = (made_by_deep runs.deep).weight + left_for_deep runs.deep
 
+-- the table has all of the tree's list of table A
+abbrev pub IsTableOf : Entries → Tree → Type 0
+IsTableOf a tree = replayed tree.lane_a ≡ a
+
 -- Merges went on by quanta, each of which went well: over each tree that stood, in each image of each moment. Neither's run weighs more, with
 -- what is left for it, than it did.
 pub record MergesGoOn (a : Entries) (old new : RunsState) (before after : DiskState) : Type 0 where
@@ -72,16 +76,18 @@ pub record MergesGoOn (a : Entries) (old new : RunsState) (before after : DiskSt
   pub catalogue : new.catalogue ≡ old.catalogue
   pub pass : due_to_pass new a ≤ due_to_pass old a
   pub deep : due_to_deep new ≤ due_to_deep old
-  pub stands : (tree : Tree) → IsTrue before.is_honest → StandOver old tree a before → StandOver new tree a after
-  pub leaves : (tree : Tree) → IsTrue before.is_honest → StandOver old tree a before → LeavesOnly before after (HoldsTree old.sizes tree)
+  pub stands : (tree : Tree) → IsTrue before.is_honest → IsTableOf a tree → StandOver old tree before → StandOver new tree after
+  pub leaves : (tree : Tree) → IsTrue before.is_honest → IsTableOf a tree → StandOver old tree before
+      → LeavesOnly before after (HoldsTree old.sizes tree)
   pub calls : ℕ
   pub effect : Affects anywhere (file_length old.sizes) calls before after
   pub calm : after.faults ≡ before.faults
 
 -- What going on with a merge tells until it has taken all of so many bytes: over each tree that stood, which stands whatever is answered.
 pub record TakesAll (a : Entries) (weight : ℕ) (runs runs' : RunsState) (result : Result ℕ Broken) (old new : DiskState) : Type 0 where
-  pub keeps : (tree : Tree) → IsTrue old.is_honest → StandOver runs tree a old → StandsOn runs.sizes tree new × LeavesOnly old new (HoldsTree runs.sizes tree)
-  pub ends : (tree : Tree) → IsTrue old.is_honest → StandOver runs tree a old → result ≢ Err Fault → IsOk result
+  pub keeps : (tree : Tree) → IsTrue old.is_honest → IsTableOf a tree → StandOver runs tree old
+      → StandsOn runs.sizes tree new × LeavesOnly old new (HoldsTree runs.sizes tree)
+  pub ends : (tree : Tree) → IsTrue old.is_honest → IsTableOf a tree → StandOver runs tree old → result ≢ Err Fault → IsOk result
   pub goes_on : OnOk result (MergesGoOn a runs runs' old new)
   pub effect : Affects anywhere (file_length runs.sizes) (taking_calls runs.sizes weight) old new
   pub faults : TellsFaultsBy (Err Fault) result old new
@@ -124,7 +130,7 @@ pub record MaySettle (runs : RunsState) (log : LogState) (d : DiskState) : Type 
 -- On an honest disk: it stands on a tree that reads as this map, and components and log are of it.
 pub record ShowsMap (runs : RunsState) (log : LogState) (pairs : List (Key × Value)) (d : DiskState) : Type 0 where
   pub tree : Tree
-  pub over : StandOver runs tree log.a.entries d
+  pub over : StandOver runs tree d
   pub log_of : IsLogOf tree log
   pub fits : FitsSizes runs.sizes tree
   pub map_is : map_of_tree tree ≡ pairs

@@ -31,7 +31,7 @@ pub returns-in-Some-clause-stands : goal.returns-in-Some-clause-stands
 returns-in-Some-clause-stands g c = λ honest.
     let b = c.in-Ok-open_tree.begun in
     let honest' = subst IsTrue (sym c.open_tree.ensures.effect.effect.goes_on.is_honest) honest in
-    opens_as g.D.Disk.state c.args.room b.runs b.log c.in-Some.annals c.assemble.result (g.D.Disk.state c.args.disk).bytes c.open_tree.new.disk c.assemble.ensures.disk honest' (c.in-Ok-open_tree.ensures.stands honest)
+    opens_as g.D.Disk.state c.args.room b.runs c.in-Some.annals c.assemble.result (g.D.Disk.state c.args.disk).bytes c.open_tree.new.disk c.assemble.ensures.disk honest' (c.in-Ok-open_tree.ensures.stands honest)
     (some_is (sym c.in-Some.is ∙ c.in-Ok-open_tree.ensures.history)) c.assemble.ensures.runs
     (charge_opened _ _ c.assemble.result.held c.assemble.ensures.opened) c.assemble.ensures.stands
 

@@ -84,13 +84,14 @@ still : (g : _) (c : goal.After-settle_found g) → IsTrue (g.D.Disk.state c.arg
 still g c honest = subst (HoldsFound c.in_ok-found.found) (sym (c.read_synced.ensures.same honest)) (c.in_ok-found.ensures.holds honest)
 
 stands : (g : _) (c : goal.After-settle_found g) → IsTrue (g.D.Disk.state c.args.disk.now).is_honest
-    → IfOk c.settle_found.result (λ begun. HasOpenedOn begun.runs begun.log (g.D.Disk.state c.args.disk.now).bytes
+    → IfOk c.settle_found.result (λ begun. HasOpenedOn begun.runs (g.D.Disk.state c.args.disk.now).bytes
     (g.D.Disk.state c.settle_found.new.disk))
 stands g c = λ honest.
     let f = c.in_ok-found.found in
     let holds = c.in_ok-found.ensures.holds honest in
     let over =
-    subst (λ (file : List ℕ). (holds : HoldsFound f file) → IfOk c.settle_found.result (λ begun. StandsEmpty begun.runs begun.log holds.tree (g.D.Disk.state c.settle_found.new.disk)))
+    subst (λ (file : List ℕ). (holds : HoldsFound f file) → IfOk c.settle_found.result
+        (λ begun. StandsEmpty begun.runs holds.tree (g.D.Disk.state c.settle_found.new.disk)))
     (c.read_synced.ensures.same honest) (λ now. (told g c honest now).stands) in
     stands_as c.settle_found.result f f.catalogue.version _ _ holds c.in_ok-found.ensures.found.head.version c.settle_found.ensures.ready
     (over holds)

@@ -43,7 +43,7 @@ returns-in-Absent-clause-finds g c = λ tree honest holds catalogue guided dropp
     subst (λ (r : Tried). Finds r c.args.op.now (λ key. found_in key c.args.held.now tree)) (sym c.judge-in-Absent.ensures)
     (finds_found c.args.op.now at None (λ key. found_in key c.args.held.now tree) c.looked_key.ensures
     (none_is (found_in at c.args.held.now tree) (c.in-Absent.ensures.value tree honest holds catalogue guided dropped c.requires.runs
-        (λ same. cc same))))
+    (λ same. cc same))))
 
 pub returns-in-Absent-clause-asks : goal.returns-in-Absent-clause-asks
 returns-in-Absent-clause-asks g c =

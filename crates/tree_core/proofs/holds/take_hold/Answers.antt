@@ -15,7 +15,7 @@ use Rattle.tree_core.proofs.KeepLemmas.{few_by}
 use Rattle.tree_core.proofs.holds.take_hold.Goals as goal
 
 pub returns-in-Ok-clause-rows : goal.returns-in-Ok-clause-rows
-returns-in-Ok-clause-rows c = λ tree table file made are_of.
+returns-in-Ok-clause-rows c = λ tree file made are_of.
     let held = c.args.held.now in
     let low = c.args.low.now in
     let high = c.args.high.now in
@@ -23,7 +23,7 @@ returns-in-Ok-clause-rows c = λ tree table file made are_of.
     let c1 = entries_of tree.c1 in
     let c1x = entries_of tree.c1x in
     let c2 = entries_of tree.c2 in
-    let given = c.in-Ok.ensures.rows tree table file are_of in
+    let given = c.in-Ok.ensures.rows tree file are_of in
     let at_a = subst (λ (t : Contents). HasHeld held.runs.sizes pins c.args.seat (Some c.in-Ok.hold) (Some (rows_in (record { b = c.b.result.now.entries; a = t.entries; c1 = c1; c1x = c1x; c2 = c2 }) low high)) file) c.a.ensures given in
     let at_b = subst (λ (t : Contents). HasHeld held.runs.sizes pins c.args.seat (Some c.in-Ok.hold) (Some (rows_in (record { b = t.entries; a = held.log.a.entries; c1 = c1; c1x = c1x; c2 = c2 }) low high)) file) c.b.ensures at_a in
     subst (λ (h : Option HoldState). HasHeld held.runs.sizes pins c.args.seat h (Some (rows_in (record { b = held.log.b.entries; a = held.log.a.entries; c1 = c1; c1x = c1x; c2 = c2 }) low high)) file)

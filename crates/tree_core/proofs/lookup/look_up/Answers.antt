@@ -11,7 +11,7 @@ use Rattle.page_file.specs.declared.file.Broken.{Broken}
 use Rattle.page_file.specs.declared.file.Broken.TheVariants.{Fault}
 use Rattle.record_delta.specs.declared.record.Rec.{Rec}
 use Rattle.record_delta.specs.Records.{settled}
-use Rattle.record_delta.specs.Entries.{over_any, record_of_key, replayed}
+use Rattle.record_delta.specs.Entries.{over_any, record_of_key}
 use Rattle.mem_table.specs.Tables.{Contents}
 use Rattle.tree_runs.specs.Lookups.{AreToldBy, IsDamageBelow, IsFloorOf, first_record, from_newest}
 use Rattle.core_moves.specs.declared.held.Held.{Held}
@@ -90,14 +90,13 @@ pub returns-in-Ok-clause-value : goal.returns-in-Ok-clause-value
 returns-in-Ok-clause-value g c = λ tree honest holds catalogue guided dropped runs not.
     let held = c.args.held.now in
     let key = c.args.key.now in
-    let list = replayed tree.lane_a in
     let below = λ (f : Option Key).
-    over_any (first_record f key list (entries_of tree.c1)) (over_any (record_of_key key (entries_of tree.c1x))
+    over_any (first_record f key tree) (over_any (record_of_key key (entries_of tree.c1x))
         (record_of_key key (entries_of tree.c2))) in
     let is = c.floor-floor.ensures.floor ∙ ap (λ (t : Contents). t.floor) c.a.ensures in
     let found = same_record c.find.new.found (over_any c.get-found.result (below c.floor-floor.result.now))
-    (c.in-Ok.ensures.lists tree list honest holds catalogue guided
-    (subst (λ (f : Option Key). IsFloorOf f held.runs list tree.c1 (g.D.Disk.state c.args.disk.now).bytes) (sym is) dropped)
+    (c.in-Ok.ensures.lists tree honest holds catalogue guided
+    (subst (λ (f : Option Key). IsFloorOf f held.runs tree (g.D.Disk.state c.args.disk.now).bytes) (sym is) dropped)
         (no_fault c.in-Ok.field-0)) in
     c.answer.ensures.reply
     ∙ ap (λ (r : Option Rec). answer_to_get (settled r))
@@ -107,10 +106,9 @@ returns-in-Ok-clause-value g c = λ tree honest holds catalogue guided dropped r
 pub returns-in-Err-Damaged-clause-value : goal.returns-in-Err-Damaged-clause-value
 returns-in-Err-Damaged-clause-value g c = λ tree honest holds catalogue guided dropped runs not.
     let broken = c.in-Err-Damaged.field-0 in
-    let list = replayed tree.lane_a in
     let is = c.floor-floor.ensures.floor ∙ ap (λ (t : Contents). t.floor) c.a.ensures in
-    absurd (not_both broken _ (c.in-Err-Damaged.ensures.lists tree list honest holds catalogue guided
-    (subst (λ (f : Option Key). IsFloorOf f c.args.held.now.runs list tree.c1 (g.D.Disk.state c.args.disk.now).bytes) (sym is) dropped)
+    absurd (not_both broken _ (c.in-Err-Damaged.ensures.lists tree honest holds catalogue guided
+    (subst (λ (f : Option Key). IsFloorOf f c.args.held.now.runs tree (g.D.Disk.state c.args.disk.now).bytes) (sym is) dropped)
     (λ same. cc (same, c.in-Err-Damaged.field-0-is))))
 
 pub returns-in-Ok-clause-reads : goal.returns-in-Ok-clause-reads

@@ -7,16 +7,16 @@ use Rattle.tree_core.specs.Quanta.{LeavesTaken}
 use Rattle.tree_core.proofs.payment.take.Goals as goal
 
 pub returns-in-Snow-clause-lists : goal.returns-in-Snow-clause-lists
-returns-in-Snow-clause-lists g c = λ tree honest over.
+returns-in-Snow-clause-lists g c = λ tree honest over ahead.
     let stands = c.pass_quantum.ensures.told.stands tree honest over in
     subst (λ (p : Plan). LeavesTaken p c.pass_quantum.result c.args.held.now c.pass_quantum.new.self tree (g.D.Disk.state c.args.disk.now) (g.D.Disk.state c.pass_quantum.new.disk)) (sym c.in-Snow.is)
-    (record { stands = stands.0; each = stands.1; taken = c.pass_quantum.ensures.told.lists tree honest over })
+    (record { stands = stands.0; each = stands.1; taken = c.pass_quantum.ensures.told.lists tree honest over ahead })
 
 pub returns-in-Deep-clause-lists : goal.returns-in-Deep-clause-lists
-returns-in-Deep-clause-lists g c = λ tree honest over.
+returns-in-Deep-clause-lists g c = λ tree honest over ahead.
     let stands = c.deep_quantum.ensures.told.stands tree honest over in
     subst (λ (p : Plan). LeavesTaken p c.deep_quantum.result c.args.held.now c.deep_quantum.new.self tree (g.D.Disk.state c.args.disk.now) (g.D.Disk.state c.deep_quantum.new.disk)) (sym c.in-Deep.is)
-    (record { stands = stands.0; each = stands.1; taken = c.deep_quantum.ensures.told.lists tree honest over })
+    (record { stands = stands.0; each = stands.1; taken = c.deep_quantum.ensures.told.lists tree honest over tt })
 
 pub returns-in-Snow-clause-takes : goal.returns-in-Snow-clause-takes
 returns-in-Snow-clause-takes g c =

@@ -19,7 +19,7 @@ pub returns-else-is_deep_done-clause-lists : goal.returns-else-is_deep_done-clau
 returns-else-is_deep_done-clause-lists g c = λ tree honest over. (
   tree,
   record { done = λ yes. absurd (false≢true (sym c.if-is_deep_done.false ∙ c.is_deep_done.ensures.1 yes)); rests = λ never. refl },
-  rests_over c.args.held.now.runs tree c.args.held.now.log.a.entries true (g.D.Disk.state c.args.disk.now) (g.met.D.Disk.timed c.args.disk.now) over,
+  rests_over c.args.held.now.runs tree true (g.D.Disk.state c.args.disk.now) (g.met.D.Disk.timed c.args.disk.now) over,
 )
 
 pub swap_deep-requires-clause-done : goal.swap_deep-requires-clause-done

@@ -28,8 +28,8 @@ returns-then-is_pass_done-clause-due g c = λ failed.
     subst (λ (t : Contents). IsTrue (is_some c.args.held.now.runs.pass) × (left_for_pass c.args.held.now.runs.pass t.entries ≡ 0)) c.a.ensures (c.is_pass_done.ensures.0 c.if-is_pass_done.true)
 
 pub returns-then-is_pass_done-clause-lists : goal.returns-then-is_pass_done-clause-lists
-returns-then-is_pass_done-clause-lists g c = λ tree honest over.
-    let made = c.swap_pass.ensures.lists tree honest over in (
+returns-then-is_pass_done-clause-lists g c = λ tree honest over ahead.
+    let made = c.swap_pass.ensures.lists tree honest over ahead in (
       made.0,
       record {
         done = λ yes. made.1;
@@ -50,14 +50,14 @@ returns-else-is_pass_done-clause-turns g c = λ yes. absurd (false≢true (sym c
     ∙ c.is_pass_done.ensures.1 (subst (λ (t : Contents). IsTrue (is_some c.args.held.now.runs.pass) × (left_for_pass c.args.held.now.runs.pass t.entries ≡ 0)) (sym c.a.ensures) yes)))
 
 pub returns-else-is_pass_done-clause-lists : goal.returns-else-is_pass_done-clause-lists
-returns-else-is_pass_done-clause-lists g c = λ tree honest over. (
+returns-else-is_pass_done-clause-lists g c = λ tree honest over ahead. (
   tree,
   record {
     done = λ yes. absurd (false≢true (sym c.if-is_pass_done.false
         ∙ c.is_pass_done.ensures.1 (subst (λ (t : Contents). IsTrue (is_some c.args.held.now.runs.pass) × (left_for_pass c.args.held.now.runs.pass t.entries ≡ 0)) (sym c.a.ensures) yes)));
     rests = λ never. refl;
   },
-  rests_over c.args.held.now.runs tree c.args.held.now.log.a.entries true (g.D.Disk.state c.args.disk.now) (g.met.D.Disk.timed c.args.disk.now) over,
+  rests_over c.args.held.now.runs tree true (g.D.Disk.state c.args.disk.now) (g.met.D.Disk.timed c.args.disk.now) over,
 )
 
 pub returns-then-is_pass_done-clause-effect : goal.returns-then-is_pass_done-clause-effect

@@ -15,7 +15,7 @@ use Rattle.tree_core.proofs.TurnMoves.{on_both, on_pair, swap_left, swap_moved, 
 use Rattle.tree_core.proofs.turns.make.Goals as goal
 
 pub returns-in-SwapDeep-clause-lists : goal.returns-in-SwapDeep-clause-lists
-returns-in-SwapDeep-clause-lists g c = λ tree honest over.
+returns-in-SwapDeep-clause-lists g c = λ tree honest over ahead.
     let old = c.args.held.now in
     let new = c.swap_deep.new.self in
     let before = g.D.Disk.state c.args.disk.now in
@@ -40,15 +40,17 @@ pub returns-in-SwapDeep-clause-faults : goal.returns-in-SwapDeep-clause-faults
 returns-in-SwapDeep-clause-faults g c = swap_told c.swap_deep.result c.no_quantum.result (g.D.Disk.state c.args.disk.now) (g.D.Disk.state c.swap_deep.new.disk) c.no_quantum.ensures c.swap_deep.ensures.faults
 
 pub returns-in-SwapPass-clause-lists : goal.returns-in-SwapPass-clause-lists
-returns-in-SwapPass-clause-lists g c = λ tree honest over.
+returns-in-SwapPass-clause-lists g c = λ tree honest over ahead.
     let old = c.args.held.now in
     let new = c.swap_pass.new.self in
     let before = g.D.Disk.state c.args.disk.now in
     let after = g.D.Disk.state c.swap_pass.new.disk in
-    let x = c.swap_pass.ensures.lists tree honest over in (
+    let x = c.swap_pass.ensures.lists tree honest over ahead in (
       x.0,
       subst (λ (ch : Choice). LeavesMoved (move_of ch) c.no_quantum-in-SwapPass.result old new tree x.0 before after) (sym c.in-SwapPass.is)
-          (swap_left c.swap_pass.result c.no_quantum-in-SwapPass.result pacing.SwapPass old new tree x.0 before after c.no_quantum-in-SwapPass.ensures x.1 x.2 (on_pair c.swap_pass.result (IsPassSwapped (is_run_full old) old.log.a.entries tree x.0) (TurnsLog old.log new.log) x.1 c.swap_pass.ensures.turns)),
+          (swap_left c.swap_pass.result c.no_quantum-in-SwapPass.result pacing.SwapPass old new tree x.0 before after
+              c.no_quantum-in-SwapPass.ensures x.1 x.2 (on_pair c.swap_pass.result (IsPassSwapped (is_run_full old) tree x.0)
+              (TurnsLog old.log new.log) x.1 c.swap_pass.ensures.turns)),
     )
 
 pub returns-in-SwapPass-clause-moves : goal.returns-in-SwapPass-clause-moves
@@ -65,7 +67,7 @@ pub returns-in-SwapPass-clause-faults : goal.returns-in-SwapPass-clause-faults
 returns-in-SwapPass-clause-faults g c = swap_told c.swap_pass.result c.no_quantum-in-SwapPass.result (g.D.Disk.state c.args.disk.now) (g.D.Disk.state c.swap_pass.new.disk) c.no_quantum-in-SwapPass.ensures c.swap_pass.ensures.faults
 
 pub returns-in-Rotate-clause-lists : goal.returns-in-Rotate-clause-lists
-returns-in-Rotate-clause-lists g c = λ tree honest over.
+returns-in-Rotate-clause-lists g c = λ tree honest over ahead.
     let old = c.args.held.now in
     let new = c.rotate.new.self in
     let before = g.D.Disk.state c.args.disk.now in
@@ -90,7 +92,7 @@ pub returns-in-Rotate-clause-faults : goal.returns-in-Rotate-clause-faults
 returns-in-Rotate-clause-faults g c = swap_told c.rotate.result c.no_quantum-in-Rotate.result (g.D.Disk.state c.args.disk.now) (g.D.Disk.state c.rotate.new.disk) c.no_quantum-in-Rotate.ensures c.rotate.ensures.faults
 
 pub returns-in-DeepQuantum-clause-lists : goal.returns-in-DeepQuantum-clause-lists
-returns-in-DeepQuantum-clause-lists g c = λ tree honest over.
+returns-in-DeepQuantum-clause-lists g c = λ tree honest over ahead.
     let old = c.args.held.now in
     let new = c.deep_quantum.new.self in
     let before = g.D.Disk.state c.args.disk.now in
@@ -98,7 +100,7 @@ returns-in-DeepQuantum-clause-lists g c = λ tree honest over.
       tree,
       subst (λ (ch : Choice). LeavesMoved (move_of ch) c.deep_quantum.result old new tree tree before after) (sym c.in-DeepQuantum.is)
           (quantum_left pacing.TakeDeep c.deep_quantum.result old new tree before after refl (c.deep_quantum.ensures.told.stands tree honest over)
-          (λ well. let x = c.deep_quantum.ensures.told.lists tree honest over well in (x.0, x.1, x.2, (refl, x.3)))),
+          (λ well. let x = c.deep_quantum.ensures.told.lists tree honest over tt well in (x.0, x.1, x.2, (refl, x.3)))),
     )
 
 pub returns-in-DeepQuantum-clause-moves : goal.returns-in-DeepQuantum-clause-moves
@@ -106,7 +108,7 @@ returns-in-DeepQuantum-clause-moves g c =
     subst (λ (ch : Choice). IfOk c.deep_quantum.result (λ n. TurnsBy (move_of ch) c.args.seat n c.args.held.now c.deep_quantum.new.self)) (sym c.in-DeepQuantum.is) c.deep_quantum.ensures.takes
 
 pub returns-in-PassQuantum-clause-lists : goal.returns-in-PassQuantum-clause-lists
-returns-in-PassQuantum-clause-lists g c = λ tree honest over.
+returns-in-PassQuantum-clause-lists g c = λ tree honest over ahead.
     let old = c.args.held.now in
     let new = c.pass_quantum.new.self in
     let before = g.D.Disk.state c.args.disk.now in
@@ -114,7 +116,7 @@ returns-in-PassQuantum-clause-lists g c = λ tree honest over.
       tree,
       subst (λ (ch : Choice). LeavesMoved (move_of ch) c.pass_quantum.result old new tree tree before after) (sym c.in-PassQuantum.is)
           (quantum_left pacing.TakeSnow c.pass_quantum.result old new tree before after refl (c.pass_quantum.ensures.told.stands tree honest over)
-          (λ well. let x = c.pass_quantum.ensures.told.lists tree honest over well in (x.0, x.1, x.2, (refl, x.3)))),
+          (λ well. let x = c.pass_quantum.ensures.told.lists tree honest over ahead well in (x.0, x.1, x.2, (refl, x.3)))),
     )
 
 pub returns-in-PassQuantum-clause-moves : goal.returns-in-PassQuantum-clause-moves
@@ -122,7 +124,7 @@ returns-in-PassQuantum-clause-moves g c =
     subst (λ (ch : Choice). IfOk c.pass_quantum.result (λ n. TurnsBy (move_of ch) c.args.seat n c.args.held.now c.pass_quantum.new.self)) (sym c.in-PassQuantum.is) c.pass_quantum.ensures.takes
 
 pub returns-in-Begin-clause-lists : goal.returns-in-Begin-clause-lists
-returns-in-Begin-clause-lists g c = λ tree honest over.
+returns-in-Begin-clause-lists g c = λ tree honest over ahead.
     let old = c.args.held.now in
     let new = c.begin_pass.new.self in
     let d = g.D.Disk.state c.args.disk.now in
@@ -136,7 +138,7 @@ pub returns-in-Begin-clause-on : goal.returns-in-Begin-clause-on
 returns-in-Begin-clause-on g c = begun_on c.args.held.now c.begin_pass.new.self (g.D.Disk.state c.args.disk.now) c.begin_pass.ensures.begun c.begin_pass.ensures.running c.requires.ready.on
 
 pub returns-in-Rest-clause-lists : goal.returns-in-Rest-clause-lists
-returns-in-Rest-clause-lists g c = λ tree honest over.
+returns-in-Rest-clause-lists g c = λ tree honest over ahead.
     let old = c.args.held.now in
     let d = g.D.Disk.state c.args.disk.now in
     let made : Result ℕ Broken = Ok 0 in (

@@ -13,7 +13,8 @@ swap_deep-requires-clause-length g c =
     stays_long c.args.runs.now.sizes c.take_deep.new.runs.sizes goes.sizes c.requires.may.long goes.effect
 
 pub returns-in_err-quanta-clause-step : goal.returns-in_err-quanta-clause-step
-returns-in_err-quanta-clause-step g c = step_untaken c.in_err-quanta.was c.from_residual.ensures.1 c.a.ensures refl (λ tree over. over)
+returns-in_err-quanta-clause-step g c = step_untaken c.in_err-quanta.was c.from_residual.ensures.1 c.a.ensures c.requires.may.begun.whole_a refl
+    (λ tree over. over)
     c.take_deep.ensures.takes (omega (arith, c.requires.may.begun.deep.run))
 
 -- the swap, however it ended
@@ -22,6 +23,7 @@ swap : (g : _) (c : After-swap_deep g) → IsDeepSwap (is_ok c.swap_deep.result)
 swap g c = record {
   timed = g.met.D.Disk.timed c.take_deep.new.disk;
   table = c.a.ensures;
+  whole = c.requires.may.begun.whole_a;
   goes = c.in_ok-quanta.ensures.takes.goes_on;
   pass = c.in_ok-quanta.ensures.pass;
   lists = c.swap_deep.ensures.lists;

@@ -1,4 +1,6 @@
-use Rattle.std.proofs.Common.{◌∙◌, ◌+◌, ◌/◌, Option, refl, arith}
+use Rattle.std.proofs.Common.{◌∙◌, ◌+◌, ◌/◌, Option, ap, refl, arith}
+use Rattle.record_delta.specs.Entries.{above}
+use Rattle.tree_runs.specs.Holding.{cursor_of_pass}
 use Rattle.deep_merge.specs.Merge.{DeepState}
 use Rattle.tree_runs.specs.Runs.{left_for_deep, left_for_pass, made_by_deep}
 use Rattle.tree_settling.proofs.CountLemmas.{all_quanta, capacity_small, counted_then, no_quantum, one_quantum}
@@ -42,7 +44,8 @@ loop-runs-preserved g c =
       runs = c.pass_quantum.ensures.runs;
       deep = c.pass_quantum.ensures.others.deep ∙ c.loop-runs.invariant.deep;
       goes_on =
-          more (g.met.D.Disk.timed c.loop-runs.disk) c.loop-runs.invariant.goes_on c.in_ok-pass_quantum.ensures.told c.pass_quantum.ensures.others.sizes c.pass_quantum.ensures.others.catalogue
+          more (g.met.D.Disk.timed c.loop-runs.disk) c.loop-runs.invariant.goes_on (λ tree is. ap (above (cursor_of_pass c.loop-runs.runs.pass)) is)
+          c.in_ok-pass_quantum.ensures.told c.pass_quantum.ensures.others.sizes c.pass_quantum.ensures.others.catalogue
           took.0 (rested (λ (o : Option DeepState). (made_by_deep o).weight + left_for_deep o) c.pass_quantum.ensures.others.deep);
       calls =
           calls_more c.args.runs.now.sizes (left_for_pass c.args.runs.now.pass c.args.a.now.entries) (left_for_pass c.loop-runs.runs.pass c.args.a.now.entries) (left_for_pass c.pass_quantum.new.self.pass c.args.a.now.entries) c.in_ok-pass_quantum.field-0 (c.loop-runs.runs.sizes.quantum / 7 + 2) c.loop-runs.runs.sizes.quantum (g.D.Disk.state c.args.disk.now) (g.D.Disk.state c.loop-runs.disk) (g.D.Disk.state c.pass_quantum.new.disk)
@@ -73,7 +76,8 @@ returns-in_err-pass_quantum-clause-takes g c =
     (left_for_pass c.loop-runs.runs.pass c.args.a.now.entries) (g.met.D.Disk.timed c.loop-runs.disk) inv.goes_on inv.calls
     (still_left c.is_pass_done.result (left_for_pass c.loop-runs.runs.pass c.args.a.now.entries) c.loop-runs-test.true c.is_pass_done.ensures
     inv.runs) (omega arith)
-    c.requires.running.in_order.geometry.quantum c.pass_quantum.ensures.told (omega arith) c.in_err-pass_quantum.was c.from_residual.ensures.1
+    c.requires.running.in_order.geometry.quantum (λ tree is. ap (above (cursor_of_pass c.loop-runs.runs.pass)) is)
+    c.pass_quantum.ensures.told (omega arith) c.in_err-pass_quantum.was c.from_residual.ensures.1
 
 pub returns-clause-takes : goal.returns-clause-takes
 returns-clause-takes g c = took_all c.loop-runs.quanta (left_for_pass c.args.runs.now.pass c.args.a.now.entries)

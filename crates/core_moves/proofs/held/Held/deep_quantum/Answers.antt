@@ -1,12 +1,9 @@
-use Rattle.std.specs.Prelude.{◌+◌, ◌/◌, Ok, Err, is_some}
-use Rattle.std.proofs.Common.{◌∙◌, ◌*◌, ◌≤◌, ℕ, refl, ap, sym, subst, arith}
+use Rattle.std.specs.Prelude.{◌+◌, is_some}
+use Rattle.std.proofs.Common.{◌∙◌, ◌*◌, ◌≤◌, ℕ, refl, ap, sym, arith}
 use Rattle.std.proofs.lemmas.Grind.{common_steps}
 use Rattle.std.proofs.lemmas.Bool.Decides.{nat_tests}
 use Rattle.blsm_model.specs.Format.{most_weight}
-use Rattle.mem_table.specs.Tables.{Contents}
-use Rattle.page_file.specs.Component.{entries_of}
-use Rattle.tree_runs.specs.Damage.{DeepMeetsDamage}
-use Rattle.tree_runs.specs.Holding.{DeepTakes, DeepTook, TellsQuantum}
+use Rattle.tree_runs.specs.Holding.{DeepTakes}
 use Rattle.core_moves.proofs.AffectLemmas.{stays_long}
 use Rattle.core_moves.proofs.held.Held.deep_quantum.Goals as goal
 
@@ -22,11 +19,7 @@ took2-requires-clause-fits g c =
     omega (arith, few held.runs.sizes.quantum held.runs.deep c.deep_quantum.new.self.deep c.in-Ok.taken c.in-Ok.ensures.takes, c.requires.ready.small.deep_taken c.requires.runs)
 
 pub returns-in-Ok-clause-told : goal.returns-in-Ok-clause-told
-returns-in-Ok-clause-told g c =
-    let held = c.args.self.now in
-    let next = c.deep_quantum.new.self in
-    subst (λ (t : Contents). TellsQuantum t.entries t.entries (held.runs.sizes.quantum / 4 + 3) (λ tree n. DeepTook held.runs.sizes.quantum held.runs.deep next.deep (entries_of tree.c1x) (entries_of tree.c2) n)
-    (DeepMeetsDamage next.sizes next.deep) held.runs next (Ok c.in-Ok.taken) (g.D.Disk.state c.args.disk.now) (g.D.Disk.state c.deep_quantum.new.disk)) c.a.ensures c.in-Ok.ensures.told
+returns-in-Ok-clause-told g c = c.in-Ok.ensures.told
 
 pub returns-in-Ok-clause-takes : goal.returns-in-Ok-clause-takes
 returns-in-Ok-clause-takes g c = record {
@@ -47,11 +40,7 @@ returns-in-Ok-clause-on g c = record {
 -- and where it failed
 
 pub returns-in-Err-clause-told : goal.returns-in-Err-clause-told
-returns-in-Err-clause-told g c =
-    let held = c.args.self.now in
-    let next = c.deep_quantum.new.self in
-    subst (λ (t : Contents). TellsQuantum t.entries t.entries (held.runs.sizes.quantum / 4 + 3) (λ tree n. DeepTook held.runs.sizes.quantum held.runs.deep next.deep (entries_of tree.c1x) (entries_of tree.c2) n)
-    (DeepMeetsDamage next.sizes next.deep) held.runs next (Err c.in-Err.broken) (g.D.Disk.state c.args.disk.now) (g.D.Disk.state c.deep_quantum.new.disk)) c.a.ensures c.in-Err.ensures.told
+returns-in-Err-clause-told g c = c.in-Err.ensures.told
 
 pub returns-in-Err-clause-kept : goal.returns-in-Err-clause-kept
 returns-in-Err-clause-kept g c = record {

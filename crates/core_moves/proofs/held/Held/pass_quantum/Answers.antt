@@ -5,10 +5,10 @@ use Rattle.std.proofs.lemmas.Bool.Decides.{nat_tests}
 use Rattle.blsm_model.specs.Format.{most_weight}
 use Rattle.mem_table.specs.Tables.{Contents}
 use Rattle.snow_merge.specs.Pass.{SnowState}
-use Rattle.record_delta.specs.Entries.{Entries}
+use Rattle.record_delta.specs.Entries.{Entries, replayed}
 use Rattle.page_file.specs.Component.{entries_of}
 use Rattle.tree_runs.specs.Damage.{PassMeetsDamage}
-use Rattle.tree_runs.specs.Holding.{PassTakes, PassTook, TellsQuantum}
+use Rattle.tree_runs.specs.Holding.{HasAllAhead, PassTakes, PassTook, TellsQuantum}
 use Rattle.core_moves.proofs.AffectLemmas.{stays_long}
 use Rattle.core_moves.proofs.held.Held.pass_quantum.Goals as goal
 
@@ -27,7 +27,9 @@ pub returns-in-Ok-clause-told : goal.returns-in-Ok-clause-told
 returns-in-Ok-clause-told g c =
     let held = c.args.self.now in
     let next = c.pass_quantum.new.self in
-    subst (λ (t : Contents). TellsQuantum t.entries t.entries (held.runs.sizes.quantum / 7 + 2) (λ tree n. PassTook held.runs.sizes.quantum held.runs.pass next.pass t.entries (entries_of tree.c1) n)
+    subst (λ (t : Contents). TellsQuantum (HasAllAhead held.runs.pass t.entries) (held.runs.sizes.quantum / 7 + 2)
+        (λ tree n. PassTook held.runs.sizes.quantum held.runs.pass next.pass (replayed tree.lane_a)
+    (entries_of tree.c1) n)
     (PassMeetsDamage next.sizes next.pass) held.runs next (Ok c.in-Ok.taken) (g.D.Disk.state c.args.disk.now) (g.D.Disk.state c.pass_quantum.new.disk)) c.a.ensures c.in-Ok.ensures.told
 
 pub returns-in-Ok-clause-takes : goal.returns-in-Ok-clause-takes
@@ -52,7 +54,9 @@ pub returns-in-Err-clause-told : goal.returns-in-Err-clause-told
 returns-in-Err-clause-told g c =
     let held = c.args.self.now in
     let next = c.pass_quantum.new.self in
-    subst (λ (t : Contents). TellsQuantum t.entries t.entries (held.runs.sizes.quantum / 7 + 2) (λ tree n. PassTook held.runs.sizes.quantum held.runs.pass next.pass t.entries (entries_of tree.c1) n)
+    subst (λ (t : Contents). TellsQuantum (HasAllAhead held.runs.pass t.entries) (held.runs.sizes.quantum / 7 + 2)
+        (λ tree n. PassTook held.runs.sizes.quantum held.runs.pass next.pass (replayed tree.lane_a)
+    (entries_of tree.c1) n)
     (PassMeetsDamage next.sizes next.pass) held.runs next (Err c.in-Err.broken) (g.D.Disk.state c.args.disk.now) (g.D.Disk.state c.pass_quantum.new.disk)) c.a.ensures c.in-Err.ensures.told
 
 pub returns-in-Err-clause-kept : goal.returns-in-Err-clause-kept

@@ -5,23 +5,21 @@ use Rattle.record_delta.specs.Entries.{entries_weight}
 use Rattle.gear_sched.specs.Gears.{rotated, pass_ended}
 use Rattle.mem_table.specs.Tables.{Contents}
 use Rattle.catalog_swap.specs.declared.catalog.Catalog.{Catalog}
-use Rattle.tree_file.specs.Tree.{Tree}
 use Rattle.tree_runs.specs.Runs.{made_by_pass}
-use Rattle.tree_runs.specs.Holding.{LeavesSwapped, StandOver, IsPassSwapped, progress_of, with_pass_run}
+use Rattle.tree_runs.specs.Holding.{HasAllAhead, LeavesSwapped, progress_of, with_pass_run}
 use Rattle.core_moves.specs.Held.{is_run_full}
 use Rattle.core_moves.proofs.AffectLemmas.{stays_long, sum_fits}
 use Rattle.core_moves.proofs.held.Held.swap_pass.Goals as goal
 
 pub returns-in_err-rotated-clause-lists : goal.returns-in_err-rotated-clause-lists
-returns-in_err-rotated-clause-lists g c = λ tree honest.
+returns-in_err-rotated-clause-lists g c = λ tree honest over ahead.
     let held = c.args.self.now in
     let old = g.D.Disk.state c.args.disk.now in
     let new = g.D.Disk.state c.swap_pass.new.disk in
     let p = err_from_is_err_and c.from_residual.result c.from_residual.ensures.1 in
-    subst (λ (t : Contents). StandOver held.runs tree t.entries old → (next : Tree) × IsPassSwapped (is_run_full held) t.entries tree next
-    × LeavesSwapped held.runs c.swap_pass.new.self tree next held.log.a.entries (is_ok c.from_residual.result) old new) c.a.ensures
-    (λ over. let left = c.in_err-rotated.ensures.lists tree honest over in
-    (left.0, left.1, subst (λ (b : Bool). LeavesSwapped held.runs c.swap_pass.new.self tree left.0 held.log.a.entries b old new) (sym (ap is_ok p.1)) (left.2 held.log.a.entries)))
+    let left = c.in_err-rotated.ensures.lists tree honest over (subst (λ (t : Contents). HasAllAhead held.runs.pass t.entries tree)
+        (sym c.a.ensures) ahead) in
+    (left.0, left.1, subst (λ (b : Bool). LeavesSwapped held.runs c.swap_pass.new.self tree left.0 b old new) (sym (ap is_ok p.1)) left.2)
 
 pub returns-in_err-rotated-clause-effect : goal.returns-in_err-rotated-clause-effect
 returns-in_err-rotated-clause-effect g c = c.swap_pass.ensures.effect
@@ -39,13 +37,9 @@ end_pass-requires g c = λ rotated.
     (ap (λ (n : Catalog). n.c2.weight) next)
 
 pub returns-clause-lists : goal.returns-clause-lists
-returns-clause-lists g c = λ tree honest.
-    let held = c.args.self.now in
-    let old = g.D.Disk.state c.args.disk.now in
-    let new = g.D.Disk.state c.swap_pass.new.disk in
-    subst (λ (t : Contents). StandOver held.runs tree t.entries old → (next : Tree) × IsPassSwapped (is_run_full held) t.entries tree next
-    × LeavesSwapped held.runs c.swap_pass.new.self tree next c.turn.new.self.a.entries true old new) c.a.ensures
-    (λ over. let left = c.in_ok-rotated.ensures.lists tree honest over in (left.0, left.1, left.2 c.turn.new.self.a.entries))
+returns-clause-lists g c = λ tree honest over ahead.
+    c.in_ok-rotated.ensures.lists tree honest over
+    (subst (λ (t : Contents). HasAllAhead c.args.self.now.runs.pass t.entries tree) (sym c.a.ensures) ahead)
 
 pub returns-clause-swaps : goal.returns-clause-swaps
 returns-clause-swaps g c = record {

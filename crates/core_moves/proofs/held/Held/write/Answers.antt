@@ -13,8 +13,8 @@ use Rattle.disk_trait.proofs.EffectLemmas.{affects_wider}
 use Rattle.gated_log.specs.Lane.{lane_region}
 use Rattle.snow_merge.specs.Pass.{SnowState}
 use Rattle.tree_file.specs.Places.{StandsOn, Becomes}
-use Rattle.tree_log.specs.Log.{LogState, IsLogOf, appended, lane_for}
-use Rattle.tree_runs.specs.Holding.{AreOf, StandOver}
+use Rattle.tree_log.specs.Log.{IsLogOf, appended, lane_for}
+use Rattle.tree_runs.specs.Holding.{StandOver}
 use Rattle.core_moves.specs.Held.{goes_ahead}
 use Rattle.core_moves.proofs.AffectLemmas.{stays_long}
 use Rattle.core_moves.proofs.WriteLemmas.{above_floor, lane_beside_pins, runs_on, joined}
@@ -40,7 +40,7 @@ returns-in_err-append-clause-becomes g c = λ tree honest is_of over.
     let becomes = subst (λ (s : Sizes). Becomes s tree (appended c.goes_ahead-ahead.result (c.args.key.now, c.args.rec.now) tree) false old new) c.requires.one.lanes
     (c.in_err-append.ensures.becomes tree honest is_of stands) in
     subst (λ (r : Result (Unit {0}) Failed). Becomes held.runs.sizes tree (appended (goes_ahead c.args.key.now held) (c.args.key.now, c.args.rec.now) tree) (is_ok r) old new
-    × OnOk r (StandOver held.runs (appended (goes_ahead c.args.key.now held) (c.args.key.now, c.args.rec.now) tree) c.append.new.self.a.entries new)) (sym p.1)
+    × OnOk r (StandOver held.runs (appended (goes_ahead c.args.key.now held) (c.args.key.now, c.args.rec.now) tree) new)) (sym p.1)
     (subst (λ (b : Bool). Becomes held.runs.sizes tree (appended b (c.args.key.now, c.args.rec.now) tree) false old new) c.goes_ahead-ahead.ensures becomes, tt)
 
 pub returns-in_err-append-clause-effect : goal.returns-in_err-append-clause-effect
@@ -68,9 +68,10 @@ returns-clause-becomes g c = λ tree honest is_of over.
     let effect = subst (λ (b : Bool). Affects (lane_region held.log.lanes.sizes (lane_for b held.log)) (file_length held.log.lanes.sizes) 4 old new) refl c.append.ensures.effect in
     let are = joined c.goes_ahead-ahead.result held tree c.args.key.now c.args.rec.now c.requires.one
     (sym c.goes_ahead-ahead.ensures) effect honest over.are_of then.reads in
-    subst (λ (b : Bool). Becomes held.runs.sizes tree (appended b entry tree) true old new × StandOver held.runs (appended b entry tree) c.append.new.self.a.entries new) c.goes_ahead-ahead.ensures (
+    subst (λ (b : Bool). Becomes held.runs.sizes tree (appended b entry tree) true old new × StandOver held.runs (appended b entry tree) new)
+        c.goes_ahead-ahead.ensures (
       becomes,
-      record { stands = then; are_of = subst (λ (l : LogState). AreOf held.runs (appended c.goes_ahead-ahead.result entry tree) l.a.entries new.bytes) (sym c.in_ok-append.ensures.log) are },
+      record { stands = then; are_of = are },
     )
 
 pub returns-clause-on : goal.returns-clause-on

@@ -151,7 +151,7 @@ returns-in_default-clause-lists g c = λ overs unders over under honest merging 
             subst (λ (b : List ℕ). IsInput sizes b space role c.self.inside.closed (started c.self.inside.behind) unders under)
             (sym (same ∙ only_reads_same first honest)) (old.behind_is was);
       },
-      newer_sorted sizes new space role at input table overs over c.group_with-taken.ensures.sorted here,
+      newer_sorted sizes new space role at input table overs over here,
       inr (subst (λ (k : Option Key). NoneAbove k over under) at_is ends, at_is, refl),
     )
 
@@ -374,7 +374,7 @@ returns-clause-lists g c = λ overs unders over under honest merging other.
     let both : group_of (first_of (above at over)) (first_of (above at under)) ≡ Some (key, rec, weighs) =
     ap (λ (x : Option (Key × Rec)). group_of x (first_of (above at under))) (newer_first sizes mid.bytes space role at input table overs over c.in_ok-go_above.ensures.ready.0 upper)
     ∙ ap (group_of (first_of (above at (at_hand input table)))) (head_is sizes mid.bytes space role at older under c.in_ok-walk_above.ensures.ready.0 lower) ∙ group g arm in
-    let sorted = newer_sorted sizes mid.bytes space role at input table overs over c.group_with-taken.ensures.sorted upper in
+    let sorted = newer_sorted sizes mid.bytes space role at input table overs over upper in
     let taken = goes_on at over under key rec weighs sorted lower.sorted both in
     let mid_honest : mid.is_honest ≡ true = second.effect.goes_on.is_honest ∙ still in
     let after_honest : after.is_honest ≡ true = c.put.ensures.writes.effect.goes_on.is_honest ∙ mid_honest in

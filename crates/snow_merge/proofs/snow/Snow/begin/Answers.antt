@@ -4,7 +4,8 @@ use Rattle.merge_ends.proofs.MergeLemmas.{none_closed}
 use Rattle.snow_merge.proofs.snow.Snow.begin.Goals as goal
 
 pub returns-clause-pass : goal.returns-clause-pass
-returns-clause-pass c = λ sizes file space a entries list elsewhere. c.begin.ensures.merging false sizes file space None a [] a entries refl list elsewhere
+returns-clause-pass c = λ sizes file space a entries sorted list elsewhere.
+    c.begin.ensures.merging false sizes file space None a [] a entries (sorted, refl) list elsewhere
 
 pub returns-clause-covers : goal.returns-clause-covers
 returns-clause-covers c = λ a. subst (λ (m : MergeState). Covers false m None a) (sym c.begin.ensures.started) (record {

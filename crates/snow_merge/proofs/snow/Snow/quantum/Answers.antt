@@ -1,9 +1,10 @@
-use Rattle.std.proofs.Common.{◌+◌, ◌/◌, [], false, None, sym, subst}
+use Rattle.std.proofs.Common.{◌≡◌, ◌+◌, ◌/◌, [], false, None, refl, sym, subst}
 use Rattle.std.specs.Prelude.{OnOk}
-use Rattle.record_delta.specs.Entries.{Entries}
+use Rattle.record_delta.specs.Entries.{Entries, above}
 use Rattle.merge_ends.specs.Merge.{Covers as MergeCovers, IsMerging, progress}
 use Rattle.merge_ends.specs.Progress.{MergesOn, TakesQuantum, stage}
 use Rattle.merge_ends.specs.Quantum.{IsQuantum}
+use Rattle.merge_ends.proofs.MergeLemmas.{lent_merge}
 use Rattle.snow_merge.specs.Pass.{SnowState, Covers, IsPass, progress_of_pass}
 use Rattle.snow_merge.proofs.snow.Snow.quantum.Goals as goal
 
@@ -20,16 +21,21 @@ returns-clause-numbers g c =
     (stage (progress new None t) c.quantum.new.space c.quantum.new.filter c.quantum.new.fences after) c.quantum.result) c.quantum.ensures.same_table c.quantum.ensures.numbers)
 
 pub returns-clause-pass : goal.returns-clause-pass
-returns-clause-pass g c = λ pages c1 honest pass other.
+returns-clause-pass g c = λ pages all c1 honest same pass other.
     let a = c.args.a.now.entries in
     let sizes = c.args.geo.now in
     let d = g.D.Disk.state c.args.disk.now in
     let after = (g.D.Disk.state c.quantum.new.disk).bytes in
     let new = c.quantum.new.self in
-    let old = subst (λ (s : SnowState). IsPass sizes d.bytes c.args.space.now s c.args.filter.now c.args.fences.now pages a c1) (sym c.self.view_is) pass in
-    let went = c.quantum.ensures.lists [] pages a c1 honest old other in
-    let merging = subst (λ (t : Entries). IsMerging false sizes after c.quantum.new.space new None t c.quantum.new.filter c.quantum.new.fences [] pages a c1) c.quantum.ensures.same_table went.2 in
-    (went.0, went.1, merging, subst (λ (s : SnowState). IsQuantum sizes.quantum s.at new.at a c1 went.0) c.self.view_is went.3)
+    let old = subst (λ (s : SnowState). IsPass sizes d.bytes c.args.space.now s c.args.filter.now c.args.fences.now pages all c1)
+        (sym c.self.view_is) pass in
+    let here = subst (λ (s : SnowState). above s.at all ≡ above s.at a) (sym c.self.view_is) same in
+    let went = c.quantum.ensures.lists [] pages all c1 honest (lent_merge c.self.inside.merge all all c1 a here old) other in
+    let merging = subst (λ (t : Entries). IsMerging false sizes after c.quantum.new.space new None t c.quantum.new.filter c.quantum.new.fences []
+        pages all c1)
+        c.quantum.ensures.same_table went.2 in
+    (went.0, went.1, lent_merge new a all c1 all refl merging,
+    subst (λ (s : SnowState). IsQuantum sizes.quantum s.at new.at all c1 went.0) c.self.view_is went.3)
 
 pub returns-clause-covers : goal.returns-clause-covers
 returns-clause-covers g c = λ covers.

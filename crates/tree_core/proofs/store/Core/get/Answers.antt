@@ -22,7 +22,7 @@ returns g c =
     subst (λ (s : CoreState g.row.D.Denot). may_note_in c.args.seat 0 s.held.book ≡ true → Gets g.D.Disk.state c.args.seat c.args.key.now found s new) c.self.view_is
     (λ can. get_does g.D.Disk.state c.args.seat c.args.key.now found (record { disk = old.disk; held = old.held; holds = old.holds }) c.look_up-found.new.disk c.note.new.self c.self.invariant.0 (g.met.D.Disk.timed c.look_up-found.new.disk) can
     e.cause e.counted (λ tree honest holds catalogue guided dropped runs no_fault. e.value tree honest holds catalogue guided dropped runs no_fault)
-        (λ n counts. e.reads n counts) (λ hides. e.hidden hides) (λ none. e.untouched none) noted) c.requires
+    (λ n counts. e.reads n counts) (λ hides. e.hidden hides) (λ none. e.untouched none) noted) c.requires
 
 pub invariant_of-self : goal.invariant_of-self
 invariant_of-self g c = kept_on g.D.Disk.state c.self.view_is (g.met.D.Disk.timed c.self.inside.disk) c.self.invariant refl (returns g c).goes

@@ -20,7 +20,7 @@ returns g c =
     let new : CoreState g.row.D.Denot = record { disk = old.disk; held = with_book c.note.new.self taken.new.held; holds = taken.new.holds } in
     subst (λ (s : CoreState g.row.D.Denot). may_note_in c.args.seat 0 s.held.book ≡ true → HoldsRange g.D.Disk.state c.args.seat c.args.low.now c.args.high.now taken.result s new) c.self.view_is
     (λ can. hold_does g.D.Disk.state c.args.seat c.args.low.now c.args.high.now taken.result (record { disk = old.disk; held = old.held; holds = old.holds }) c.note.new.self c.self.invariant.0 (g.met.D.Disk.timed old.disk) can
-    e.moves e.cause (λ tree table file made of. e.rows tree table file made of) noted) c.requires
+    e.moves e.cause (λ tree file made of. e.rows tree file made of) noted) c.requires
 
 pub invariant_of-self : goal.invariant_of-self
 invariant_of-self g c = (core_kept g.D.Disk.state c.self.view_is c.self.invariant.0 (returns g c).goes, c.take_hold-holding.ensures.few c.self.invariant.1)

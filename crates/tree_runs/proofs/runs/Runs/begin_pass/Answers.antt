@@ -8,6 +8,8 @@ use Rattle.catalog_swap.specs.declared.catalog.Catalog.{Catalog}
 use Rattle.page_file.specs.Component.{ReadsAs}
 use Rattle.snow_merge.specs.Pass.{SnowState, started}
 use Rattle.tree_runs.specs.Runs.{GuideState, RunsState, AreGuides, AreRuns, AreRunning, DeepRuns, IsReserved, PassRuns, guide_at, run_most}
+use Rattle.record_delta.specs.Entries.{replayed}
+use Rattle.tree_file.proofs.ListLemmas.{sorted_replayed}
 use Rattle.tree_runs.specs.Holding.{AreOf, IsDeepOver, IsPassOver, KeepsOtherGuides}
 use Rattle.tree_runs.proofs.GuideLemmas.{all_guided_still, guides_emptied}
 use Rattle.tree_runs.proofs.KeptMerges.{elsewhere}
@@ -49,8 +51,9 @@ returns-clause-running c = λ honest file running.
     }))
 
 pub returns-clause-lists : goal.returns-clause-lists
-returns-clause-lists c = λ tree a file is.
+returns-clause-lists c = λ tree file is.
     let runs = c.args.self.now in
+    let list = replayed tree.lane_a in
     let are = c.requires.runs in
     let inside = c.self.inside in
     let guides = c.begin_snow.new.guides.items in
@@ -61,17 +64,18 @@ returns-clause-lists c = λ tree a file is.
     let others = subst (λ (t : ℕ). KeepsOtherGuides t runs.guides guides) tagged (subst (λ (gs : List GuideState). KeepsOtherGuides inside.pass gs guides) had c.begin_snow.ensures.others) in
     let now : runs.catalogue.c1 ≡ inside.catalogue.c1 = search rules in
     let c1 : tree.catalogue.c1 ≡ inside.catalogue.c1 = ap (λ (k : Catalog). k.c1) is.catalogue ∙ now in
-    subst (λ (r : RunsState). AreOf r tree a file) (sym (returns-clause-begun c))
-    (subst (λ (gs : List GuideState). AreOf (begun_with runs (started runs.tags.pass runs.catalogue.c1) gs) tree a file) same
+    subst (λ (r : RunsState). AreOf r tree file) (sym (returns-clause-begun c))
+    (subst (λ (gs : List GuideState). AreOf (begun_with runs (started runs.tags.pass runs.catalogue.c1) gs) tree file) same
     (record {
       holds = is.holds;
       catalogue = is.catalogue;
       c1 = is.c1;
       c1x = is.c1x;
       c2 = is.c2;
-      pass = subst (λ (s : SnowState). IsPassOver runs.sizes file runs.space (guide_at guides runs.tags.pass) (Some s) a tree.c1) starts
-          (subst (λ (t : ℕ). IsPassOver runs.sizes file runs.space (guide_at guides t) (Some c.begin_snow.result) a tree.c1) tagged
-          (c.begin_snow.ensures.pass runs.sizes file runs.space a tree.c1 (subst (λ (k : Component). ReadsAs runs.sizes k tree.c1 file) c1 is.holds.c1)
+      pass = subst (λ (s : SnowState). IsPassOver runs.sizes file runs.space (guide_at guides runs.tags.pass) (Some s) list tree.c1) starts
+          (subst (λ (t : ℕ). IsPassOver runs.sizes file runs.space (guide_at guides t) (Some c.begin_snow.result) list tree.c1) tagged
+          (c.begin_snow.ensures.pass runs.sizes file runs.space list tree.c1 (sorted_replayed tree.lane_a)
+          (subst (λ (k : Component). ReadsAs runs.sizes k tree.c1 file) c1 is.holds.c1)
           (elsewhere runs.space runs.tags.c1 inside.pass tree.c1 are.one_tag (λ same. are.tags.c1_pass (same ∙ tagged)) is.c1)));
       deep = subst (λ (g : GuideState). IsDeepOver runs.sizes file runs.space g runs.deep tree.c1x tree.c2) (sym (others runs.tags.deep (λ is. are.tags.pass_deep (sym is)))) is.deep;
       guided = all_guided_still runs.guides guides runs.tags tree others are.tags.c1_pass are.tags.c1x_pass are.tags.c2_pass is.guided;

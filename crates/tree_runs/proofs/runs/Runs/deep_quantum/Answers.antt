@@ -91,7 +91,6 @@ returns-clause-told g c =
     let arm = (goal.at.returns-clause-told g c).After-pages-pages in
     let runs = c.args.self.now in
     let are = c.requires.running.in_order in
-    let a = c.args.a.now.entries in
     let old = g.D.Disk.state c.args.disk.now in
     let new = g.D.Disk.state c.quantum-taken.new.disk in
     let after = c.quantum-taken.new.space in
@@ -101,11 +100,13 @@ returns-clause-told g c =
     let sizes : c.self.inside.geometry ≡ runs.sizes = search rules in
     let is_new = deepened_is after (guides_after g arm) c.saturating_add-self-inside.result next (returns-clause-others g c) refl refl refl refl in
     record {
-      stands = λ tree honest stand. deep_stays runs tree a (runs.sizes.quantum / 4 + 3) after c.in-Some.deep next.writer old new (deep_is g arm) are c.pages-pages.ensures.shape (quantum_is g arm).on.works honest timed stand;
-      lists = λ tree honest stand other.
+      stands = λ tree honest stand. deep_stays runs tree (runs.sizes.quantum / 4 + 3) after c.in-Some.deep next.writer old new
+          (deep_is g arm) are c.pages-pages.ensures.shape (quantum_is g arm).on.works honest timed stand;
+      lists = λ tree honest stand lent other.
           let stands = deep_stands runs after (guides_after g arm) c.saturating_add-self-inside.result (guide_after g arm) c.in-Some.deep next
-          c.quantum-taken.result old new (deep_is g arm) are c.pages-pages.ensures.shape (writes g arm) (quantum_is g arm) timed tree a honest stand other in
-          (stands.0, stands.1, subst (λ (r : RunsState). StandOver r tree a new) (sym is_new) stands.2, stands.3);
+          c.quantum-taken.result old new (deep_is g arm) are c.pages-pages.ensures.shape (writes g arm)
+              (quantum_is g arm) timed tree honest stand other in
+          (stands.0, stands.1, subst (λ (r : RunsState). StandOver r tree new) (sym is_new) stands.2, stands.3);
       running =
           subst (λ (r : RunsState). OnOk c.quantum-taken.result (AreRunning new.is_honest new.bytes r)) (sym is_new)
           (deep_ran runs after (guides_after g arm) c.saturating_add-self-inside.result (guide_after g arm) c.in-Some.deep next

@@ -42,7 +42,7 @@ of_c2 : (c : goal.After-build) → IsPartFrom c.args.low.now (fences_of_tag c.ar
 of_c2 c = subst (λ (s : RunsState). IsPartFrom c.args.low.now (fences_of_tag c.args.self.now s.tags.c2).list s.catalogue.c2 c.part_from-c2.result) c.self.view_is c.part_from-c2.ensures
 
 pub returns-clause-rows : goal.returns-clause-rows
-returns-clause-rows c = λ tree table file of.
+returns-clause-rows c = λ tree file of.
     let runs = c.args.self.now in
     let low = c.args.low.now in
     let one = has_rest runs.sizes low (guide_at runs.guides runs.tags.c1) runs.catalogue.c1 c.part_from-c1.result tree.c1 file (of_c1 c) of.guided.c1
@@ -55,7 +55,7 @@ returns-clause-rows c = λ tree table file of.
     let pins = returns-clause-exact c in
     rows_pinned runs.sizes c.build.new.space.pins c.args.seat _ file (numbers_of one.list.pages ++ numbers_of two.list.pages ++ numbers_of three.list.pages) c.build.result
     (c.build.ensures.rows runs.sizes one.rest two.rest three.rest (entries_of tree.c1) (entries_of tree.c1x) (entries_of tree.c2) file one.list two.list three.list one.is_rest two.is_rest three.is_rest)
-    (both_ok c.build.result pins pins (λ pins again page has. live_pinned runs c.build.new.space c.args.seat tree table file pins of page (among page has)))
+    (both_ok c.build.result pins pins (λ pins again page has. live_pinned runs c.build.new.space c.args.seat tree file pins of page (among page has)))
 
 pub returns-clause-hold : goal.returns-clause-hold
 returns-clause-hold c =
@@ -68,9 +68,9 @@ returns-clause-running c = λ honest file running.
     (running_repinned c.args.self.now c.build.new.space (repinned c) honest file running)
 
 pub returns-clause-lists : goal.returns-clause-lists
-returns-clause-lists c = λ tree table file of.
-    subst (λ (s : RunsState). AreOf (record s { space = c.build.new.space }) tree table file) (sym c.self.view_is)
-    (lists_repinned c.args.self.now c.build.new.space (repinned c) tree table file of)
+returns-clause-lists c = λ tree file of.
+    subst (λ (s : RunsState). AreOf (record s { space = c.build.new.space }) tree file) (sym c.self.view_is)
+    (lists_repinned c.args.self.now c.build.new.space (repinned c) tree file of)
 
 pub returns-clause-few : goal.returns-clause-few
 returns-clause-few c =

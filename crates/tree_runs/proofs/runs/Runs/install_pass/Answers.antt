@@ -31,7 +31,7 @@ returns-clause-goes_on c = λ honest file runs.
     (subst (λ (m : Merges). DeepRuns inside.geometry honest file c.release.new.self (guide_at inside.guides.items inside.deep) m.deep) (sym c.deref_mut-merges.ensures.value) still)
 
 pub returns-clause-lists : goal.returns-clause-lists
-returns-clause-lists c = λ tree run output a file holds c1x c2 made guided_run guided_c1x guided_c2 over finished.
+returns-clause-lists c = λ tree run output file holds c1x c2 made guided_run guided_c1x guided_c2 over finished.
     let inside = c.self.inside in
     let was = subst (λ (s : RunsState). AreRuns s × HoldsTree s.sizes (with_pass c.args.next run tree.c1x tree.c2 output tree) file × AreTagged s.space s.tags.pass run × AreTagged s.space s.tags.c1x tree.c1x × AreTagged s.space s.tags.c2 tree.c2
     × IsGuidedBy (guide_at s.guides s.tags.pass) run × IsGuidedBy (guide_at s.guides s.tags.c1x) tree.c1x × IsGuidedBy (guide_at s.guides s.tags.c2) tree.c2

@@ -24,7 +24,7 @@ returns-clause-runs c =
     rw c.begin_deep.ensures.started (runs_for_rotated_pass _ c.args.next c.release.new.self c.begin_deep.new.guides.items was.0 parts was.3 (gone (goal.at.returns-clause-runs c).After-release) reserved)
 
 pub returns-clause-lists : goal.returns-clause-lists
-returns-clause-lists c = λ tree run a file holds c2 made guided_c2 guided_run.
+returns-clause-lists c = λ tree run file holds c2 made guided_c2 guided_run.
     let inside = c.self.inside in
     let after = c.release.new.self in
     let was = subst (λ (s : RunsState). AreRuns s × HoldsTree s.sizes (with_pass c.args.next [] run tree.c2 [] tree) file × AreTagged s.space s.tags.pass run × AreTagged s.space s.tags.c2 tree.c2

@@ -1,4 +1,5 @@
 use Rattle.std.proofs.Common.{◌≡◌, [], Some, None, sym, subst, refl, arith}
+use Rattle.record_delta.specs.Entries.{replayed}
 use Rattle.tree_file.specs.Tree.{HoldsTree}
 use Rattle.tree_file.specs.Places.{with_components}
 use Rattle.tree_runs.specs.declared.runs.Merges.{Merges}
@@ -12,7 +13,7 @@ use Rattle.tree_runs.proofs.KeptMerges.{elsewhere}
 use Rattle.tree_runs.proofs.runs.Runs.install_rotation.Goals as goal
 
 pub returns-clause-lists : goal.returns-clause-lists
-returns-clause-lists c = λ tree a file holds c1 c2 guided_c1 guided_c2.
+returns-clause-lists c = λ tree file holds c1 c2 guided_c1 guided_c2.
     let inside = c.self.inside in
     let was = subst (λ (s : RunsState). AreRuns s × HoldsTree s.sizes (with_components c.args.next [] tree.c1 tree.c2 tree) file × AreTagged s.space s.tags.c1 tree.c1 × AreTagged s.space s.tags.c2 tree.c2
     × IsGuidedBy (guide_at s.guides s.tags.c1) tree.c1 × IsGuidedBy (guide_at s.guides s.tags.c2) tree.c2 × (s.pass ≡ None))
@@ -24,8 +25,10 @@ returns-clause-lists c = λ tree a file holds c1 c2 guided_c1 guided_c2.
       c1 = λ n has. absurd (omega (arith, has.1));
       c1x = was.2;
       c2 = was.3;
-      pass = subst (λ (m : Merges). IsPassOver inside.geometry file inside.space (guide_at c.begin_deep.new.guides.items inside.pass) m.pass a []) (sym c.deref_mut-merges.ensures.value)
-          (subst (λ (snow : _). IsPassOver inside.geometry file inside.space (guide_at c.begin_deep.new.guides.items inside.pass) snow a []) (sym was.6) tt);
+      pass = subst (λ (m : Merges). IsPassOver inside.geometry file inside.space (guide_at c.begin_deep.new.guides.items inside.pass) m.pass
+          (replayed tree.lane_a) []) (sym c.deref_mut-merges.ensures.value)
+          (subst (λ (snow : _). IsPassOver inside.geometry file inside.space (guide_at c.begin_deep.new.guides.items inside.pass) snow
+              (replayed tree.lane_a) []) (sym was.6) tt);
       deep = c.begin_deep.ensures.merge inside.geometry file inside.space tree.c1 tree.c2 was.1.c1x (elsewhere inside.space inside.c1 inside.deep tree.c1 are.one_tag are.tags.c1_deep was.2)
           was.1.c2 (elsewhere inside.space inside.c2 inside.deep tree.c2 are.one_tag are.tags.c2_deep was.3);
       guided = record {

@@ -151,7 +151,7 @@ returns-clause-running c = λ honest file on.
     })
 
 pub returns-clause-lists : goal.returns-clause-lists
-returns-clause-lists c = λ tree a file holds is c1 c1x c2 guided over.
+returns-clause-lists c = λ tree file holds is c1 c1x c2 guided over.
     let sizes = c.args.geometry.now in
     let space = c.args.space in
     let ahead = c.args.ahead in
@@ -169,7 +169,7 @@ returns-clause-lists c = λ tree a file holds is c1 c1x c2 guided over.
     (c.go_on.ensures.merge sizes file space tree.c1x tree.c2
     newer (elsewhere space 1 c.new-deep.result tree.c1x once (omega (arith, tag)) c1x)
     older (elsewhere space 2 c.new-deep.result tree.c2 once (omega (arith, tag)) c2) over_tag)) in
-    subst (λ (r : RunsState). AreOf r tree a file) (sym (returns-clause-opened c)) (record {
+    subst (λ (r : RunsState). AreOf r tree file) (sym (returns-clause-opened c)) (record {
       holds = holds;
       catalogue = is;
       c1 = c1;

@@ -111,11 +111,13 @@ returns-clause-told g c =
     let sizes : c.self.inside.geometry ≡ runs.sizes = search rules in
     let is_new = passed_is after (guides_after g arm) c.saturating_add-self-inside.result next (returns-clause-others g c) refl refl refl refl in
     record {
-      stands = λ tree honest stand. pass_stays runs tree a (runs.sizes.quantum / 7 + 2) after old new are c.pages-pages.ensures.shape works honest timed stand;
-      lists = λ tree honest stand other.
+      stands = λ tree honest stand. pass_stays runs tree (runs.sizes.quantum / 7 + 2) after old new are c.pages-pages.ensures.shape works honest
+          timed stand;
+      lists = λ tree honest stand ahead other.
           let stands = pass_stands runs after (guides_after g arm) c.saturating_add-self-inside.result (guide_after g arm) c.in-Some.snow next a
-          c.quantum-taken.result old new (pass_is g arm) are c.pages-pages.ensures.shape (writes g arm) (quantum_is g arm) timed tree honest stand other in
-          (stands.0, stands.1, subst (λ (r : RunsState). StandOver r tree a new) (sym is_new) stands.2, stands.3);
+          c.quantum-taken.result old new (pass_is g arm) are c.pages-pages.ensures.shape (writes g arm)
+              (quantum_is g arm) timed tree honest stand ahead other in
+          (stands.0, stands.1, subst (λ (r : RunsState). StandOver r tree new) (sym is_new) stands.2, stands.3);
       running =
           subst (λ (r : RunsState). OnOk c.quantum-taken.result (AreRunning new.is_honest new.bytes r)) (sym is_new)
           (pass_ran runs after (guides_after g arm) c.saturating_add-self-inside.result (guide_after g arm) c.in-Some.snow next a

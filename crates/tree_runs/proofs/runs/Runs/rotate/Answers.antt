@@ -7,7 +7,6 @@ use Rattle.disk_trait.proofs.EffectLemmas.{affects_wider}
 use Rattle.disk_trait.specs.Moments.{LeavesOnly}
 use Rattle.blsm_model.specs.Sizes.{Sizes}
 use Rattle.blsm_model.specs.Geometry.{file_length}
-use Rattle.record_delta.specs.Entries.{Entries}
 use Rattle.scan_view.specs.Pins.{beside_pins}
 use Rattle.snow_merge.specs.Pass.{SnowState}
 use Rattle.tree_file.specs.Tree.{Tree, HoldsTree}
@@ -26,16 +25,17 @@ effect g c =
     affects_wider (commit_beside now.sizes now.space.pins now.catalogue c.requires.running.in_order.geometry c.requires.roles) (omega arith) (omega arith)
     (subst (λ (s : RunsState). Affects (commit_region s.sizes s.catalogue) (file_length s.sizes) 8 (g.D.Disk.state c.args.disk.now) (g.D.Disk.state c.commit_next.new.disk)) c.self.view_is c.commit_next.ensures.effect)
 
-committed : (g : _) (c : After-commit_next g) (tree : Tree) (a : Entries) → IsTrue (g.D.Disk.state c.args.disk.now).is_honest → StandOver c.args.self.now tree a (g.D.Disk.state c.args.disk.now)
+committed : (g : _) (c : After-commit_next g) (tree : Tree) → IsTrue (g.D.Disk.state c.args.disk.now).is_honest
+    → StandOver c.args.self.now tree (g.D.Disk.state c.args.disk.now)
     → IsRotated tree (with_components c.after_rotation-next.result [] tree.c1 tree.c2 tree) × LeavesOnly (g.D.Disk.state c.args.disk.now) (g.D.Disk.state c.args.disk.now) (HoldsTree c.args.self.now.sizes tree)
     × Becomes c.args.self.now.sizes tree (with_components c.after_rotation-next.result [] tree.c1 tree.c2 tree) (is_ok c.commit_next.result) (g.D.Disk.state c.args.disk.now) (g.D.Disk.state c.commit_next.new.disk)
-committed g c tree a honest over =
+committed g c tree honest over =
     rotation_becomes c.args.self.now tree c.after_rotation-next.result over honest (g.met.D.Disk.timed c.args.disk.now) c.requires.version c.after_rotation-next.ensures.next
     (subst (λ (s : RunsState). Switches s.sizes s.catalogue c.after_rotation-next.result c.commit_next.result (g.D.Disk.state c.args.disk.now) (g.D.Disk.state c.commit_next.new.disk)) c.self.view_is (record { becomes = c.commit_next.ensures.becomes }))
 
 pub returns-in_err-commit_next-clause-lists : goal.returns-in_err-commit_next-clause-lists
-returns-in_err-commit_next-clause-lists g c = λ tree a honest over.
-    let done = committed g (goal.at.returns-in_err-commit_next-clause-lists g c).After-commit_next tree a honest over in
+returns-in_err-commit_next-clause-lists g c = λ tree honest over.
+    let done = committed g (goal.at.returns-in_err-commit_next-clause-lists g c).After-commit_next tree honest over in
     let p = err_from_is_err_and c.from_residual.result c.from_residual.ensures.1 in
     (_, done.0, leaves_swapped c.args.self.now c.args.self.now tree _ done.1 done.2 (λ well. absurd (false≢true (sym (ap is_ok p.1) ∙ well))))
 
@@ -57,17 +57,18 @@ returns-clause-running g c =
     }
 
 pub returns-clause-lists : goal.returns-clause-lists
-returns-clause-lists g c = λ tree a honest over.
+returns-clause-lists g c = λ tree honest over.
     let now = c.args.self.now in
     let new = g.D.Disk.state c.commit_next.new.disk in
     let after = c.install_rotation.new.self in
     let next_tree = with_components c.after_rotation-next.result [] tree.c1 tree.c2 tree in
-    let done = committed g (goal.at.returns-clause-lists g c).After-commit_next tree a honest over in
+    let done = committed g (goal.at.returns-clause-lists g c).After-commit_next tree honest over in
     let stands = done.2.stands (ap is_ok c.in_ok-commit_next.was) in (
       next_tree,
       done.0,
       leaves_swapped now after tree next_tree done.1 done.2 (λ well. record {
         stands = subst (λ (s : Sizes). StandsOn s next_tree new) (sym c.install_rotation.ensures.rotates.sizes) stands;
-        are_of = c.install_rotation.ensures.lists tree a new.bytes stands.reads over.are_of.c1 over.are_of.c2 over.are_of.guided.c1 over.are_of.guided.c2;
+        are_of = c.install_rotation.ensures.lists tree new.bytes stands.reads over.are_of.c1 over.are_of.c2 over.are_of.guided.c1
+            over.are_of.guided.c2;
       }),
     )

@@ -9,7 +9,7 @@ use Rattle.blsm_model.specs.Sizes.{Sizes}
 use Rattle.blsm_model.specs.Geometry.{file_length}
 use Rattle.scan_view.specs.Pins.{beside_pins}
 use Rattle.deep_merge.specs.Merge.{DeepState}
-use Rattle.record_delta.specs.Entries.{Entries}
+use Rattle.record_delta.specs.Entries.{replayed}
 use Rattle.tree_file.specs.Tree.{Tree, HoldsTree}
 use Rattle.tree_file.specs.Places.{with_components, StandsOn}
 use Rattle.tree_runs.specs.Runs.{RunsState, PassRuns, DeepRuns, guide_at}
@@ -26,7 +26,7 @@ use Rattle.tree_runs.proofs.Terms.{swap_region}
 -- ---- the run's end wasn't written
 
 pub returns-in_err-made-clause-lists : goal.returns-in_err-made-clause-lists
-returns-in_err-made-clause-lists g c = λ tree a honest over.
+returns-in_err-made-clause-lists g c = λ tree honest over.
     let now = c.args.self.now in
     let are = c.requires.running.in_order in
     let stands = stands_behind_deep now c.requires.running over c.finish_deep.ensures.opens honest (g.met.D.Disk.timed c.finish_deep.new.disk) in
@@ -58,11 +58,12 @@ effect_beside g c =
     let are = c.requires.running.in_order in
     affects_wider (swap_beside now.sizes now.space now.tags.deep now.catalogue are.geometry c.requires.roles are.deep_unpinned) (omega arith) (omega arith) (effect g c)
 
-committed : (g : _) (c : After-commit_next g) (tree : Tree) (a : Entries) → IsTrue (g.D.Disk.state c.args.disk.now).is_honest → StandOver c.args.self.now tree a (g.D.Disk.state c.args.disk.now)
+committed : (g : _) (c : After-commit_next g) (tree : Tree) → IsTrue (g.D.Disk.state c.args.disk.now).is_honest
+    → StandOver c.args.self.now tree (g.D.Disk.state c.args.disk.now)
     → DeepCommitted c.args.self.now tree c.in_ok-made.made c.after_deep-next.result (is_ok c.commit_next.result) (g.D.Disk.state c.args.disk.now) (g.D.Disk.state c.finish_deep.new.disk) (g.D.Disk.state c.commit_next.new.disk)
-committed g c tree a honest over =
+committed g c tree honest over =
     let now = c.args.self.now in
-    let finished : IsFinished now tree a now.tags.deep (g.D.Disk.state c.args.disk.now) (g.D.Disk.state c.finish_deep.new.disk) =
+    let finished : IsFinished now tree now.tags.deep (g.D.Disk.state c.args.disk.now) (g.D.Disk.state c.finish_deep.new.disk) =
     record { end = file_length now.sizes; running = c.requires.running; over = over; few = c.requires.version; effect = c.finish_deep.ensures.writes.effect; honest = honest; timed = g.met.D.Disk.timed c.finish_deep.new.disk; stands = stands_behind_deep now c.requires.running over c.finish_deep.ensures.opens honest (g.met.D.Disk.timed c.finish_deep.new.disk) } in
     let switches = subst (λ (s : RunsState). Switches s.sizes s.catalogue c.after_deep-next.result c.commit_next.result (g.D.Disk.state c.finish_deep.new.disk) (g.D.Disk.state c.commit_next.new.disk)) (c.self.view_is ∙ c.finish_deep.ensures.same) (record { becomes = c.commit_next.ensures.becomes }) in
     let next_is = subst (λ (s : RunsState). c.after_deep-next.result ≡ with_deep_run c.in_ok-made.made s.catalogue) c.finish_deep.ensures.same c.after_deep-next.ensures.next in
@@ -72,8 +73,8 @@ committed g c tree a honest over =
 -- ---- the commit failed
 
 pub returns-in_err-commit_next-clause-lists : goal.returns-in_err-commit_next-clause-lists
-returns-in_err-commit_next-clause-lists g c = λ tree a honest over.
-    let done = committed g (goal.at.returns-in_err-commit_next-clause-lists g c).After-commit_next tree a honest over in
+returns-in_err-commit_next-clause-lists g c = λ tree honest over.
+    let done = committed g (goal.at.returns-in_err-commit_next-clause-lists g c).After-commit_next tree honest over in
     let p = err_from_is_err_and c.from_residual-in_err-commit_next.result c.from_residual-in_err-commit_next.ensures.1 in
     (_, done.swapped, leaves_swapped c.args.self.now c.finish_deep.new.self tree _ done.first done.becomes (λ well. absurd (false≢true (sym (ap is_ok p.1) ∙ well))))
 
@@ -106,24 +107,25 @@ returns-clause-running g c =
     }
 
 pub returns-clause-lists : goal.returns-clause-lists
-returns-clause-lists g c = λ tree a honest over.
+returns-clause-lists g c = λ tree honest over.
     let now = c.args.self.now in
     let are = c.requires.running.in_order in
     let new = g.D.Disk.state c.commit_next.new.disk in
     let after = c.install_deep.new.self in
-    let done = committed g (goal.at.returns-clause-lists g c).After-commit_next tree a honest over in
+    let done = committed g (goal.at.returns-clause-lists g c).After-commit_next tree honest over in
     let next_tree = with_components c.after_deep-next.result tree.c1 [] done.list.pages tree in
     let stands = done.becomes.stands (ap is_ok c.in_ok-commit_next.was) in
-    let pass = pass_over_still (guide_at now.guides now.tags.pass) now.pass a tree.c1
+    let pass = pass_over_still (guide_at now.guides now.tags.pass) now.pass (replayed tree.lane_a) tree.c1
     (swap_keeps true now now.tags.deep now.tags.pass (λ told. honest) are c.requires.roles (λ is. are.tags.pass_deep (sym is)) (effect g (goal.at.returns-clause-lists g c).After-commit_next))
     (swap_pages now now.tags.deep now.tags.c1 are c.requires.roles (λ is. are.tags.c1_deep (sym is))) are.pass_tag over.are_of.c1 over.are_of.pass in
     let found = subst (λ (s : RunsState). HoldsTree s.sizes next_tree new.bytes × AreTagged s.space s.tags.c1 tree.c1 × AreTagged s.space s.tags.deep done.list.pages
-    × IsGuidedBy (guide_at s.guides s.tags.c1) tree.c1 × IsGuidedBy (guide_at s.guides s.tags.deep) done.list.pages × IsPassOver s.sizes new.bytes s.space (guide_at s.guides s.tags.pass) s.pass a tree.c1)
+    × IsGuidedBy (guide_at s.guides s.tags.c1) tree.c1 × IsGuidedBy (guide_at s.guides s.tags.deep) done.list.pages
+        × IsPassOver s.sizes new.bytes s.space (guide_at s.guides s.tags.pass) s.pass (replayed tree.lane_a) tree.c1)
     (sym c.finish_deep.ensures.same) (stands.reads, over.are_of.c1, done.tagged, over.are_of.guided.c1, λ some. done.guided, pass) in (
       next_tree,
       done.swapped,
       leaves_swapped now after tree next_tree done.first done.becomes (λ well. record {
         stands = subst (λ (s : Sizes). StandsOn s next_tree new) (sym (c.install_deep.ensures.swaps.sizes ∙ ap (λ (s : RunsState). s.sizes) c.finish_deep.ensures.same)) stands;
-        are_of = c.install_deep.ensures.lists tree done.list.pages a new.bytes found.0 found.1 found.2 found.3 found.4 found.5;
+        are_of = c.install_deep.ensures.lists tree done.list.pages new.bytes found.0 found.1 found.2 found.3 found.4 found.5;
       }),
     )

@@ -9,14 +9,14 @@ use Rattle.blsm_model.specs.declared.component.Component.{Component}
 use Rattle.blsm_model.specs.Sizes.{Sizes}
 use Rattle.blsm_model.specs.Geometry.{file_length}
 use Rattle.scan_view.specs.Pins.{beside_pins}
-use Rattle.record_delta.specs.Entries.{folded_over}
+use Rattle.record_delta.specs.Entries.{folded_over, replayed}
 use Rattle.page_file.specs.Component.{entries_of}
 use Rattle.snow_merge.specs.Pass.{SnowState}
 use Rattle.tree_file.specs.Tree.{Tree, HoldsTree}
 use Rattle.tree_file.specs.Places.{with_pass, StandsOn}
 use Rattle.tree_runs.specs.Runs.{RunsState, PassRuns, DeepRuns, guide_at, made_by_pass}
 use Rattle.tree_runs.specs.Holding.{AreFinished, AreTagged, IsDeepOver, IsGuidedBy, progress_of, with_pass_run, is_full}
-use Rattle.tree_runs.specs.Holding.{StandOver, commit_region}
+use Rattle.tree_runs.specs.Holding.{HasAllAhead, StandOver, commit_region}
 use Rattle.tree_runs.proofs.PinLemmas.{commit_beside, pass_beside}
 use Rattle.tree_runs.proofs.KeptMerges.{deep_runs_still, deep_over_still}
 use Rattle.tree_runs.proofs.SwapLemmas.{stands_behind_pass, leaves_swapped, leaves_unswapped, both_effects, swap_effect, swap_keeps, swap_pages, one_page, one_page_entries}
@@ -29,17 +29,17 @@ use Rattle.tree_runs.proofs.Terms.{swap_region}
 -- ---- the run's end wasn't written
 
 pub returns-in_err-made-clause-lists : goal.returns-in_err-made-clause-lists
-returns-in_err-made-clause-lists g c = λ tree honest over.
+returns-in_err-made-clause-lists g c = λ tree honest over ahead.
     let now = c.args.self.now in
     let are = c.requires.running.in_order in
-    let a = c.args.a.now.entries in
     let stands = stands_behind_pass now are over c.finish_pass.ensures.writes.effect honest (g.met.D.Disk.timed c.finish_pass.new.disk) in
     let p = err_from_is_err_and c.from_residual.result c.from_residual.ensures.1 in
-    let out = folded_over a (entries_of tree.c1) in
+    let out = folded_over (replayed tree.lane_a) (entries_of tree.c1) in
     let full = is_full now.sizes (made_by_pass now.pass) in (
       pass_tree full (next_version tree.catalogue) (one_page out) [] tree,
-      pass_swapped full a tree (next_version tree.catalogue) (one_page out) [] (one_page_entries out) refl,
-      λ table. leaves_unswapped now c.finish_pass.new.self tree (pass_tree full (next_version tree.catalogue) (one_page out) [] tree) stands.0 stands.1 (λ well. false≢true (sym (ap is_ok p.1) ∙ well)),
+      pass_swapped full tree (next_version tree.catalogue) (one_page out) [] (one_page_entries out) refl,
+      leaves_unswapped now c.finish_pass.new.self tree (pass_tree full (next_version tree.catalogue) (one_page out) [] tree) stands.0 stands.1
+          (λ well. false≢true (sym (ap is_ok p.1) ∙ well)),
     )
 
 pub returns-in_err-made-clause-effect : goal.returns-in_err-made-clause-effect
@@ -70,25 +70,28 @@ effect_beside g c =
     (subst (λ (s : RunsState). Affects (commit_region s.sizes s.catalogue) (file_length s.sizes) 8 (g.D.Disk.state c.finish_pass.new.disk) (g.D.Disk.state c.commit_next.new.disk)) (c.self.view_is ∙ c.finish_pass.ensures.same) c.commit_next.ensures.effect))
 
 committed : (g : _) (c : After-commit_next g) (b : Bool) → is_full c.args.self.now.sizes (made_by_pass c.args.self.now.pass) ≡ b → (tree : Tree) → IsTrue (g.D.Disk.state c.args.disk.now).is_honest
-    → StandOver c.args.self.now tree c.args.a.now.entries (g.D.Disk.state c.args.disk.now)
-    → PassCommitted c.args.self.now tree c.args.a.now.entries b c.in_ok-made.made c.after_pass-next.result (is_ok c.commit_next.result) (g.D.Disk.state c.args.disk.now) (g.D.Disk.state c.finish_pass.new.disk) (g.D.Disk.state c.commit_next.new.disk)
-committed g c b full tree honest over =
+    → StandOver c.args.self.now tree (g.D.Disk.state c.args.disk.now) → HasAllAhead c.args.self.now.pass c.args.a.now.entries tree
+    → PassCommitted c.args.self.now tree b c.in_ok-made.made c.after_pass-next.result (is_ok c.commit_next.result) (g.D.Disk.state c.args.disk.now)
+        (g.D.Disk.state c.finish_pass.new.disk) (g.D.Disk.state c.commit_next.new.disk)
+committed g c b full tree honest over ahead =
     let now = c.args.self.now in
-    let finished : IsFinished now tree c.args.a.now.entries now.tags.pass (g.D.Disk.state c.args.disk.now) (g.D.Disk.state c.finish_pass.new.disk) =
+    let finished : IsFinished now tree now.tags.pass (g.D.Disk.state c.args.disk.now) (g.D.Disk.state c.finish_pass.new.disk) =
     record { end = file_length now.sizes; running = c.requires.running; over = over; few = c.requires.version; effect = c.finish_pass.ensures.writes.effect; honest = honest; timed = g.met.D.Disk.timed c.finish_pass.new.disk; stands = stands_behind_pass now c.requires.running.in_order over c.finish_pass.ensures.writes.effect honest (g.met.D.Disk.timed c.finish_pass.new.disk) } in
     let switches = subst (λ (s : RunsState). Switches s.sizes s.catalogue c.after_pass-next.result c.commit_next.result (g.D.Disk.state c.finish_pass.new.disk) (g.D.Disk.state c.commit_next.new.disk)) (c.self.view_is ∙ c.finish_pass.ensures.same) (record { becomes = c.commit_next.ensures.becomes }) in
     let next_is = subst (λ (s : RunsState). c.after_pass-next.result ≡ with_pass_run s.sizes c.in_ok-made.made (progress_of s.catalogue s.deep) s.catalogue) c.finish_pass.ensures.same c.after_pass-next.ensures.next in
-    let list = c.in_ok-made.ensures.list tree.c1 honest over.are_of.pass in
+    let list = c.in_ok-made.ensures.list (replayed tree.lane_a) tree.c1 honest ahead over.are_of.pass in
     pass_becomes now tree c.in_ok-made.made c.after_pass-next.result b full (λ heavy. c.requires.way (full ∙ heavy)) c.requires.roles finished c.in_ok-made.ensures.component list.0 list.1 list.2 next_is switches
 
 -- ---- the commit failed
 
 pub returns-in_err-commit_next-clause-lists : goal.returns-in_err-commit_next-clause-lists
-returns-in_err-commit_next-clause-lists g c = λ tree honest over.
+returns-in_err-commit_next-clause-lists g c = λ tree honest over ahead.
     let now = c.args.self.now in
-    let done = committed g (goal.at.returns-in_err-commit_next-clause-lists g c).After-commit_next (is_full now.sizes (made_by_pass now.pass)) refl tree honest over in
+    let done = committed g (goal.at.returns-in_err-commit_next-clause-lists g c).After-commit_next
+        (is_full now.sizes (made_by_pass now.pass)) refl tree honest over ahead in
     let p = err_from_is_err_and c.from_residual-in_err-commit_next.result c.from_residual-in_err-commit_next.ensures.1 in
-    (_, done.swapped, λ table. leaves_swapped now c.finish_pass.new.self tree _ done.first done.becomes (λ well. absurd (false≢true (sym (ap is_ok p.1) ∙ well))))
+    (_, done.swapped, leaves_swapped now c.finish_pass.new.self tree _ done.first done.becomes
+        (λ well. absurd (false≢true (sym (ap is_ok p.1) ∙ well))))
 
 pub returns-in_err-commit_next-clause-effect : goal.returns-in_err-commit_next-clause-effect
 returns-in_err-commit_next-clause-effect g c = effect_beside g (goal.at.returns-in_err-commit_next-clause-effect g c).After-commit_next
@@ -110,7 +113,7 @@ returns-then-rotates-clause-running g c =
     }
 
 pub returns-then-rotates-clause-lists : goal.returns-then-rotates-clause-lists
-returns-then-rotates-clause-lists g c = λ tree honest over.
+returns-then-rotates-clause-lists g c = λ tree honest over ahead.
     let now = c.args.self.now in
     let new = g.D.Disk.state c.commit_next.new.disk in
     let after = c.install_rotated_pass.new.self in
@@ -118,7 +121,7 @@ returns-then-rotates-clause-lists g c = λ tree honest over.
     let marked : is_full c.self.inside.geometry made ≡ true = ap (λ (n : ℕ). nat_le n made.weight) (sym c.c1_mark.ensures.mark) ∙ le-leb c.c1_mark.result made.weight c.if-rotates.true in
     let full = subst (λ (s : RunsState). is_full s.sizes made ≡ true) (c.self.view_is ∙ c.finish_pass.ensures.same) marked in
     let full_now : is_full now.sizes (made_by_pass now.pass) ≡ true = ap (λ (k : Component). is_full now.sizes k) (sym c.in_ok-made.ensures.component) ∙ full in
-    let done = committed g (goal.at.returns-then-rotates-clause-lists g c).After-commit_next true full_now tree honest over in
+    let done = committed g (goal.at.returns-then-rotates-clause-lists g c).After-commit_next true full_now tree honest over ahead in
     let next_tree = with_pass c.after_pass-next.result [] done.list.pages tree.c2 [] tree in
     let stands = done.becomes.stands (ap is_ok c.in_ok-commit_next.was) in
     let found = subst (λ (s : RunsState). HoldsTree s.sizes next_tree new.bytes × AreTagged s.space s.tags.c2 tree.c2 × AreTagged s.space s.tags.pass done.list.pages
@@ -126,9 +129,9 @@ returns-then-rotates-clause-lists g c = λ tree honest over.
     (sym c.finish_pass.ensures.same) (stands.reads, over.are_of.c2, done.tagged, over.are_of.guided.c2, λ some. done.guided) in (
       next_tree,
       done.swapped,
-      λ table. leaves_swapped now after tree next_tree done.first done.becomes (λ well. record {
+      leaves_swapped now after tree next_tree done.first done.becomes (λ well. record {
         stands = subst (λ (s : Sizes). StandsOn s next_tree new) (sym (c.install_rotated_pass.ensures.swaps.sizes ∙ ap (λ (s : RunsState). s.sizes) c.finish_pass.ensures.same)) stands;
-        are_of = c.install_rotated_pass.ensures.lists tree done.list.pages table new.bytes found.0 found.1 found.2 found.3 found.4;
+        are_of = c.install_rotated_pass.ensures.lists tree done.list.pages new.bytes found.0 found.1 found.2 found.3 found.4;
       }),
     )
 
@@ -158,7 +161,7 @@ returns-else-rotates-clause-running g c =
     }
 
 pub returns-else-rotates-clause-lists : goal.returns-else-rotates-clause-lists
-returns-else-rotates-clause-lists g c = λ tree honest over.
+returns-else-rotates-clause-lists g c = λ tree honest over ahead.
     let now = c.args.self.now in
     let new = g.D.Disk.state c.commit_next.new.disk in
     let are = c.requires.running.in_order in
@@ -167,7 +170,7 @@ returns-else-rotates-clause-lists g c = λ tree honest over.
     let marked : is_full c.self.inside.geometry made ≡ false = ap (λ (n : ℕ). nat_le n made.weight) (sym c.c1_mark.ensures.mark) ∙ lt-leb c.c1_mark.result made.weight c.if-rotates.false in
     let light = subst (λ (s : RunsState). is_full s.sizes made ≡ false) (c.self.view_is ∙ c.finish_pass.ensures.same) marked in
     let light_now : is_full now.sizes (made_by_pass now.pass) ≡ false = ap (λ (k : Component). is_full now.sizes k) (sym c.in_ok-made.ensures.component) ∙ light in
-    let done = committed g (goal.at.returns-else-rotates-clause-lists g c).After-commit_next false light_now tree honest over in
+    let done = committed g (goal.at.returns-else-rotates-clause-lists g c).After-commit_next false light_now tree honest over ahead in
     let next_tree = with_pass c.after_pass-next.result done.list.pages tree.c1x tree.c2 done.output tree in
     let stands = done.becomes.stands (ap is_ok c.in_ok-commit_next.was) in
     let deep = deep_over_still (guide_at now.guides now.tags.deep) now.deep tree.c1x tree.c2
@@ -180,8 +183,9 @@ returns-else-rotates-clause-lists g c = λ tree honest over.
     (sym c.finish_pass.ensures.same) (stands.reads, over.are_of.c1x, over.are_of.c2, done.tagged, λ some. done.guided, over.are_of.guided.c1x, over.are_of.guided.c2, deep, done.finished) in (
       next_tree,
       done.swapped,
-      λ table. leaves_swapped now after tree next_tree done.first done.becomes (λ well. record {
+      leaves_swapped now after tree next_tree done.first done.becomes (λ well. record {
         stands = subst (λ (s : Sizes). StandsOn s next_tree new) (sym (c.install_pass.ensures.swaps.sizes ∙ ap (λ (s : RunsState). s.sizes) c.finish_pass.ensures.same)) stands;
-        are_of = c.install_pass.ensures.lists tree done.list.pages done.output table new.bytes found.0 found.1 found.2 found.3 found.4 found.5 found.6 found.7 found.8;
+        are_of = c.install_pass.ensures.lists tree done.list.pages done.output new.bytes found.0 found.1 found.2 found.3 found.4 found.5 found.6
+            found.7 found.8;
       }),
     )

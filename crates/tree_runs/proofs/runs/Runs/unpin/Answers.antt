@@ -16,6 +16,6 @@ returns-clause-running c = λ honest file running.
     (running_repinned c.args.self.now c.unpin.new.self (repinned c) honest file running)
 
 pub returns-clause-lists : goal.returns-clause-lists
-returns-clause-lists c = λ tree table file of.
-    subst (λ (s : RunsState). AreOf (record s { space = c.unpin.new.self }) tree table file) (sym c.self.view_is)
-    (lists_repinned c.args.self.now c.unpin.new.self (repinned c) tree table file of)
+returns-clause-lists c = λ tree file of.
+    subst (λ (s : RunsState). AreOf (record s { space = c.unpin.new.self }) tree file) (sym c.self.view_is)
+    (lists_repinned c.args.self.now c.unpin.new.self (repinned c) tree file of)
