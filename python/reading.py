@@ -23,6 +23,7 @@ LEAST_USED = 3577  # of a page with a next one
 NO_PAGE = 2**32 - 1
 MOST_VERSION = 2**62
 BASE, DELTA, TOMBSTONE, TAILED = 1, 2, 3, 4
+SEVERAL = 5  # the kind of a record of several entries
 MOST_TAIL = 64
 TEXT_LENGTHS = {BASE: range(436), DELTA: range(1), TOMBSTONE: range(1), TAILED: range(1, MOST_TAIL + 1)}
 
@@ -289,16 +290,36 @@ def read_output(file: Bytes, sizes: Sizes, progress: Progress, newer: list[Entry
 
 
 @lru_cache(maxsize=64)
+def read_record(region: bytes, at: int, end: int) -> tuple[tuple[Entry, ...], int] | None:
+    """The entries of the record that stands at this place of a lane and ends before that one, and where it ends."""
+    if at + 4 > end or region[at] != SEVERAL:
+        found = read_entry(region, at, end)
+        return ((found[:2],), found[2]) if found else None
+    _, count, length = struct.unpack_from(">BBH", region, at)
+    at += 4
+    behind = at + length
+    if not 2 <= count <= 32 or length > 512 or behind > end:
+        return None
+    entries: list[Entry] = []
+    for _ in range(count):
+        found = read_entry(region, at, behind)
+        if not found:
+            return None
+        entries.append(found[:2])
+        at = found[2]
+    return (tuple(entries), at) if at == behind else None
+
+
 def read_lane(region: bytes) -> tuple[tuple[Entry, ...], int | None]:
     """The entries of a region, and where its closed gate stands, or none where the lane is damaged behind them."""
     entries: list[Entry] = []
     at = 0
     while region[at] == 1:
-        found = read_entry(region, at + 1, len(region) - 1)
+        found = read_record(region, at + 1, len(region) - 1)
         if not found:
             return tuple(entries), None
-        entries.append(found[:2])
-        at = found[2]
+        entries.extend(found[0])
+        at = found[1]
     return tuple(entries), at
 
 

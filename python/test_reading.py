@@ -51,6 +51,12 @@ WRITES = (4096 + LANE, b"\x01" + DEL_X + b"\x01" + ADD_X + b"\x00")
 
 
 
+def several(*entries: bytes, count: int | None = None, length: int | None = None) -> bytes:
+    """A record of a lane that has several entries."""
+    text = b"".join(entries)
+    return struct.pack(">BBH", 5, len(entries) if count is None else count, len(text) if length is None else length) + text
+
+
 def heavy(key: str, kind: int = BASE) -> bytes:
     """A put of weight 449, or a tombstone."""
     text = b"t" * 435 if kind == BASE else b""
@@ -104,6 +110,11 @@ class Right(unittest.TestCase):
         found = read(store((4096, text)))
         self.assertEqual((found.report, found.map), ("ok version 1 c1 0 0 c1x 0 0 c2 0 0 lanes 2 0\n", {}))
         self.assertEqual(found.lanes[4096], 33)
+
+    def test_a_record_of_several_entries(self) -> None:
+        found = read(store((4096, b"\x01" + several(PUT_A, DEL_A) + b"\x01" + X + b"\x00")))
+        self.assertEqual(found.map, {b"x": (100, b"old")})
+        self.assertIn(" lanes 3 0", found.report)
 
     def test_a_page_below_a_lane(self) -> None:
         self.assertEqual(read(store(*MERGED)).map, {b"x": (100, b"old")})
@@ -238,6 +249,21 @@ class Wrong(unittest.TestCase):
         # an entry must leave room for a gate
         whole = b"\x01" + ADD_X
         self.refused(6, "damaged lane 0", (4096, whole * (LANE // len(whole)) + b"\x01" + ADD_X[: LANE % len(whole)]))
+
+    def test_records_of_several_entries(self) -> None:
+        for record in (
+            several(count=0),
+            several(PUT_A),
+            several(*[DEL_A] * 33),
+            several(PUT_A, DEL_A, count=3),
+            several(PUT_A, DEL_A, PUT_A, count=2),
+            several(PUT_A, DEL_A, length=29),
+            several(PUT_A, DEL_A, length=31),
+            several(heavy("a"), *[DEL_A] * 5),
+            several(PUT_A, several(PUT_A, DEL_A)),
+        ):
+            with self.subTest(record):
+                self.refused(6, "damaged lane 0", (4096, b"\x01" + record + b"\x00"))
 
     def test_entries_of_no_kind(self) -> None:
         for kind, text, count in ((0, 0, 0), (1, 436, 0), (2, 1, 0), (3, 1, 0), (3, 0, 1), (4, 0, 1), (4, 65, 0), (5, 0, 0)):

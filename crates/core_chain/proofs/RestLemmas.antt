@@ -216,7 +216,7 @@ module _ {D : Type 0} (state : D → DiskState) (opening : List (Key × Value)) 
   newest_hides : (key : Key) → is_in_memory old.held.log.a.floor m.lists (kind.Look (op.Get key)) ≡ true → HidesOlder (newest_in key old.held)
   newest_hides key found =
       let holds = (whole.runs runs).holds in
-      let list = replayed (whole.runs runs).tree.lane_a in
+      let list = replayed (whole.runs runs).tree.lane_a.entries in
       let floor = old.held.log.a.floor in
       let b = ap (λ (l : Lists). l.b) holds.lists ∙ sym holds.of_log.b in
       let a : cond (is_above floor key) (record_of_key key m.lists.a) None ≡ record_of_key key old.held.log.a.entries =

@@ -7,7 +7,8 @@ use Rattle.blsm_model.specs.Histories.{written}
 use Rattle.blsm_model.specs.Rows.{map_of}
 use Rattle.blsm_model.specs.declared.key.Key.{Key}
 use Rattle.blsm_model.specs.declared.row.Value.{Value}
-use Rattle.record_delta.specs.Entries.{Entries, entries_weight}
+use Rattle.gated_log.specs.Lane.{Lane}
+use Rattle.record_delta.specs.Entries.{entries_weight}
 use Rattle.record_delta.specs.Replays.{ReplaysWithin}
 use Rattle.page_file.specs.Component.{RunPage, entries_of}
 use Rattle.snow_merge.specs.Pass.{SnowState}
@@ -172,9 +173,10 @@ rotation_images opening held m fronts tree next file image is rests unmerged rot
     fits = record {
       mark = omega (arith, old_fits.mark, weighs next.c1 [] rotated.c1);
       full = omega (arith, old_fits.full, same_weight);
-      replays = subst (λ (n : ℕ). ReplaysWithin m.gears.sizes n next.lane_a next.lane_b) (sym same_weight)
-          (subst (λ (es : Entries). ReplaysWithin m.gears.sizes (components_weight tree) es next.lane_b) (sym rotated.lane_a)
-          (subst (λ (es : Entries). ReplaysWithin m.gears.sizes (components_weight tree) tree.lane_a es) (sym rotated.lane_b) old_fits.replays));
+      replays = subst (λ (n : ℕ). ReplaysWithin m.gears.sizes n next.lane_a.entries next.lane_b.entries) (sym same_weight)
+          (subst (λ (l : Lane). ReplaysWithin m.gears.sizes (components_weight tree) l.entries next.lane_b.entries) (sym rotated.lane_a)
+          (subst (λ (l : Lane). ReplaysWithin m.gears.sizes (components_weight tree) tree.lane_a.entries l.entries)
+          (sym rotated.lane_b) old_fits.replays));
     }
 
     weighs_within : HoldsTree m.gears.sizes next image → WeighsWithin m m.book.entries image

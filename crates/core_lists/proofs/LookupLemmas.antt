@@ -48,7 +48,7 @@ lookup_is_the_machines held tree m file key at =
     floor = held.log.a.floor
 
     list : Entries
-    list = replayed tree.lane_a
+    list = replayed tree.lane_a.entries
 
     c1 : Entries
     c1 = entries_of tree.c1

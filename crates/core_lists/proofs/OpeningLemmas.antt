@@ -3,8 +3,9 @@ use Rattle.std.proofs.Common.{◌≡◌, ◌∙◌, ℕ, ◌+◌, List, [], Opti
 use Rattle.std.proofs.lemmas.Grind.{common_steps}
 use Rattle.std.proofs.lemmas.Bool.Decides.{nat_tests}
 use Rattle.blsm_model.specs.Book.{Book}
+use Rattle.gated_log.specs.Lane.{Lane, no_lane, MayEnd}
 use Rattle.catalog_swap.specs.declared.catalog.Catalog.{Catalog}
-use Rattle.record_delta.specs.Entries.{Entries, entries_weight, replayed}
+use Rattle.record_delta.specs.Entries.{entries_weight, replayed}
 use Rattle.page_file.specs.Component.{entries_of}
 use Rattle.deep_merge.specs.Merge.{DeepState}
 use Rattle.pacing.specs.Pace.{Pace}
@@ -32,8 +33,8 @@ use Rattle.core_lists.proofs.Terms.{StandsIn}
 use Rattle.pacing.proofs.Terms.{no_fronts}
 
 module _ (annals : Book) (faults : ℕ) (held : Held) (tree : Tree) (file : List ℕ) (is : IsOpened annals faults held) (one : IsOne held)
-    (of : AreOf held.runs tree file) (lane_a : tree.lane_a ≡ []) (lane_b : tree.lane_b ≡ [])
-        (opening : IsOpening held.runs.sizes held.runs.catalogue.c1.weight held.runs.catalogue.c2.weight) where
+    (of : AreOf held.runs tree file) (lane_a : tree.lane_a ≡ no_lane) (lane_b : tree.lane_b ≡ no_lane)
+    (opening : IsOpening held.runs.sizes held.runs.catalogue.c1.weight held.runs.catalogue.c2.weight) where
   abbrev first : Machine
   first = opened held.runs.sizes (entries_of tree.c1) (entries_of tree.c2) (catalogue_of held.runs.catalogue) faults annals.room
 
@@ -55,19 +56,32 @@ module _ (annals : Book) (faults : ℕ) (held : Held) (tree : Tree) (file : List
   annals_are = grind (arith, common_steps, nat_tests)
 
   lists : first.lists ≡ lists_of tree
-  lists = same_lists first.lists (lists_of tree) (ap replayed (sym lane_b)) (ap replayed (sym lane_a)) refl (ap entries_of (sym no_c1x)) refl
+  lists = same_lists first.lists (lists_of tree) (ap (λ (l : Lane). replayed l.entries) (sym lane_b))
+      (ap (λ (l : Lane). replayed l.entries) (sym lane_a)) refl (ap entries_of (sym no_c1x)) refl
 
   of_log : IsLogOf tree held.log
   of_log = record {
     roles = one.roles ∙ sym (ap (λ (k : Catalog). k.lanes) of.catalogue);
-    end_a = grind (arith, common_steps, nat_tests);
-    end_b = grind (arith, common_steps, nat_tests);
-    a = rest_whole (replayed tree.lane_a) held.log.a one.whole_a (is.a ∙ sym (ap replayed lane_a));
-    b = is.b ∙ sym (ap replayed lane_b);
+    end_a = is.end_a ∙ sym (ap (λ (l : Lane). l.end) lane_a);
+    end_b = is.end_b ∙ sym (ap (λ (l : Lane). l.end) lane_b);
+    may_a = subst MayEnd (sym lane_a) (λ none. refl);
+    may_b = subst MayEnd (sym lane_b) (λ none. refl);
+    a = rest_whole (replayed tree.lane_a.entries) held.log.a one.whole_a (is.a ∙ sym (ap (λ (l : Lane). replayed l.entries) lane_a));
+    b = is.b ∙ sym (ap (λ (l : Lane). replayed l.entries) lane_b);
   }
 
   holds : HoldsMachine held tree first
-  holds = grind (arith, common_steps, nat_tests)
+  holds =
+      record {
+        lists = lists;
+        of_log = of_log;
+        pass = grind (arith, common_steps, nat_tests);
+        deep = grind (arith, common_steps, nat_tests);
+        gears = grind (arith, common_steps, nat_tests);
+        spring = grind (arith, common_steps, nat_tests);
+        catalogue = grind (arith, common_steps, nat_tests);
+        book = grind (arith, common_steps, nat_tests);
+      }
 
   are : AreComponents held.runs.sizes (entries_of tree.c1) (entries_of tree.c2)
   are =
@@ -87,8 +101,8 @@ module _ (annals : Book) (faults : ℕ) (held : Held) (tree : Tree) (file : List
 
 -- Where the file holds a tree whose lanes are empty, the machine's history begins with the map of that tree.
 pub opening_stands : (annals : Book) (faults : ℕ) (held : Held) (numbers : Pace) (tree : Tree) (file : List ℕ) → IsOpened annals faults held → IsOne held → HasPace held numbers
-    → AreOf held.runs tree file → tree.lane_a ≡ [] → tree.lane_b ≡ [] → IsOpening held.runs.sizes held.runs.catalogue.c1.weight
-        held.runs.catalogue.c2.weight
+    → AreOf held.runs tree file → tree.lane_a ≡ no_lane → tree.lane_b ≡ no_lane → IsOpening held.runs.sizes held.runs.catalogue.c1.weight
+    held.runs.catalogue.c2.weight
     → StandsIn (map_of_tree tree) held (opened held.runs.sizes (entries_of tree.c1) (entries_of tree.c2) (catalogue_of held.runs.catalogue) faults annals.room)
     no_fronts tree file
 opening_stands annals faults held numbers tree file is one has of lane_a lane_b opening = record {
@@ -99,7 +113,7 @@ opening_stands annals faults held numbers tree file is one has of lane_a lane_b 
   one = one;
   within = opening_fronts held.runs.sizes (entries_weight (entries_of tree.c1)) (entries_weight (entries_of tree.c2)) (are annals faults held tree file is one of lane_a lane_b opening).numbers;
   lanes = record {
-    lane_a = subst (λ (es : Entries). IsLane es [] 0) (sym lane_a) empty_lane;
-    lane_b = subst (λ (es : Entries). IsLane es [] 0) (sym lane_b) empty_lane;
+    lane_a = subst (λ (l : Lane). IsLane l.entries [] 0) (sym lane_a) empty_lane;
+    lane_b = subst (λ (l : Lane). IsLane l.entries [] 0) (sym lane_b) empty_lane;
   };
 }

@@ -21,6 +21,7 @@ use Rattle.std.specs.Prelude.{List}
 use Rattle.tree_machine.specs.Layers.{IsSound}
 use Rattle.tree_machine.specs.Machine.{Machine}
 use Rattle.tree_file.specs.Tree.{Tree}
+use Rattle.tree_log.specs.Log.{IsLogOf}
 use Rattle.core_moves.specs.declared.held.Held.{Held}
 use Rattle.core_moves.specs.Held.{IsOne}
 use Rattle.core_moves.specs.Moves.{TakesOfPass, TakesOfDeep}
@@ -33,7 +34,7 @@ same_quantum : (least least2 : ℕ) (from from2 to : Option Key) (newer newer2 o
 same_quantum least least2 from from2 to newer newer2 older older2 n l f a b is = grind (arith, common_steps, nat_tests)
 
 pub pass_quantum_lands : (seat n : ℕ) (old new : Held) (tree : Tree) (m : Machine) (file after : List ℕ) → IsAt old tree m file → IsSound m → IsOne old → 0 < old.runs.sizes.quantum
-    → TakesOfPass seat n old new → PassTook old.runs.sizes.quantum old.runs.pass new.runs.pass (replayed tree.lane_a) (entries_of tree.c1) n
+    → TakesOfPass seat n old new → PassTook old.runs.sizes.quantum old.runs.pass new.runs.pass (replayed tree.lane_a.entries) (entries_of tree.c1) n
     → AreOf new.runs tree after → IsAt new tree (pass_quantum seat m) after
 pass_quantum_lands seat n old new tree m file after at sound one positive moves took are_of =
     record { are_of = are_of; holds = by m.merges.pass old.runs.pass new.runs.pass refl at.holds.pass moves.takes took }
@@ -43,10 +44,20 @@ pass_quantum_lands seat n old new tree m file after at sound one positive moves 
 
     moved : (pass : Merge) (snow next : SnowState) → new.runs.pass ≡ Some next → next.at ≡ cursor_after pass.cursor (quantum_of m.gears.sizes.quantum pass m.lists.a m.lists.c1).groups
         → n ≡ (quantum_of m.gears.sizes.quantum pass m.lists.a m.lists.c1).weight → HoldsMachine new tree (pass_quantum_of (Some pass) seat m)
-    moved pass snow next is comes weighs = grind (arith, common_steps, nat_tests)
+    moved pass snow next is comes weighs =
+        record {
+          lists = grind (arith, common_steps, nat_tests);
+          of_log = subst (IsLogOf tree) (sym moves.log) at.holds.of_log;
+          pass = grind (arith, common_steps, nat_tests);
+          deep = grind (arith, common_steps, nat_tests);
+          gears = grind (arith, common_steps, nat_tests);
+          spring = grind (arith, common_steps, nat_tests);
+          catalogue = grind (arith, common_steps, nat_tests);
+          book = grind (arith, common_steps, nat_tests);
+        }
 
     by : (p : Option Merge) (o q : Option SnowState) → new.runs.pass ≡ q → IsPassAt p o → PassTakes old.runs.sizes.quantum o q old.log.a.entries n
-        → PassTook old.runs.sizes.quantum o q (replayed tree.lane_a) (entries_of tree.c1) n
+        → PassTook old.runs.sizes.quantum o q (replayed tree.lane_a.entries) (entries_of tree.c1) n
         → HoldsMachine new tree (pass_quantum_of p seat m)
     by None None None is comes takes took = absurd takes
     by None None (Some next) is comes takes took = absurd takes
@@ -58,7 +69,7 @@ pass_quantum_lands seat n old new tree m file after at sound one positive moves 
     by (Some pass) (Some snow) (Some next) is comes takes took =
         let onward : IsOnward pass.cursor next.at = λ (key : Key) past. subst (λ (k : Option Key). is_above k key ≡ true) (sym comes) (takes.takes.onward key past) in
         let agree = quanta_agree m.gears.sizes.quantum pass next.at m.lists.a m.lists.c1 n (subst (λ (k : ℕ). 0 < k) least_is positive) sound.layered.sorted_a sound.layered.sorted_c1 onward
-        (same_quantum old.runs.sizes.quantum m.gears.sizes.quantum snow.at pass.cursor next.at (replayed tree.lane_a) m.lists.a
+        (same_quantum old.runs.sizes.quantum m.gears.sizes.quantum snow.at pass.cursor next.at (replayed tree.lane_a.entries) m.lists.a
         (entries_of tree.c1) m.lists.c1 n least_is (sym comes) (sym (list_a old tree m at.holds)) (sym (list_c1 old tree m file at)) took) in
         moved pass snow next is agree.1 agree.0
 
@@ -73,7 +84,17 @@ deep_quantum_lands seat n old new tree m file after at sound sizes positive move
 
     moved : (deep : Merge) (merge next : DeepState) → new.runs.deep ≡ Some next → next.at ≡ cursor_after deep.cursor (quantum_of m.gears.sizes.quantum deep m.lists.c1x m.lists.c2).groups
         → n ≡ (quantum_of m.gears.sizes.quantum deep m.lists.c1x m.lists.c2).weight → HoldsMachine new tree (deep_quantum_of (Some deep) seat m)
-    moved deep merge next is comes weighs = grind (arith, common_steps, nat_tests)
+    moved deep merge next is comes weighs =
+        record {
+          lists = grind (arith, common_steps, nat_tests);
+          of_log = subst (IsLogOf tree) (sym moves.log) at.holds.of_log;
+          pass = grind (arith, common_steps, nat_tests);
+          deep = grind (arith, common_steps, nat_tests);
+          gears = grind (arith, common_steps, nat_tests);
+          spring = grind (arith, common_steps, nat_tests);
+          catalogue = grind (arith, common_steps, nat_tests);
+          book = grind (arith, common_steps, nat_tests);
+        }
 
     by : (p : Option Merge) (o q : Option DeepState) → new.runs.deep ≡ q → IsDeepAt p o → DeepTakes old.runs.sizes.quantum o q n → DeepTook old.runs.sizes.quantum o q (entries_of tree.c1x) (entries_of tree.c2) n
         → HoldsMachine new tree (deep_quantum_of p seat m)

@@ -24,6 +24,7 @@ use Rattle.pacing.specs.Pace.{Pace}
 use Rattle.pacing.specs.Fronts.{Fronts, AreFronts}
 use Rattle.tree_machine.specs.Machine.{Machine}
 use Rattle.paced_tree.specs.Kept.{IsPacedTree}
+use Rattle.gated_log.specs.Lane.{no_lane}
 use Rattle.tree_file.specs.Tree.{Tree, lists_of, FitsSizes, HoldsTree, ReadsAsMap}
 use Rattle.tree_machine.specs.Steps.{deep_swapped, ready_for}
 use Rattle.blsm_model.specs.Rows.{map_of}
@@ -90,12 +91,15 @@ pub fronts_stay : (tree next : Tree) (lists after : Lists) (fronts : Fronts) →
 fronts_stay tree next lists after fronts lane_a lane_b a b has = grind (arith, common_steps, nat_tests)
 
 -- where they turn
-pub fronts_turn : (tree next : Tree) (lists after : Lists) (fronts : Fronts) → next.lane_a ≡ tree.lane_b → next.lane_b ≡ [] → after.a ≡ lists.b → after.b ≡ []
+pub fronts_turn : (tree next : Tree) (lists after : Lists) (fronts : Fronts) → next.lane_a ≡ tree.lane_b → next.lane_b ≡ no_lane → after.a ≡ lists.b
+    → after.b ≡ []
     → HasFronts tree lists fronts → HasFronts next after (fronts_turned fronts)
 fronts_turn tree next lists after fronts lane_a lane_b a b has = grind (arith, common_steps, nat_tests)
 
 -- where an entry is appended
 pub fronts_grow : (ahead : Bool) (key : Key) (rec : Rec) (tree : Tree) (lists : Lists) (fronts : Fronts) → HasFronts tree lists fronts
     → HasFronts (appended ahead (key, rec) tree) (joined ahead key rec lists) (fronts_written ahead (table_weight ahead (joined ahead key rec lists)) fronts)
-fronts_grow true key rec tree lists fronts has = record { lane_a = lane_grows tree.lane_a lists.a fronts.lane_a key rec has.lane_a; lane_b = has.lane_b }
-fronts_grow false key rec tree lists fronts has = record { lane_a = has.lane_a; lane_b = lane_grows tree.lane_b lists.b fronts.lane_b key rec has.lane_b }
+fronts_grow true key rec tree lists fronts has =
+    record { lane_a = lane_grows tree.lane_a.entries lists.a fronts.lane_a key rec has.lane_a; lane_b = has.lane_b }
+fronts_grow false key rec tree lists fronts has =
+    record { lane_a = has.lane_a; lane_b = lane_grows tree.lane_b.entries lists.b fronts.lane_b key rec has.lane_b }

@@ -75,7 +75,7 @@ settling_lands seat held tree m file is nothing = settling seat held tree m file
 
 pub payment_lands : (seat n : ℕ) (old taken new : Held) (tree : Tree) (m : Machine) (file after : List ℕ) → IsSteady old tree m file → Pays seat n old taken new
     → TookByPlan (plan_in seat old) n (with_debts_forgiven seat old) taken tree → AreOf taken.runs tree after
-        → IsAt new tree (pay m seat Well).state after
+    → IsAt new tree (pay m seat Well).state after
 payment_lands seat n old taken new tree m file after is pays took are_of =
     subst (λ (h : Held). IsAt h tree (pay m seat Well).state after) (sym pays.counted)
     (subst (λ (s : Machine). IsAt (with_book (paid_in seat taken.book) taken) tree s after) (sym (paid_is seat old tree m file is))
@@ -158,11 +158,11 @@ turned_by pacing.SwapPass seat n old moved tree next m file after is due moves t
 turned_by pacing.TakeDeep seat n old moved tree next m file after is due moves trees are_of =
     subst (λ (t : Tree). IsAt moved t (deep_quantum seat m) after) (sym trees.0)
     (deep_quantum_lands seat n old moved tree m file after is.at is.sound is.one.gears is.positive moves trees.1
-        (subst (λ (t : Tree). AreOf moved.runs t after) trees.0 are_of))
+    (subst (λ (t : Tree). AreOf moved.runs t after) trees.0 are_of))
 turned_by pacing.TakeSnow seat n old moved tree next m file after is due moves trees are_of =
     subst (λ (t : Tree). IsAt moved t (pass_quantum seat m) after) (sym trees.0)
     (pass_quantum_lands seat n old moved tree m file after is.at is.sound is.one is.positive moves trees.1
-        (subst (λ (t : Tree). AreOf moved.runs t after) trees.0 are_of))
+    (subst (λ (t : Tree). AreOf moved.runs t after) trees.0 are_of))
 turned_by pacing.Begin seat n old moved tree next m file after is due moves trees are_of =
     let begun : AreOf (with_pass_begun old).runs tree after =
     subst (λ (h : Held). AreOf h.runs tree after) moves (subst (λ (t : Tree). AreOf moved.runs t after) trees are_of) in
@@ -172,7 +172,7 @@ turned_by pacing.Idle seat n old moved tree next m file after is due moves trees
 
 pub turn_lands : (is_worker : Bool) (seat n : ℕ) (old moved : Held) (tree next : Tree) (m : Machine) (file after : List ℕ) → IsSteady old tree m file → TurnsBy (move_in is_worker old) seat n old moved
     → TurnsTree (move_in is_worker old) n old moved tree next → AreOf moved.runs next after
-        → IsAt moved next (chosen (chosen_by is_worker m) seat m) after
+    → IsAt moved next (chosen (chosen_by is_worker m) seat m) after
 turn_lands is_worker seat n old moved tree next m file after is moves trees are_of =
     let same = choices old tree m file is is_worker in
     subst (λ (c : Choice). IsAt moved next (chosen c seat m) after) (sym same)

@@ -22,6 +22,7 @@ use Rattle.merge_ends.proofs.GroupLemmas.{all_up_to}
 use Rattle.tree_machine.proofs.FoldLemmas.{both_hold}
 use Rattle.tree_machine.proofs.WeightLemmas.{pass_output, deep_output}
 use Rattle.seat_book.specs.State.{deep_counted_in, pass_counted_in}
+use Rattle.tree_log.proofs.RestLemmas.{log_keeps}
 use Rattle.tree_file.specs.Tree.{Tree, lists_of}
 use Rattle.tree_file.specs.Places.{TurnsRoles}
 use Rattle.tree_log.specs.Log.{LogState, IsLogOf}
@@ -51,7 +52,7 @@ pass_wrote m sound done = grind (arith, common_steps, nat_tests, pass_output)
 
 pub log_stays : (tree next : Tree) (log after : LogState) → after ≡ log → next.catalogue.lanes ≡ tree.catalogue.lanes → next.lane_a ≡ tree.lane_a → next.lane_b ≡ tree.lane_b
     → IsLogOf tree log → IsLogOf next after
-log_stays tree next log after same roles lane_a lane_b is = grind (arith, common_steps, nat_tests)
+log_stays tree next log after same roles lane_a lane_b is = subst (IsLogOf next) (sym same) (log_keeps tree next log roles lane_a lane_b is)
 
 -- ---- the deep merge
 
@@ -81,7 +82,7 @@ deep_swap_lands old new tree next m file after at sound done moves swapped are_o
 -- ---- the pass
 
 wrote_of : (held : Held) (tree : Tree) (m : Machine) → HoldsMachine held tree m → IsSound m → pass_done m ≡ true
-    → output_of m.merges.pass ≡ folded_over (replayed tree.lane_a) (entries_of tree.c1)
+    → output_of m.merges.pass ≡ folded_over (replayed tree.lane_a.entries) (entries_of tree.c1)
 wrote_of held tree m holds sound done = pass_wrote m sound done ∙ ap (λ (l : Lists). folded_over l.a l.c1) holds.lists
 
 -- the lists after the pass, where C1 is rotated with it, and where it isn't
@@ -109,19 +110,19 @@ made_of_done held tree m file at sound done =
         all_up_to at_key es (none_in (above at_key es) (sym (ap (λ (k : Option Key). is_empty (above k es)) comes) ∙ sym (ap (λ (l : Entries). is_empty (above cursor l)) same) ∙ none))
 
     by : (pass : Option Merge) (snow : Option SnowState) → IsPassAt pass snow
-        → RunsOver held.runs.sizes file held.runs.space (guide_at held.runs.guides held.runs.tags.pass) snow (replayed tree.lane_a) tree.c1
+        → RunsOver held.runs.sizes file held.runs.space (guide_at held.runs.guides held.runs.tags.pass) snow (replayed tree.lane_a.entries) tree.c1
         → pass_is_done pass m.lists ≡ true
-        → (made_by_pass snow).weight ≡ entries_weight (folded_over (replayed tree.lane_a) (entries_of tree.c1))
+        → (made_by_pass snow).weight ≡ entries_weight (folded_over (replayed tree.lane_a.entries) (entries_of tree.c1))
     by None snow comes over none = absurd (false≢true none)
     by (Some pass) None comes over none = absurd comes
     by (Some pass) (Some snow) comes over none =
         let parts = both_hold (is_empty (above pass.cursor m.lists.a)) (is_empty (above pass.cursor m.lists.c1)) none in
-        let of_a = taken_all pass.cursor snow.at m.lists.a (replayed tree.lane_a) comes (list_a held tree m at.holds) parts.0 in
+        let of_a = taken_all pass.cursor snow.at m.lists.a (replayed tree.lane_a.entries) comes (list_a held tree m at.holds) parts.0 in
         let of_c1 = taken_all pass.cursor snow.at m.lists.c1 (entries_of tree.c1) comes (list_c1 held tree m file at) parts.1 in
         sym over.run.pushed.held.weight_is
         ∙ ap entries_weight (over.run.pushed.entries_are ∙ over.out_is)
         ∙ ap (λ (es : Entries). entries_weight (folded_over es (up_to snow.at (entries_of tree.c1)))) of_a
-        ∙ ap (λ (es : Entries). entries_weight (folded_over (replayed tree.lane_a) es)) of_c1
+        ∙ ap (λ (es : Entries). entries_weight (folded_over (replayed tree.lane_a.entries) es)) of_c1
 
 -- the pass's run, where it is done, weighs as much as the machine's output
 pub pass_swap_has_lists : (held : Held) (tree next : Tree) (m : Machine) (file : List ℕ) → IsAt held tree m file → IsOne held → IsSound m → pass_done m ≡ true
@@ -135,7 +136,7 @@ module _ (old new : Held) (tree next : Tree) (m : Machine) (file after : List �
 
   passed : (b : Bool) → (made_by_pass old.runs.pass).weight ≡ entries_weight (output_of m.merges.pass) → new.runs.deep ≡ cond b (Some (deep_started old.runs.tags.deep (made_by_pass old.runs.pass) old.runs.catalogue.c2)) old.runs.deep
       → IsPassSwapped b tree next → new.gears ≡ cond b (rotated (pass_ended old.gears)
-          ((made_by_pass old.runs.pass).weight + old.runs.catalogue.c2.weight)) (pass_ended old.gears)
+      ((made_by_pass old.runs.pass).weight + old.runs.catalogue.c2.weight)) (pass_ended old.gears)
       → HoldsMachine new next (cond b (rotate (end_pass m)) (end_pass m))
   passed true weighs deep swapped gears = record {
     lists = ended_lists true old tree next m at.holds sound done swapped;

@@ -16,22 +16,22 @@ use Rattle.core_lists.specs.Standing.{HoldsMachine}
 use Rattle.core_lists.proofs.Terms.{IsAt}
 
 -- table A's list
-pub list_a : (held : Held) (tree : Tree) (m : Machine) → HoldsMachine held tree m → m.lists.a ≡ replayed tree.lane_a
+pub list_a : (held : Held) (tree : Tree) (m : Machine) → HoldsMachine held tree m → m.lists.a ≡ replayed tree.lane_a.entries
 list_a held tree m holds = ap (λ (l : Lists). l.a) holds.lists
 
 -- While nothing is dropped of it, it has all of that.
 pub all_ahead : (held : Held) (tree : Tree) → IsOne held → IsLogOf tree held.log → HasAllAhead held.runs.pass held.log.a.entries tree
 all_ahead held tree one is =
-    ap (above (cursor_of_pass held.runs.pass)) (sym (whole_list (replayed tree.lane_a) held.log.a one.whole_a is.a))
+    ap (above (cursor_of_pass held.runs.pass)) (sym (whole_list (replayed tree.lane_a.entries) held.log.a one.whole_a is.a))
 
 -- the tables of a log weigh what its tree's lists do
 pub tables_weigh : (lists : Lists) (tree : Tree) (log : LogState) → lists ≡ lists_of tree → IsLogOf tree log → memory_weight lists ≡ weight_of_tables log
 tables_weigh lists tree log are is =
-    omega (arith, ap memory_weight are, rest_weighs (replayed tree.lane_a) log.a is.a, ap entries_weight is.b)
+    omega (arith, ap memory_weight are, rest_weighs (replayed tree.lane_a.entries) log.a is.a, ap entries_weight is.b)
 
 module _ (held : Held) (tree : Tree) (m : Machine) (file : List ℕ) (at : IsAt held tree m file) where
   pub weight_a : entries_weight m.lists.a ≡ listed_in_a held.log
-  weight_a = ap (λ (l : Lists). entries_weight l.a) at.holds.lists ∙ sym (rest_weighs (replayed tree.lane_a) held.log.a at.holds.of_log.a)
+  weight_a = ap (λ (l : Lists). entries_weight l.a) at.holds.lists ∙ sym (rest_weighs (replayed tree.lane_a.entries) held.log.a at.holds.of_log.a)
 
   pub table_b : m.lists.b ≡ held.log.b.entries
   table_b = ap (λ (l : Lists). l.b) at.holds.lists ∙ sym at.holds.of_log.b

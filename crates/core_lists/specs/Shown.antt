@@ -18,8 +18,8 @@ use Rattle.tree_file.specs.Tree.{Tree, HoldsTree, ReadsAsMap, components_weight}
 
 -- The lanes replay to the tables, and no front of a lane weighs more than these.
 pub record HasFronts (tree : Tree) (lists : Lists) (fronts : Fronts) : Type 0 where
-  pub lane_a : IsLane tree.lane_a lists.a fronts.lane_a
-  pub lane_b : IsLane tree.lane_b lists.b fronts.lane_b
+  pub lane_a : IsLane tree.lane_a.entries lists.a fronts.lane_a
+  pub lane_b : IsLane tree.lane_b.entries lists.b fronts.lane_b
 
 -- ---- what a file weighs
 
@@ -32,7 +32,7 @@ doubted history = sum_by weight_in_doubt history
 
 -- what the tables weigh to which the lanes replay
 abbrev pub lanes_weight : Tree → ℕ
-lanes_weight tree = entries_weight (replayed tree.lane_a) + entries_weight (replayed tree.lane_b)
+lanes_weight tree = entries_weight (replayed tree.lane_a.entries) + entries_weight (replayed tree.lane_b.entries)
 
 -- The file holds a tree whose components and lanes weigh no more than these.
 pub record HoldsWithin (sizes : Sizes) (most_components most_lanes : ℕ) (file : List ℕ) : Type 0 where

@@ -18,7 +18,7 @@ use Rattle.core_moves.specs.Moves.{TurnsLog}
 
 -- the quantum of the merge that is paid, over its lists
 abbrev pub TookByPlan : Plan → ℕ → Held → Held → Tree → Type 0
-TookByPlan Snow n old new tree = PassTook old.runs.sizes.quantum old.runs.pass new.runs.pass (replayed tree.lane_a) (entries_of tree.c1) n
+TookByPlan Snow n old new tree = PassTook old.runs.sizes.quantum old.runs.pass new.runs.pass (replayed tree.lane_a.entries) (entries_of tree.c1) n
 TookByPlan Deep n old new tree = DeepTook old.runs.sizes.quantum old.runs.deep new.runs.deep (entries_of tree.c1x) (entries_of tree.c2) n
 TookByPlan Nothing n old new tree = ⊥
 
@@ -40,7 +40,7 @@ TurnsTree pacing.SwapDeep n old moved tree next = IsDeepSwapped tree next
 TurnsTree pacing.SwapPass n old moved tree next = IsPassSwapped (is_run_full old) tree next × TurnsLog old.log moved.log
 TurnsTree pacing.TakeDeep n old moved tree next = (next ≡ tree) × DeepTook old.runs.sizes.quantum old.runs.deep moved.runs.deep (entries_of tree.c1x) (entries_of tree.c2) n
 TurnsTree pacing.TakeSnow n old moved tree next =
-    (next ≡ tree) × PassTook old.runs.sizes.quantum old.runs.pass moved.runs.pass (replayed tree.lane_a) (entries_of tree.c1) n
+    (next ≡ tree) × PassTook old.runs.sizes.quantum old.runs.pass moved.runs.pass (replayed tree.lane_a.entries) (entries_of tree.c1) n
 TurnsTree pacing.Begin n old moved tree next = next ≡ tree
 TurnsTree pacing.Rotate n old moved tree next = IsRotated tree next
 TurnsTree pacing.Idle n old moved tree next = next ≡ tree

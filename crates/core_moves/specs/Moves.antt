@@ -1,11 +1,12 @@
 -- What each move of the core makes of what it has in memory, on any disk. Weights are in bytes.
-use Rattle.std.specs.Prelude.{◌≡◌, ◌⊎◌, ℕ, ◌+◌, [], is_some, not, ◌&&◌, nat_lt, if◌then◌else◌}
+use Rattle.std.specs.Prelude.{◌≡◌, ◌⊎◌, ℕ, ◌+◌, is_some, not, ◌&&◌, nat_lt, if◌then◌else◌}
 use Rattle.blsm_model.specs.declared.key.Key.{Key}
 use Rattle.record_delta.specs.declared.record.Rec.{Rec}
 use Rattle.record_delta.specs.Records.{weight}
 use Rattle.record_delta.specs.Entries.{entries_weight}
 use Rattle.gear_sched.specs.Gears.{GearState, entered, forgiven, took_first, took_second, passing, pass_ended, rotated, deep_ended}
 use Rattle.seat_book.specs.State.{BookState, pass_counted_in, deep_counted_in, quantum_counted_in, peaked_in}
+use Rattle.gated_log.specs.Lane.{no_lane}
 use Rattle.tree_file.specs.Tree.{Tree}
 use Rattle.tree_file.specs.Places.{TurnsRoles}
 use Rattle.tree_log.specs.Log.{LogState, IsLogOf, Grows, Turns, turned_log, weight_of_tables, with_entry}
@@ -121,4 +122,5 @@ pub record KeepsAllButMerges (failed : Type 0) (old new : Held) : Type 0 where
 
 -- what a turn of the log says of its tree
 abbrev pub TurnsLog : LogState → LogState → Type 0
-TurnsLog old new = (tree next : Tree) → TurnsRoles tree.catalogue next.catalogue → next.lane_a ≡ tree.lane_b → next.lane_b ≡ [] → IsLogOf tree old → IsLogOf next new
+TurnsLog old new = (tree next : Tree) → TurnsRoles tree.catalogue next.catalogue → next.lane_a ≡ tree.lane_b → next.lane_b ≡ no_lane
+    → IsLogOf tree old → IsLogOf next new

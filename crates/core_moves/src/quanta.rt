@@ -28,7 +28,7 @@ impl Held {
         requires runs { IsSome self.old.runs.pass }
         requires ready { IsReady self.old (D.state disk.old) }
         ensures told { TellsQuantum (HasAllAhead self.old.runs.pass self.old.log.a.entries) (self.old.runs.sizes.quantum / 7 + 2)
-            (λ tree n. PassTook self.old.runs.sizes.quantum self.old.runs.pass self.new.runs.pass (replayed tree.lane_a) (entries_of tree.c1) n)
+            (λ tree n. PassTook self.old.runs.sizes.quantum self.old.runs.pass self.new.runs.pass (replayed tree.lane_a.entries) (entries_of tree.c1) n)
             (PassMeetsDamage self.new.runs.sizes self.new.runs.pass) self.old.runs self.new.runs result (D.state disk.old) (D.state disk.new) }
         ensures writes { Affects (region_of_pass self.old.runs.sizes self.old.runs.space self.new.runs.space self.old.runs.pass)
             (file_length self.old.runs.sizes) (self.old.runs.sizes.quantum / 7 + 2) (D.state disk.old) (D.state disk.new) }

@@ -6,18 +6,21 @@ use Rattle.std.proofs.lemmas.Grind.{common_steps}
 use Rattle.std.proofs.Math.Seq.{drop-cons}
 use Rattle.disk_trait.specs.Disk.{part}
 use Rattle.gated_write.specs.Gated.{open_byte, IsClosed}
-use Rattle.blsm_model.specs.declared.key.Key.{Key}
 use Rattle.blsm_model.specs.Sizes.{Sizes}
-use Rattle.record_delta.specs.declared.record.Rec.{Rec}
-use Rattle.entry_codec.specs.Spelling.{spelling}
+use Rattle.record_delta.specs.Entries.{Entries}
 use Rattle.blsm_model.specs.Lanes.{region_start, region_length}
-use Rattle.gated_log.specs.Lane.{blocks, HasEntries}
+use Rattle.gated_log.specs.Records.{record_text}
+use Rattle.gated_log.specs.Lane.{blocks, entries_in, HasRecords}
 
-pub blocks-append : (es fs : List (Key × Rec)) → blocks (es ++ fs) ≡ blocks es ++ blocks fs
+pub blocks-append : (es fs : List Entries) → blocks (es ++ fs) ≡ blocks es ++ blocks fs
 blocks-append [] fs = refl
 blocks-append (e ∷ es) fs =
-    ap (λ (bs : List ℕ). open_byte ∷ (spelling e.0 e.1 ++ bs)) (blocks-append es fs)
-    ∙ ap (λ (bs : List ℕ). open_byte ∷ bs) (sym (append_assoc (spelling e.0 e.1) (blocks es) (blocks fs)))
+    ap (λ (bs : List ℕ). open_byte ∷ (record_text e ++ bs)) (blocks-append es fs)
+    ∙ ap (λ (bs : List ℕ). open_byte ∷ bs) (sym (append_assoc (record_text e) (blocks es) (blocks fs)))
+
+pub entries_in-append : (es fs : List Entries) → entries_in (es ++ fs) ≡ entries_in es ++ entries_in fs
+entries_in-append [] fs = refl
+entries_in-append (e ∷ es) fs = ap (λ (l : Entries). e ++ l) (entries_in-append es fs) ∙ sym (append_assoc e (entries_in es) (entries_in fs))
 
 -- the two parts of a front that is known
 pub front_parts : (file : List ℕ) (at : ℕ) (front : List ℕ) (gate : ℕ) → part file at (length front + 1) ≡ front ++ gate ∷ [] → (part file at (length front) ≡ front) × (part file (at + length front) 1 ≡ gate ∷ [])
@@ -30,9 +33,10 @@ front_parts file at front gate begins =
     )
 
 -- the lane's gate is closed
-pub gate_closed : (sizes : Sizes) (lane : ℕ) (entries : List (Key × Rec)) (file : List ℕ) → HasEntries sizes lane entries file → IsClosed (region_start sizes lane + length (blocks entries)) file
-gate_closed sizes lane entries file has opened =
-    let parts = front_parts file (region_start sizes lane) (blocks entries) has.gate has.begins in
+pub gate_closed : (sizes : Sizes) (lane : ℕ) (records : List Entries) (file : List ℕ) → HasRecords sizes lane records file
+    → IsClosed (region_start sizes lane + length (blocks records)) file
+gate_closed sizes lane records file has opened =
+    let parts = front_parts file (region_start sizes lane) (blocks records) has.gate has.begins in
     let same : has.gate ∷ [] ≡ open_byte ∷ [] = sym parts.1 ∙ opened in
     has.closed (cc (same))
 

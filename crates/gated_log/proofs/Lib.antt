@@ -1,3 +1,4 @@
+pub mod RecordLemmas
 pub mod LaneLaws
 pub mod LaneLemmas
 pub mod AppendLemmas

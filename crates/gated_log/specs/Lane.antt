@@ -1,4 +1,4 @@
--- A lane of the log on a disk: entries, each behind an open gate, and then a gate that is closed.
+-- A lane of the log on a disk: records, each behind an open gate, and then a gate that is closed. A record is one entry or several.
 use Rattle.std.specs.Prelude.{◌≡◌, ◌≢◌, ◌⊎◌, ℕ, ◌+◌, ◌≤◌, Bool, IsTrue, List, [], ◌∷◌, ◌++◌, length}
 use Rattle.std.specs.List.{All}
 use Rattle.disk_trait.specs.Disk.{DiskState, part}
@@ -6,64 +6,102 @@ use Rattle.disk_trait.specs.Moments.{LeavesOnly}
 use Rattle.disk_trait.specs.Region.{Region, span, IsOldOutside}
 use Rattle.gated_write.specs.Gated.{open_byte}
 use Rattle.blsm_model.specs.Lanes.{region_length, region_start}
-use Rattle.blsm_model.specs.declared.key.Key.{Key}
 use Rattle.blsm_model.specs.Sizes.{Sizes}
-use Rattle.record_delta.specs.declared.record.Rec.{Rec}
-use Rattle.entry_codec.specs.Spelling.{spelling, IsEntry}
+use Rattle.record_delta.specs.Entries.{Entries}
+use Rattle.gated_log.specs.Records.{cost, record_text, IsLaneRecord}
 
 abbrev pub lane_region : Sizes → ℕ → Region
 lane_region sizes lane = span (region_start sizes lane) (region_length sizes)
 
--- open gates, each with its entry
-abbrev pub blocks : List (Key × Rec) → List ℕ
+-- What a lane has: its entries, and the place of its closed gate, in bytes from its region's start. How they are cut into records is a
+-- fact of the file.
+pub record Lane : Type 0 where
+  pub entries : Entries
+  pub end : ℕ
+
+abbrev pub no_lane : Lane
+no_lane = record { entries = []; end = 0 }
+
+-- A record has an entry at least, so a lane without entries ends where it begins.
+abbrev pub MayEnd : Lane → Type 0
+MayEnd lane = lane.entries ≡ [] → lane.end ≡ 0
+
+-- with one record more, of these entries
+abbrev pub with_more : Lane → Entries → Lane
+with_more lane more = record { entries = lane.entries ++ more; end = lane.end + cost more }
+
+-- open gates, each with its record
+abbrev pub blocks : List Entries → List ℕ
 blocks [] = []
-blocks (e ∷ es) = open_byte ∷ (spelling e.0 e.1 ++ blocks es)
+blocks (es ∷ records) = open_byte ∷ (record_text es ++ blocks records)
 
--- each is a key and a record that have a spelling
-abbrev pub AreEntries : List (Key × Rec) → Type 0
-AreEntries entries = All (λ e. IsEntry e.0 e.1) entries
+-- the entries of the records, in order
+abbrev pub entries_in : List Entries → Entries
+entries_in [] = []
+entries_in (es ∷ records) = es ++ entries_in records
 
--- The lane has these entries: from its region's start on there are their blocks, and then, inside the region, a gate that is closed.
-pub record HasEntries (sizes : Sizes) (lane : ℕ) (entries : List (Key × Rec)) (file : List ℕ) : Type 0 where
-  pub each : AreEntries entries
+abbrev pub AreRecords : List Entries → Type 0
+AreRecords records = All IsLaneRecord records
+
+-- From its region's start on there are the blocks of these records, and then, inside the region, a gate that is closed.
+pub record HasRecords (sizes : Sizes) (n : ℕ) (records : List Entries) (file : List ℕ) : Type 0 where
+  pub each : AreRecords records
   pub gate : ℕ
   pub closed : gate ≢ open_byte
-  pub inside : length (blocks entries) + 1 ≤ region_length sizes
-  pub begins : part file (region_start sizes lane) (length (blocks entries) + 1) ≡ blocks entries ++ gate ∷ []
+  pub inside : length (blocks records) + 1 ≤ region_length sizes
+  pub begins : part file (region_start sizes n) (length (blocks records) + 1) ≡ blocks records ++ gate ∷ []
+
+-- The lane of this region has its entries, in some records, and ends where it says.
+pub record HasEntries (sizes : Sizes) (n : ℕ) (lane : Lane) (file : List ℕ) : Type 0 where
+  pub records : List Entries
+  pub has : HasRecords sizes n records file
+  pub entries_are : entries_in records ≡ lane.entries
+  pub end_is : length (blocks records) ≡ lane.end
 
 -- each file has them
-abbrev pub EachHasEntries : Sizes → ℕ → List (Key × Rec) → (List ℕ → Type 0) → Type 0
-EachHasEntries sizes lane entries images = (c : List ℕ) → images c → HasEntries sizes lane entries c
+abbrev pub EachHasEntries : Sizes → ℕ → Lane → (List ℕ → Type 0) → Type 0
+EachHasEntries sizes n lane images = (c : List ℕ) → images c → HasEntries sizes n lane c
 
--- the lane has its entries, with one more or without it, and the rest of the file is as it was
-pub record IsAppended (sizes : Sizes) (lane : ℕ) (entries : List (Key × Rec)) (entry : Key × Rec) (before : List ℕ → Type 0) (file : List ℕ) : Type 0 where
-  pub has : HasEntries sizes lane entries file ⊎ HasEntries sizes lane (entries ++ entry ∷ []) file
-  pub outside : IsOldOutside (lane_region sizes lane) before file
+-- the lane has its entries, with one record more or without it, and the rest of the file is as it was
+pub record IsAppended (sizes : Sizes) (n : ℕ) (lane : Lane) (more : Entries) (before : List ℕ → Type 0) (file : List ℕ) : Type 0 where
+  pub has : HasEntries sizes n lane file ⊎ HasEntries sizes n (with_more lane more) file
+  pub outside : IsOldOutside (lane_region sizes n) before file
 
--- What an append of an entry leaves of a lane that had its entries, in each image or as the disk read: each image of each moment since, and what the disk reads as now, has them, with the new one or without; once it is done, with the new one.
-pub record LeavesAppended (sizes : Sizes) (lane : ℕ) (entries : List (Key × Rec)) (entry : Key × Rec) (done : Bool) (old new : DiskState) : Type 0 where
-  pub each : EachHasEntries sizes lane entries old.images → LeavesOnly old new (IsAppended sizes lane entries entry old.images)
-  pub reads : HasEntries sizes lane entries old.bytes → IsAppended sizes lane entries entry (λ c. c ≡ old.bytes) new.bytes
-  pub each_done : IsTrue done → EachHasEntries sizes lane entries old.images → EachHasEntries sizes lane (entries ++ entry ∷ []) new.images
-  pub reads_done : IsTrue done → HasEntries sizes lane entries old.bytes → HasEntries sizes lane (entries ++ entry ∷ []) new.bytes
+-- What an append of a record leaves of a lane that had its entries, in each image or as the disk read: each image of each moment since, and what the
+-- disk reads as now, has them, with all of the new ones or with none; once it is done, with the new ones.
+pub record LeavesAppended (sizes : Sizes) (n : ℕ) (lane : Lane) (more : Entries) (done : Bool) (old new : DiskState) : Type 0 where
+  pub each : EachHasEntries sizes n lane old.images → LeavesOnly old new (IsAppended sizes n lane more old.images)
+  pub reads : HasEntries sizes n lane old.bytes → IsAppended sizes n lane more (λ c. c ≡ old.bytes) new.bytes
+  pub each_done : IsTrue done → EachHasEntries sizes n lane old.images → EachHasEntries sizes n (with_more lane more) new.images
+  pub reads_done : IsTrue done → HasEntries sizes n lane old.bytes → HasEntries sizes n (with_more lane more) new.bytes
 
--- the same of whatever entries end here
-abbrev pub Appends : Sizes → ℕ → ℕ → Key × Rec → Bool → DiskState → DiskState → Type 0
-Appends sizes lane end entry done old new =
-    (entries : List (Key × Rec)) → IsTrue old.is_honest → length (blocks entries) ≡ end → LeavesAppended sizes lane entries entry done old new
+-- the same of whatever lane ends here
+abbrev pub Appends : Sizes → ℕ → ℕ → Entries → Bool → DiskState → DiskState → Type 0
+Appends sizes n end more done old new =
+    (lane : Lane) → IsTrue old.is_honest → lane.end ≡ end → LeavesAppended sizes n lane more done old new
 
--- The lane begins with these entries: their blocks stand from its region's start on, and the place behind them, where the next gate is, lies inside the region.
-pub record HasFront (sizes : Sizes) (lane : ℕ) (entries : List (Key × Rec)) (file : List ℕ) : Type 0 where
-  pub each : AreEntries entries
-  pub inside : length (blocks entries) + 1 ≤ region_length sizes
-  pub begins : part file (region_start sizes lane) (length (blocks entries)) ≡ blocks entries
+-- The lane begins with these records: their blocks stand from its region's start on, and the place behind them, where the next gate is, lies inside
+-- the region.
+pub record BeginsRecords (sizes : Sizes) (n : ℕ) (records : List Entries) (file : List ℕ) : Type 0 where
+  pub each : AreRecords records
+  pub inside : length (blocks records) + 1 ≤ region_length sizes
+  pub begins : part file (region_start sizes n) (length (blocks records)) ≡ blocks records
 
--- behind these entries there is an open gate that isn't followed by an entry with its next gate inside the region
-pub record IsDamagedBehind (sizes : Sizes) (lane : ℕ) (entries : List (Key × Rec)) (file : List ℕ) : Type 0 where
-  pub front : HasFront sizes lane entries file
-  pub opened : part file (region_start sizes lane + length (blocks entries)) 1 ≡ open_byte ∷ []
-  pub no_entry : (entry : Key × Rec) → HasFront sizes lane (entries ++ entry ∷ []) file → ⊥
+-- The lane begins with these entries: they are the first ones of records that it begins with.
+pub record HasFront (sizes : Sizes) (n : ℕ) (entries : Entries) (file : List ℕ) : Type 0 where
+  pub records : List Entries
+  pub left : Entries
+  pub stands : BeginsRecords sizes n records file
+  pub parts : entries_in records ≡ entries ++ left
+
+-- behind the records of these entries there is an open gate that isn't followed by a record with its next gate inside the region
+pub record IsDamagedBehind (sizes : Sizes) (n : ℕ) (entries : Entries) (file : List ℕ) : Type 0 where
+  pub records : List Entries
+  pub front : BeginsRecords sizes n records file
+  pub entries_are : entries_in records ≡ entries
+  pub opened : part file (region_start sizes n + length (blocks records)) 1 ≡ open_byte ∷ []
+  pub no_record : (es : Entries) → BeginsRecords sizes n (records ++ es ∷ []) file → ⊥
 
 -- the lane is damaged behind some entries
 abbrev pub IsDamaged : Sizes → ℕ → List ℕ → Type 0
-IsDamaged sizes lane file = (entries : List (Key × Rec)) × IsDamagedBehind sizes lane entries file
+IsDamaged sizes n file = (entries : Entries) × IsDamagedBehind sizes n entries file

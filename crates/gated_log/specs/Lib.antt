@@ -1,3 +1,4 @@
+pub mod Records
 pub mod Lane
 pub mod Lanes
 pub mod Replay

@@ -2,16 +2,22 @@
 ghost use Rattle.std.specs.Prelude.{◌≡◌, ◌≤◌, ◌<◌, ◌+◌, ◌∷◌, ◌++◌, [], ℕ, length, IsTrue, OnOk, is_ok, if◌then◌else◌, slice_index, take};
 ghost use Rattle.disk_trait.specs.Disk.{Only, TellsFaults};
 ghost use Rattle.disk_trait.specs.Effects.{Affects};
+ghost use Rattle.std.specs.List.{AllByRecursion};
+ghost use Rattle.blsm_model.specs.Format.{most_weight};
 ghost use Rattle.blsm_model.specs.Geometry.{file_length};
 ghost use Rattle.blsm_model.specs.Lanes.{region_length, a_of, b_of, spare_of, AreRoles};
+ghost use Rattle.blsm_model.specs.Legal.{total_weight};
+ghost use Rattle.blsm_model.specs.Tails.{TailFits};
 ghost use Rattle.record_delta.specs.Records.{weight};
 ghost use Rattle.entry_codec.specs.Spelling.{spelling, IsEntry};
 ghost use Rattle.gated_write.specs.Ends.{EndsSynced};
 ghost use Rattle.gated_log.specs.Lane.{lane_region, Appends};
+ghost use Rattle.gated_log.specs.Records.{cost, entries_of};
 ghost use Rattle.gated_log.specs.Lanes.{LanesState, end_of, moved, turned};
 
+use crate::records::{ROOM, put_pack};
 use crate::region::place_in_file;
-use blsm_model::{Geometry, Key, Op};
+use blsm_model::{Geometry, Key, Op, Pack};
 use disk_trait::Disk;
 use entry_codec::encode;
 use gated_write::{CLOSED, write_gated};
@@ -131,7 +137,8 @@ impl Lanes {
         ensures moved { self.new ≡ (if is_ok result then moved self.old lane (weight key.now rec.now + 1) else self.old) }
         ensures ended { OnOk result (end_of self.new lane ≡ end_of self.old lane + (weight key.now rec.now + 1)) }
 
-        ensures appends { Appends self.old.sizes lane (end_of self.old lane) (key.now, rec.now) (is_ok result) (D.state disk.old) (D.state disk.new) }
+        ensures appends { Appends self.old.sizes lane (end_of self.old lane) ((key.now, rec.now) ∷ []) (is_ok result) (D.state disk.old)
+            (D.state disk.new) }
         ensures durable { OnOk result (IsTrue (D.state disk.old).is_honest → Only (D.state disk.new).bytes (D.state disk.new).images) }
 
         // Four calls of the disk, or fewer where one fails; the last is a sync. Whatever the images have, no byte outside the region changes, in none of any moment.
@@ -144,6 +151,42 @@ impl Lanes {
         let at = place_in_file(&self.geometry, lane, self.ends[lane as usize]);
         write_gated(disk, at, &buffer[..length])?;
         self.ends[lane as usize] += weight(key, rec) + 1;
+        Ok(())
+    }
+
+    /// Writes the writes of a pack at the end of a lane, as one record: each of its calls is `append`'s.
+    ///
+    /// Once it is acknowledged each crash leaves all of them; a crash at any moment of the call leaves the lane with all of them or with none.
+    /// After an `Err`, whose cause is a fault of the disk, nobody knows which, and the disk is to be opened again.
+    /// A clause each for the lane's places, for what each crash leaves, for the calls and the faults.
+    pub fn append_pack<D: Disk>(
+        &mut self,
+        disk: &mut D,
+        lane: u8,
+        pack: &Pack,
+    ) -> Result<(), Failed>
+        requires lane { lane < 3 }
+        requires tails { AllByRecursion TailFits pack.now }
+        requires light { total_weight pack.now ≤ most_weight }
+        requires fits { end_of self.old lane + cost (entries_of pack.now) + 1 ≤ region_length self.old.sizes }
+        requires length { IsTrue (D.state disk.old).tells_bytes → length (D.state disk.old).bytes ≡ file_length self.old.sizes }
+
+        ensures moved { self.new ≡ (if is_ok result then moved self.old lane (cost (entries_of pack.now)) else self.old) }
+        ensures ended { OnOk result (end_of self.new lane ≡ end_of self.old lane + cost (entries_of pack.now)) }
+
+        ensures appends { Appends self.old.sizes lane (end_of self.old lane) (entries_of pack.now) (is_ok result) (D.state disk.old)
+            (D.state disk.new) }
+        ensures durable { OnOk result (IsTrue (D.state disk.old).is_honest → Only (D.state disk.new).bytes (D.state disk.new).images) }
+
+        ensures ends { OnOk result (EndsSynced 4 (D.state disk.old) (D.state disk.new)) }
+        ensures effect { Affects (lane_region self.old.sizes lane) (file_length self.old.sizes) 4 (D.state disk.old) (D.state disk.new) }
+        ensures faults { TellsFaults result (D.state disk.old) (D.state disk.new) }
+    {
+        let mut text = [0; ROOM];
+        let length = put_pack(pack, &mut text);
+        let at = place_in_file(&self.geometry, lane, self.ends[lane as usize]);
+        write_gated(disk, at, &text[..length])?;
+        self.ends[lane as usize] += length as u64;
         Ok(())
     }
 }

@@ -1,9 +1,11 @@
 //! The write-ahead log: three lanes of entries, each in a region of its own on the store's disk. A lane is open gates, each
-//! with its entry, and then a gate that is closed; an entry that is acknowledged stands in every crash image. The core appends
-//! each write to the lane of its memory table, and opening replays a lane to that table.
+//! with its record, and then a gate that is closed. A record is one entry, or several that stand or fall together; one that is
+//! acknowledged stands in every crash image. The core appends each write to the lane of its memory table, and opening replays a
+//! lane to that table, entry by entry.
 #![tactic(auto)]
 
 mod lanes;
+mod records;
 mod region;
 mod replay;
 

@@ -8,7 +8,8 @@ ghost use Rattle.blsm_model.specs.Sizes.{Sizes, IsGeometry};
 ghost use Rattle.blsm_model.specs.Geometry.{file_length};
 ghost use Rattle.record_delta.specs.declared.record.Rec.{Rec};
 ghost use Rattle.blsm_model.specs.Lanes.{region_length, region_start};
-ghost use Rattle.gated_log.specs.Lane.{lane_region, HasEntries, HasFront, IsDamaged};
+ghost use Rattle.record_delta.specs.Entries.{Entries};
+ghost use Rattle.gated_log.specs.Lane.{Lane, lane_region, no_lane, HasEntries, HasFront, IsDamaged};
 
 use blsm_model::Geometry;
 
@@ -41,20 +42,21 @@ pub fn place_in_file(geometry: &Geometry, lane: u8, place: u64) -> u64
 /// A lane is what its region's bytes say, so it has its entries still after any change elsewhere. Where the first gate of a
 /// region is closed, its lane has no entries. The regions of two lanes are apart.
 pub fn kept_lanes()
-    ensures kept { (sizes : Sizes) (lane : ℕ) (entries : List (Key × Rec)) (old new : List ℕ)
-        → part new (region_start sizes lane) (region_length sizes) ≡ part old (region_start sizes lane) (region_length sizes)
-        → HasEntries sizes lane entries old → HasEntries sizes lane entries new }
-    ensures empty { (sizes : Sizes) (lane : ℕ) (file : List ℕ) → IsGeometry sizes → region_start sizes lane < length file
-        → IsClosed (region_start sizes lane) file → HasEntries sizes lane [] file }
+    ensures kept { (sizes : Sizes) (n : ℕ) (lane : Lane) (old new : List ℕ)
+        → part new (region_start sizes n) (region_length sizes) ≡ part old (region_start sizes n) (region_length sizes)
+        → HasEntries sizes n lane old → HasEntries sizes n lane new }
+    ensures empty { (sizes : Sizes) (n : ℕ) (file : List ℕ) → IsGeometry sizes → region_start sizes n < length file
+        → IsClosed (region_start sizes n) file → HasEntries sizes n no_lane file }
     ensures apart { (sizes : Sizes) (one other : ℕ) → one ≢ other → AreApart (lane_region sizes one) (lane_region sizes other) }
 {}
 
 /// A lane has one list of entries at most, which its fronts begin, and one that has its list isn't damaged.
 pub fn one_list()
-    ensures same { (sizes : Sizes) (lane : ℕ) (es fs : List (Key × Rec)) (file : List ℕ) → HasEntries sizes lane es file
-        → HasEntries sizes lane fs file → es ≡ fs }
-    ensures next { (sizes : Sizes) (lane : ℕ) (es rest : List (Key × Rec)) (e : Key × Rec) (file : List ℕ) → HasEntries sizes lane (es ++ rest) file
-        → HasFront sizes lane (es ++ e ∷ []) file → slice_get rest 0 ≡ Some e }
-    ensures not_damaged { (sizes : Sizes) (lane : ℕ) (entries : List (Key × Rec)) (file : List ℕ) → HasEntries sizes lane entries file
-        → IsDamaged sizes lane file → ⊥ }
+    ensures same { (sizes : Sizes) (n : ℕ) (one other : Lane) (file : List ℕ) → HasEntries sizes n one file
+        → HasEntries sizes n other file → one ≡ other }
+    ensures next { (sizes : Sizes) (n end : ℕ) (es rest : Entries) (e : Key × Rec) (file : List ℕ)
+        → HasEntries sizes n (record { entries = es ++ rest; end = end }) file
+        → HasFront sizes n (es ++ e ∷ []) file → slice_get rest 0 ≡ Some e }
+    ensures not_damaged { (sizes : Sizes) (n : ℕ) (lane : Lane) (file : List ℕ) → HasEntries sizes n lane file
+        → IsDamaged sizes n file → ⊥ }
 {}

@@ -155,7 +155,7 @@ module _ {settles : Bool} {sizes : Sizes} {file : List ℕ} {space : SpaceState}
   grown_merge grown sorted same is =
       let closed_same : up_to merge.closed grown ≡ up_to merge.closed list =
       up_to_lower merge.closed merge.at grown is.closed_up ∙ ap (up_to merge.closed) same
-          ∙ sym (up_to_lower merge.closed merge.at list is.closed_up) in
+      ∙ sym (up_to_lower merge.closed merge.at list is.closed_up) in
       record {
         newer_is = (sorted, refl);
         older_is = is.older_is;

@@ -1,6 +1,4 @@
 -- What was read of a store may be settled.
-use Rattle.std.proofs.lemmas.Bool.Decides.{nat_tests}
-use Rattle.std.proofs.lemmas.Grind.{common_steps}
 use Rattle.std.specs.Prelude.{◌≡◌, ℕ, ◌≤◌, Bool, List, [], Option, None, ◌+◌, length}
 use Rattle.std.proofs.Common.{◌∙◌, refl, ap, sym, subst, arith}
 use Rattle.std.proofs.Math.Seq.{take-length}
@@ -8,7 +6,8 @@ use Rattle.blsm_model.specs.Sizes.{Sizes}
 use Rattle.blsm_model.specs.Geometry.{capacity, high_mark}
 use Rattle.blsm_model.specs.Lanes.{a_of, b_of}
 use Rattle.catalog_swap.specs.declared.catalog.Catalog.{Catalog}
-use Rattle.gated_log.specs.Lane.{blocks}
+use Rattle.gated_log.specs.Lane.{MayEnd}
+use Rattle.gated_log.proofs.LaneLaws.{may_end}
 use Rattle.gated_log.specs.Lanes.{end_of}
 use Rattle.record_delta.specs.Entries.{Entries, entries_weight, replayed}
 use Rattle.tree_file.specs.Tree.{Tree, FitsSizes, HoldsTree}
@@ -38,9 +37,19 @@ BeginsLight = (sizes : Sizes) (catalogue : Catalog) (space : SpaceState) (guides
     → IsDeepLight (opened_from sizes catalogue space guides ahead)
 
 -- the log of a tree with these lanes
-log_is : (found : Found) (tree : Tree) → tree.catalogue ≡ found.catalogue → found.lanes.roles ≡ found.catalogue.lanes → IsRestOf (replayed tree.lane_a) found.a → found.b.entries ≡ replayed tree.lane_b
-    → end_of found.lanes (a_of found.catalogue.lanes) ≡ length (blocks tree.lane_a) → end_of found.lanes (b_of found.catalogue.lanes) ≡ length (blocks tree.lane_b) → IsLogOf tree (log_in found)
-log_is found tree h1 h2 h3 h4 h5 h6 = grind (arith, common_steps, nat_tests)
+log_is : (found : Found) (tree : Tree) → tree.catalogue ≡ found.catalogue → found.lanes.roles ≡ found.catalogue.lanes
+    → IsRestOf (replayed tree.lane_a.entries) found.a
+    → found.b.entries ≡ replayed tree.lane_b.entries → end_of found.lanes (a_of found.catalogue.lanes) ≡ tree.lane_a.end
+    → end_of found.lanes (b_of found.catalogue.lanes) ≡ tree.lane_b.end → MayEnd tree.lane_a → MayEnd tree.lane_b → IsLogOf tree (log_in found)
+log_is found tree catalogue roles a b end_a end_b may_a may_b = record {
+  roles = roles ∙ sym (ap (λ (c : Catalog). c.lanes) catalogue);
+  end_a = ap (λ (r : List ℕ). end_of found.lanes (a_of r)) roles ∙ end_a;
+  end_b = ap (λ (r : List ℕ). end_of found.lanes (b_of r)) roles ∙ end_b;
+  may_a = may_a;
+  may_b = may_b;
+  a = a;
+  b = b;
+}
 
 begun : BeginsLight → (found : Found) (guides : List GuideState) (honest : Bool) (file : List ℕ) → IsFound found honest file → HasBegun (runs_of found guides) (log_in found)
 begun light found guides honest file is =
@@ -51,16 +60,20 @@ begun light found guides honest file is =
     let cap = capacity found.geometry in
     let components = catalogue_weight found.catalogue in
     let held_a : entries_weight found.a.entries ≤ room_for_a found.geometry components =
-    subst (λ (es : Entries). entries_weight es ≤ room_for_a found.geometry components) (ap replayed (take-length is.replayed.lane_a) ∙ sym a.table_is) (a.within (length is.replayed.lane_a)) in
-    let held_b : entries_weight found.b.entries ≤ room_for_b found.geometry components is.replayed.lane_a =
-    subst (λ (es : Entries). entries_weight es ≤ room_for_b found.geometry components is.replayed.lane_a) (ap replayed (take-length is.replayed.lane_b) ∙ sym b.table_is) (b.within (length is.replayed.lane_b)) in
+    subst (λ (es : Entries). entries_weight es ≤ room_for_a found.geometry components) (ap replayed (take-length is.replayed.lane_a.entries)
+    ∙ sym a.table_is)
+    (a.within (length is.replayed.lane_a.entries)) in
+    let held_b : entries_weight found.b.entries ≤ room_for_b found.geometry components is.replayed.lane_a.entries =
+    subst (λ (es : Entries). entries_weight es ≤ room_for_b found.geometry components is.replayed.lane_a.entries)
+    (ap replayed (take-length is.replayed.lane_b.entries) ∙ sym b.table_is) (b.within (length is.replayed.lane_b.entries)) in
     record {
       pass = refl;
       roles = is.head.valid.lanes;
       sizes = is.sizes;
       lanes = tree;
       lanes_are = refl;
-      log_of = log_is found tree refl is.roles (rest_whole (replayed tree.lane_a) found.a is.whole_a a.table_is) b.table_is a.place_is b.place_is;
+      log_of = log_is found tree refl is.roles
+          (rest_whole (replayed tree.lane_a.entries) found.a is.whole_a a.table_is) b.table_is a.place_is b.place_is a.may_end b.may_end;
       whole_a = is.whole_a;
       mark = is.head.fits.mark;
       high = omega (arith, held_a, held_b, ap entries_weight a.table_is, is.whole_a.1);
@@ -97,6 +110,9 @@ begins_in found guides file runs log whole roles holds runs_are log_are opens gu
       are_of = opens t file holds.holds holds.catalogue (λ n has. (holds.c1_tag n).1 has) (λ n has. (holds.c1x_tag n).1 has)
           (λ n has. (holds.c2_tag n).1 has) guided over;
       log_of = subst (IsLogOf t) (sym log_are)
-          (log_is found t holds.catalogue roles (rest_whole (replayed t.lane_a) found.a whole holds.table_a) holds.table_b holds.end_a holds.end_b);
+          (log_is found t holds.catalogue roles
+          (rest_whole (replayed t.lane_a.entries) found.a whole holds.table_a) holds.table_b holds.end_a holds.end_b
+          (may_end found.geometry (a_of t.catalogue.lanes) t.lane_a file holds.holds.lane_a)
+          (may_end found.geometry (b_of t.catalogue.lanes) t.lane_b file holds.holds.lane_b));
       fits = subst (λ (s : Sizes). FitsSizes s t) (sym (ap (λ (r : RunsState). r.sizes) runs_are)) holds.fits;
     }

@@ -1,7 +1,7 @@
 -- A core over what was settled.
 use Rattle.std.proofs.lemmas.Bool.Decides.{nat_tests}
 use Rattle.std.proofs.lemmas.Grind.{common_steps}
-use Rattle.std.specs.Prelude.{◌≡◌, ℕ, ◌+◌, ◌≤◌, IsTrue, List, [], sum}
+use Rattle.std.specs.Prelude.{◌≡◌, ℕ, ◌+◌, ◌≤◌, IsTrue, List, sum}
 use Rattle.std.proofs.Common.{◌∙◌, refl, ap, sym, subst, inl, arith}
 use Rattle.blsm_model.specs.Book.{Book}
 use Rattle.blsm_model.specs.Format.{most_entries}
@@ -9,6 +9,7 @@ use Rattle.blsm_model.specs.Sizes.{Sizes}
 use Rattle.blsm_model.specs.declared.key.Key.{Key}
 use Rattle.blsm_model.specs.declared.room.Room.{Room}
 use Rattle.blsm_model.specs.declared.row.Value.{Value}
+use Rattle.gated_log.specs.Lane.{no_lane}
 use Rattle.catalog_swap.specs.declared.catalog.Catalog.{Catalog}
 use Rattle.core_lists.specs.Standing.{catalogue_of}
 use Rattle.core_moves.specs.declared.held.Held.{Held}
@@ -64,7 +65,7 @@ are_settled runs log annals room d sizes version few ready entries is =
 
 -- what the core of these parts tells of each tree
 abbrev pub AssemblesOver : {D : Type 0} → (D → DiskState) → RunsState → Book → CoreState D → DiskState → Type 0
-AssemblesOver state runs annals core d = (tree : Tree) → IsTrue d.is_honest → StandOver runs tree d → tree.lane_a ≡ [] → tree.lane_b ≡ []
+AssemblesOver state runs annals core d = (tree : Tree) → IsTrue d.is_honest → StandOver runs tree d → tree.lane_a ≡ no_lane → tree.lane_b ≡ no_lane
     → StandsWhole state (map_of_tree tree) core
     (opened runs.sizes (entries_of tree.c1) (entries_of tree.c2) (catalogue_of runs.catalogue) d.faults annals.room)
 

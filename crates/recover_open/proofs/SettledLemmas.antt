@@ -1,9 +1,8 @@
 -- What was begun with may be settled, and what that leads to.
 use Rattle.std.proofs.lemmas.Bool.Decides.{nat_tests}
 use Rattle.std.proofs.lemmas.Grind.{common_steps}
-use Rattle.std.specs.Prelude.{◌≡◌, ℕ, ◌+◌, ◌≤◌, IsTrue, List, [], length, Result, Ok, Err, IfOk, IfErr}
+use Rattle.std.specs.Prelude.{◌≡◌, ℕ, ◌+◌, ◌≤◌, IsTrue, List, length, Result, Ok, Err, IfOk, IfErr}
 use Rattle.std.proofs.Common.{◌∙◌, refl, ap, sym, subst, arith}
-use Rattle.std.proofs.lemmas.List.{nil_from_length}
 use Rattle.blsm_model.specs.declared.key.Key.{Key}
 use Rattle.blsm_model.specs.declared.row.Value.{Value}
 use Rattle.blsm_model.specs.Geometry.{file_length}
@@ -13,11 +12,8 @@ use Rattle.catalog_swap.specs.declared.catalog.Catalog.{Catalog}
 use Rattle.disk_trait.specs.Disk.{DiskState, Only}
 use Rattle.disk_trait.specs.Effects.{Affects}
 use Rattle.disk_trait.proofs.EffectLemmas.{affects_wider}
-use Rattle.gated_log.specs.Lane.{blocks}
-use Rattle.record_delta.specs.Entries.{Entries}
 use Rattle.tree_file.specs.Tree.{Tree, HoldsTree, map_of_tree}
 use Rattle.tree_log.specs.Log.{LogState, weight_of_tables}
-use Rattle.tree_log.proofs.LogLemmas.{lane_ends}
 use Rattle.tree_log.proofs.RestLemmas.{rest_weighs}
 use Rattle.tree_reading.specs.declared.found.Found.{Found}
 use Rattle.tree_reading.specs.declared.found.Unreadable.{Unreadable}
@@ -69,10 +65,6 @@ shows_begun runs log tree d only begins =
       map_is = refl;
     }
 
--- a lane that ends at its start has no entries
-none_at_start : (entries : Entries) → length (blocks entries) ≡ 0 → entries ≡ []
-none_at_start entries none = nil_from_length entries (omega (arith, none, lane_ends entries))
-
 -- what was begun with weighs what the tree in the file does
 begun_weighs : (runs : RunsState) (log : LogState) (image : Tree) (file : List ℕ) → BeginsIn runs log image file → components_of runs.catalogue + weight_of_tables log ≡ weight_of_tree image
 begun_weighs runs log image file h1 = grind (arith, common_steps, nat_tests, rest_weighs)
@@ -84,8 +76,8 @@ stands_empty runs runs' log log' image old new honest begins showed on settled =
     record {
       tree = shows.tree;
       over = shows.over;
-      lane_a = none_at_start shows.tree.lane_a (sym shows.log_of.end_a ∙ settled.end_a);
-      lane_b = none_at_start shows.tree.lane_b (sym shows.log_of.end_b ∙ settled.end_b);
+      lane_a = (settled.lanes shows.tree shows.log_of).0;
+      lane_b = (settled.lanes shows.tree shows.log_of).1;
       map_is = shows.map_is;
       light = omega (arith, on.light, begun_weighs runs log image old.bytes begins);
     }

@@ -7,6 +7,7 @@ use Rattle.blsm_model.specs.Sizes.{IsGeometry, Sizes}
 use Rattle.blsm_model.specs.Geometry.{capacity, file_length}
 use Rattle.blsm_model.specs.Book.{Book}
 use Rattle.blsm_model.specs.declared.room.Room.{Room}
+use Rattle.gated_log.specs.Lane.{no_lane}
 use Rattle.catalog_swap.specs.declared.catalog.Catalog.{Catalog}
 use Rattle.record_delta.specs.Entries.{entries_weight}
 use Rattle.blsm_model.specs.declared.key.Key.{Key}
@@ -50,8 +51,8 @@ weight_of_tree tree = components_weight tree + lanes_weight tree
 pub record StandsEmpty (runs : RunsState) (image : Tree) (d : DiskState) : Type 0 where
   pub tree : Tree
   pub over : StandOver runs tree d
-  pub lane_a : tree.lane_a ≡ []
-  pub lane_b : tree.lane_b ≡ []
+  pub lane_a : tree.lane_a ≡ no_lane
+  pub lane_b : tree.lane_b ≡ no_lane
   pub map_is : map_of_tree tree ≡ map_of_tree image
   pub light : components_of runs.catalogue ≤ weight_of_tree image
 
@@ -109,8 +110,8 @@ pub record TakesFew (sizes : Sizes) (old new : DiskState) : Type 0 where
   pub by_sizes : CallsFew (most_opening_calls sizes) old new
   pub full : components_of catalogue + tables ≤ capacity sizes
   pub reads : IsTrue old.is_honest
-      → (image : Tree) × HoldsTree sizes image old.bytes × (image.catalogue ≡ catalogue) × (length image.lane_a ≡ records_a) ×
-      (length image.lane_b ≡ records_b) × (lanes_weight image ≡ tables)
+      → (image : Tree) × HoldsTree sizes image old.bytes × (image.catalogue ≡ catalogue) × (length image.lane_a.entries ≡ records_a) ×
+      (length image.lane_b.entries ≡ records_b) × (lanes_weight image ≡ tables)
 
 -- how many calls that is
 abbrev pub calls_taken : {sizes : Sizes} {old new : DiskState} → TakesFew sizes old new → ℕ

@@ -1,8 +1,9 @@
 -- How many quanta an opening settles by, and how many at most. Weights are in bytes.
-use Rattle.std.specs.Prelude.{◌≡◌, ℕ, ◌+◌, ◌*◌, ◌/◌, ◌≤◌, [], None, IsTrue}
+use Rattle.std.specs.Prelude.{◌≡◌, ℕ, ◌+◌, ◌*◌, ◌/◌, ◌≤◌, None, IsTrue}
 use Rattle.disk_trait.specs.Disk.{DiskState}
 use Rattle.blsm_model.specs.Components.{empty_component}
 use Rattle.blsm_model.specs.Sizes.{Sizes}
+use Rattle.gated_log.specs.Lane.{no_lane}
 use Rattle.catalog_swap.specs.declared.catalog.Catalog.{Catalog}
 use Rattle.core_moves.specs.declared.held.Settled.{Settled}
 use Rattle.record_delta.specs.Entries.{entries_weight, replayed}
@@ -52,10 +53,10 @@ pub record CountsSettling (sizes : Sizes) (next : Catalog) (settled : Settled) (
   pub counts : SettlesWithin sizes catalogue a b next settled
   pub empty : next.c1x ≡ empty_component
   pub reads : IsTrue old.is_honest
-      → (image : Tree) × HoldsTree sizes image old.bytes × (image.catalogue ≡ catalogue) × (entries_weight (replayed image.lane_a) ≡ a)
-      × (entries_weight (replayed image.lane_b) ≡ b)
+      → (image : Tree) × HoldsTree sizes image old.bytes × (image.catalogue ≡ catalogue) × (entries_weight (replayed image.lane_a.entries) ≡ a)
+      × (entries_weight (replayed image.lane_b.entries) ≡ b)
   pub now : IsTrue old.is_honest
-      → (tree : Tree) × HoldsTree sizes tree new.bytes × (tree.catalogue ≡ next) × (tree.lane_a ≡ []) × (tree.lane_b ≡ [])
+      → (tree : Tree) × HoldsTree sizes tree new.bytes × (tree.catalogue ≡ next) × (tree.lane_a ≡ no_lane) × (tree.lane_b ≡ no_lane)
 
 -- What is told of an opening whose core is gone: it counted so, for sizes of which the file's length is, by no more calls than what it read takes.
 pub record ToldSettling (settled : Settled) (old new : DiskState) : Type 0 where

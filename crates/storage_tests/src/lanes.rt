@@ -1,13 +1,11 @@
 // A store's lanes on a disk in memory: what is appended is read back, byte by byte and entry by entry.
-ghost use Rattle.std.specs.Prelude.{◌≡◌, ◌<◌, ◌≤◌, ◌+◌, ◌-◌, ◌/◌, ℕ, List, length, IfOk, IsTrue, Err};
-ghost use Rattle.blsm_model.specs.declared.key.Key.{Key};
+ghost use Rattle.std.specs.Prelude.{◌≡◌, ◌<◌, ◌≤◌, ◌+◌, ◌-◌, ◌/◌, ℕ, length, IfOk, IsTrue, Err};
 ghost use Rattle.blsm_model.specs.Sizes.{IsGeometry};
 ghost use Rattle.blsm_model.specs.Geometry.{file_length};
 ghost use Rattle.disk_mem.specs.Recorded.{told};
 ghost use Rattle.disk_trait.specs.Reads.{OnlyReads};
-ghost use Rattle.record_delta.specs.declared.record.Rec.{Rec};
 ghost use Rattle.blsm_model.specs.Lanes.{region_length};
-ghost use Rattle.gated_log.specs.Lane.{HasEntries, IsDamaged};
+ghost use Rattle.gated_log.specs.Lane.{Lane, HasEntries, IsDamaged};
 
 use crate::asserts::{assert_same, assert_same_at, assert_that, assert_that_at};
 use crate::samples::{blank, has_bytes, smallest};
@@ -24,7 +22,7 @@ fn count<D: Disk>(disk: &mut D, geometry: &Geometry, lane: u8) -> Result<u64, La
     requires lane { lane < 3 }
     requires length { IsTrue (D.state disk.old).tells_bytes → length (D.state disk.old).bytes ≡ file_length geometry.now }
     ensures whole { IfOk result (λ n. IsTrue (D.state disk.old).is_honest
-        → (entries : List (Key × Rec)) × HasEntries geometry.now lane entries (D.state disk.old).bytes × (length entries ≡ n)) }
+        → (of : Lane) × HasEntries geometry.now lane of (D.state disk.old).bytes × (length of.entries ≡ n)) }
     ensures damaged { (place : ℕ) → result ≡ Err (LaneBroken.Damaged place) → IsTrue (D.state disk.old).is_honest
         → IsDamaged geometry.now lane (D.state disk.old).bytes }
 

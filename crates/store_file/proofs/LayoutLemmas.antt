@@ -10,7 +10,7 @@ use Rattle.disk_trait.specs.Region.{span, IsSameOutside}
 use Rattle.disk_trait.proofs.RegionLemmas.{same_no_longer, same_bytes}
 use Rattle.gated_write.specs.Gated.{open_byte, IsClosed}
 use Rattle.blsm_model.specs.Lanes.{region_start}
-use Rattle.gated_log.specs.Lane.{HasEntries}
+use Rattle.gated_log.specs.Lane.{no_lane, HasEntries}
 use Rattle.blsm_model.specs.Format.{head_length}
 use Rattle.blsm_model.specs.Sizes.{Sizes, IsGeometry}
 use Rattle.blsm_model.specs.Geometry.{file_length, IsFirstFault}
@@ -111,16 +111,21 @@ behind gate sizes at n le fits =
 zero_is_closed : ◌≡◌ {A = ℕ} 0 open_byte → ⊥
 zero_is_closed same = omega arith
 
-no_entries : (gate : ℕ) (sizes : Sizes) → IsGeometry sizes → (lane : ℕ) → lane < 3 → HasEntries sizes lane [] (first_file gate sizes)
+no_entries : (gate : ℕ) (sizes : Sizes) → IsGeometry sizes → (lane : ℕ) → lane < 3 → HasEntries sizes lane no_lane (first_file gate sizes)
 no_entries gate sizes geometry lane below =
     let half = geometry.half.0 in
     let offset : 4 * sizes.half * lane ≤ 4 * sizes.half * 2 = grind arith in
     record {
-      each = λ k d below. absurd (omega (arith, below));
-      gate = 0;
-      closed = zero_is_closed;
-      inside = omega (arith, half);
-      begins = behind gate sizes (region_start sizes lane) 1 (omega arith) (omega (arith, half, offset));
+      records = [];
+      has = record {
+        each = λ k d below. absurd (omega (arith, below));
+        gate = 0;
+        closed = zero_is_closed;
+        inside = omega (arith, half);
+        begins = behind gate sizes (region_start sizes lane) 1 (omega arith) (omega (arith, half, offset));
+      };
+      entries_are = refl;
+      end_is = refl;
     }
 
 pub first_file_made : (sizes : Sizes) → IsGeometry sizes → IsMade sizes (first_file open_byte sizes)

@@ -3,7 +3,7 @@ use Rattle.std.specs.Prelude.{◌≡◌, ℕ, ◌+◌, ◌-◌, ◌<◌, List, [
 use Rattle.std.specs.Int.{w16, w32, to_be_bytes}
 use Rattle.disk_trait.specs.Disk.{part}
 use Rattle.gated_write.specs.Gated.{open_byte}
-use Rattle.gated_log.specs.Lane.{HasEntries}
+use Rattle.gated_log.specs.Lane.{no_lane, HasEntries}
 use Rattle.catalog_swap.specs.Slots.{odd_slot, even_slot, plain_length}
 use Rattle.catalog_swap.specs.Text.{slot_text, first_catalog}
 use Rattle.blsm_model.specs.Sizes.{Sizes, IsGeometry}
@@ -50,7 +50,7 @@ pub record HasFirstSlots (file : List ℕ) : Type 0 where
 pub record IsMade (sizes : Sizes) (file : List ℕ) : Type 0 where
   pub store : IsStoreOf sizes file
   pub slots : HasFirstSlots file
-  pub lanes : (lane : ℕ) → lane < 3 → HasEntries sizes lane [] file
+  pub lanes : (lane : ℕ) → lane < 3 → HasEntries sizes lane no_lane file
 
 -- The file that making writes, with this gate: zeros, but for the superblock and the first catalogue.
 unfoldable pub first_file : ℕ → Sizes → List ℕ

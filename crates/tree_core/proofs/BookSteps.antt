@@ -73,9 +73,15 @@ leave_does {D} state seat old b core timed caller places is = subst (λ (x : Boo
     goes = book_goes state seat kind.Leave Left old old.disk (left_in seat old.held.book) 0 core timed reads (λ on. on) refl refl (may_leave seat caller) (omega arith) (leave_keeps seat old.held.book) refl refl
         (λ pace told. leave_is_told old.held.book pace seat told) (λ pace. refl)
         (λ opening m honest s can. quiet_step opening seat kind.Leave Well Left old.held old.held.runs.space (left_in seat old.held.book) m (leave m seat).state reads honest s can tt tt refl refl
-        (record { same = record { lists = refl; merges = refl; gears = refl; spring = refl; catalogue = refl }; counts = record
-            { charge = refl; peak = refl; quanta = refl }; book = (steps_book m).leave seat
-            ∙ ap (left_in seat) s.book; stopped = refl; noted = inl refl }) (λ tree file of. of) (λ none. tt))
+        (record {
+          same = record { lists = refl; merges = refl; gears = refl; spring = refl; catalogue = refl };
+          counts = record
+              { charge = refl; peak = refl; quanta = refl };
+          book = (steps_book m).leave seat
+              ∙ ap (left_in seat) s.book;
+          stopped = refl;
+          noted = inl refl;
+        }) (λ tree file of. of) (λ none. tt))
 
     left : HasLeft seat (left_in seat old.held.book)
     left = get_or-set_same old.held.book.seats.left seat true false (omega (arith, caller, places))
@@ -103,7 +109,13 @@ end_does {D} state seat n reply old b core timed works can reply_is is = subst (
         let entry : Entry = record { seat = seat; op = Work n; reply = work_reply (work_in seat (book_of m)) m.stopped } in
         quiet_step opening seat (kind.WorkEnd n) Well (Replied reply) old.held old.held.runs.space (ended_in seat n old.held.book) m (work_end m seat n).state reads honest s ok tt tt refl
         (ap (λ (r : Reply). record { state = (work_end m seat n).state; answer = Replied r }) (ap (λ (x : BookState). work_reply (work_in seat x) x.stopped) s.book ∙ sym reply_is))
-        (record { same = record { lists = refl; merges = refl; gears = refl; spring = refl; catalogue = refl }; counts = record
-            { charge = refl; peak = refl; quanta = refl }; book = (steps_book m).ending seat n
-            ∙ ap (ended_in seat n) s.book; stopped = refl; noted = inr (entry, refl, quiet_entry_counts_none entry (inl refl)) })
-            (λ tree file of. of) (λ none. tt))
+        (record {
+          same = record { lists = refl; merges = refl; gears = refl; spring = refl; catalogue = refl };
+          counts = record
+              { charge = refl; peak = refl; quanta = refl };
+          book = (steps_book m).ending seat n
+              ∙ ap (ended_in seat n) s.book;
+          stopped = refl;
+          noted = inr (entry, refl, quiet_entry_counts_none entry (inl refl));
+        })
+        (λ tree file of. of) (λ none. tt))

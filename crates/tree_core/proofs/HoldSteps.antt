@@ -109,7 +109,7 @@ hold_step state opening seat k command r outcome old mid holds disk rows m is mo
     let entry : Entry = record { seat = seat; op = command; reply = r } in
     subst
     (λ (held : Held). ((tree : Tree) (file : List ℕ) → AreOf old.held.runs tree file → AreOf held.runs tree file)
-        → (old.held.book.stopped ≡ None → HoldRows held holds (state disk) rows)
+    → (old.held.book.stopped ≡ None → HoldRows held holds (state disk) rows)
     → IsWholeStep state opening seat k (Replied r) old (after_it disk held holds seat command r old.held) m)
     (sym moves.rest)
     (quiet_step opening seat k outcome (Replied r) old.held mid.runs.space (noted_in seat command r old.held.book) m (note seat command r (record m { holds = rows })) reads honest stands can is.fits possible whole does

@@ -167,9 +167,15 @@ hold_steps state opening seat low high answer old mid after m one timed honest b
             let log = over.holds.of_log in
             let tree = over.tree in
             let lists : m.lists ≡ record { b = old.held.log.b.entries; a = old.held.log.a.entries; c1 = entries_of tree.c1; c1x = entries_of tree.c1x; c2 = entries_of tree.c2 } = over.holds.lists
-            ∙ ap (λ (b : Entries). record { b = b; a = replayed tree.lane_a; c1 = entries_of tree.c1; c1x = entries_of tree.c1x; c2 = entries_of tree.c2 }) (sym log.b)
+            ∙ ap (λ (b : Entries). record {
+              b = b;
+              a = replayed tree.lane_a.entries;
+              c1 = entries_of tree.c1;
+              c1x = entries_of tree.c1x;
+              c2 = entries_of tree.c2;
+            }) (sym log.b)
             ∙ ap (λ (a : Entries). record { b = old.held.log.b.entries; a = a; c1 = entries_of tree.c1; c1x = entries_of tree.c1x; c2 = entries_of tree.c2 })
-            (sym (whole_list (replayed tree.lane_a) old.held.log.a (one runs).whole_a log.a)) in
+            (sym (whole_list (replayed tree.lane_a.entries) old.held.log.a (one runs).whole_a log.a)) in
             subst (λ (l : Lists). HasHeld old.held.runs.sizes mid.runs.space.pins seat (hold_of seat after) (Some (rows_in l low high)) (state old.disk).bytes) (sym lists)
             (has tree (state old.disk).bytes refl over.over.are_of)
     by holds.NoMemory because has =
@@ -183,8 +189,15 @@ hold_steps state opening seat low high answer old mid after m one timed honest b
 -- ---- the reading on
 
 pub next_moves : (seat : ℕ) (held : Held) (before after : List (Option HoldState)) → ((other : ℕ) → other ≢ seat → hold_of other after ≡ hold_of other before) → MovesHold seat held held before after
-next_moves seat held before after others = record { rest = refl; pins = λ other differs. refl; roles = refl; holds = others; running = λ honest file
-    is. is; lists = λ tree file is. is }
+next_moves seat held before after others = record {
+  rest = refl;
+  pins = λ other differs. refl;
+  roles = refl;
+  holds = others;
+  running = λ honest file
+      is. is;
+  lists = λ tree file is. is;
+}
 
 was_held : (n : ℕ) (old new : Option HoldState) (rows : List Row) → AreGivenBy n old new rows → IsTrue (is_some old)
 was_held n old new rows h1 = grind (arith, common_steps, nat_tests)

@@ -89,10 +89,16 @@ get_step : {end most : ℕ} {d d2 : DiskState} (opening : List (Key × Value)) (
 get_step opening seat key r outcome held m reads honest s can is possible whole =
     let entry : Entry = record { seat = seat; op = Get key; reply = r } in
     quiet_step opening seat (kind.Look (Get key)) outcome (Replied r) held held.runs.space (noted_in seat (Get key) r held.book) m (note seat (Get key) r m) reads honest s can tt possible whole is
-    (record { same = record { lists = refl; merges = refl; gears = refl; spring = refl; catalogue = refl }; counts = record
-        { charge = refl; peak = refl; quanta = refl }; book = (moves_book m).note seat (Get key) r
-        ∙ ap (noted_in seat (Get key) r) s.book; stopped = refl; noted = inr (entry, refl, quiet_entry_counts_none entry (inl refl)) })
-        (λ tree file of. of) (λ none. tt)
+    (record {
+      same = record { lists = refl; merges = refl; gears = refl; spring = refl; catalogue = refl };
+      counts = record
+          { charge = refl; peak = refl; quanta = refl };
+      book = (moves_book m).note seat (Get key) r
+          ∙ ap (noted_in seat (Get key) r) s.book;
+      stopped = refl;
+      noted = inr (entry, refl, quiet_entry_counts_none entry (inl refl));
+    })
+    (λ tree file of. of) (λ none. tt)
 
 get_steps : {end most : ℕ} {d d2 : DiskState} (opening : List (Key × Value)) (seat : ℕ) (key : Key) (found : Lookup) (held : Held) (m : Machine) → (held.book.stopped ≡ None → IsOne held) → OnlyReads end most d d2 → IsTrue d.is_honest
     → FindsBecause found key held d d2 → (found ≡ lookup.Fault → d2.faults < 2 ^ 64)

@@ -1,5 +1,5 @@
 -- The core of a store that was opened and settled.
-use Rattle.std.specs.Prelude.{◌≡◌, ◌+◌, List, [], None, Option, is_some, replicate}
+use Rattle.std.specs.Prelude.{◌≡◌, ◌+◌, List, None, Option, is_some, replicate}
 use Rattle.std.proofs.lemmas.Grind.{common_steps}
 use Rattle.std.proofs.lemmas.Bool.Decides.{nat_tests}
 use Rattle.std.proofs.Common.{arith}
@@ -14,6 +14,7 @@ use Rattle.page_file.specs.Component.{entries_of}
 use Rattle.pacing.specs.Pace.{Pace, opened as pace_opened}
 use Rattle.scan_view.specs.Hold.{HoldState}
 use Rattle.seat_book.specs.State.{BookState, opened_in}
+use Rattle.gated_log.specs.Lane.{no_lane}
 use Rattle.tree_file.specs.Tree.{Tree, map_of_tree}
 use Rattle.tree_log.specs.Log.{LogState}
 use Rattle.tree_machine.specs.Machine.{opened}
@@ -70,7 +71,7 @@ module _ {D : Type 0} (state : D → DiskState) (disk : D) (runs : RunsState) (l
   not_stopped : book.stopped ≡ None
   not_stopped = ap (λ (b : BookState). b.stopped) fresh
 
-  pub opened_stands : (tree : Tree) → StandOver runs tree d → tree.lane_a ≡ [] → tree.lane_b ≡ []
+  pub opened_stands : (tree : Tree) → StandOver runs tree d → tree.lane_a ≡ no_lane → tree.lane_b ≡ no_lane
       → StandsWhole state (map_of_tree tree) core (opened runs.sizes (entries_of tree.c1) (entries_of tree.c2) (catalogue_of runs.catalogue) d.faults annals.room)
   opened_stands tree over a b =
       let m = opened runs.sizes (entries_of tree.c1) (entries_of tree.c2) (catalogue_of runs.catalogue) d.faults annals.room in

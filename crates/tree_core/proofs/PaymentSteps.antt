@@ -60,8 +60,14 @@ halted_payment opening seat why held m d timed honest is stands ok =
     let stop_is : m.stopped ≡ Some why = ap (λ (b : BookState). b.stopped) stands.book ∙ is in
     quiet_step {end = 0} {most = 0} opening seat kind.Pay Well (Turn (machine.Halted why)) held held.runs.space held.book m m (only_reads_start d timed) honest stands ok tt tt refl
     (ap (λ (o : Option Why). pay_running o m seat Well) stop_is)
-    (record { same = record { lists = refl; merges = refl; gears = refl; spring = refl; catalogue = refl }; counts = record
-        { charge = refl; peak = refl; quanta = refl }; book = stands.book; stopped = refl; noted = inl refl }) (λ tree file of. of) (λ none. tt)
+    (record {
+      same = record { lists = refl; merges = refl; gears = refl; spring = refl; catalogue = refl };
+      counts = record
+          { charge = refl; peak = refl; quanta = refl };
+      book = stands.book;
+      stopped = refl;
+      noted = inl refl;
+    }) (λ tree file of. of) (λ none. tt)
 
 -- ---- one that runs
 

@@ -161,8 +161,10 @@ quiet_stands opening held space b m after d d2 s same book stopped paced stays s
         holds = same_machine held space b over.tree m after over.holds same book;
         within = same_fronts m after over.fronts same over.within;
         lanes = record {
-          lane_a = subst (λ (l : Lists). Rattle.paced_tree.specs.Lanes.IsLane over.tree.lane_a l.a over.fronts.lane_a) (sym same.lists) over.lanes.lane_a;
-          lane_b = subst (λ (l : Lists). Rattle.paced_tree.specs.Lanes.IsLane over.tree.lane_b l.b over.fronts.lane_b) (sym same.lists) over.lanes.lane_b;
+          lane_a = subst (λ (l : Lists). Rattle.paced_tree.specs.Lanes.IsLane over.tree.lane_a.entries l.a over.fronts.lane_a)
+              (sym same.lists) over.lanes.lane_a;
+          lane_b = subst (λ (l : Lists). Rattle.paced_tree.specs.Lanes.IsLane over.tree.lane_b.entries l.b over.fronts.lane_b)
+              (sym same.lists) over.lanes.lane_b;
         };
       };
   rows = λ none. gives (sym stopped ∙ none);
@@ -229,7 +231,7 @@ pub quiet_step : {end most : ℕ} {d d2 : DiskState} {Rows Next : List (Option (
     → StandsFor Rows opening held m d → may m seat k ≡ true → WritesFit k → IsPossible m seat k outcome d.faults d2.faults → is_broken outcome ≡ false
     → stepped_as m seat k outcome ≡ record { state = after; answer = answer } → ChangesBook held b m after
     → ((tree : Tree) (file : List ℕ) → AreOf held.runs tree file → AreOf (mapped space held).runs tree file)
-        → (held.book.stopped ≡ None → Next after.holds)
+    → (held.book.stopped ≡ None → Next after.holds)
     → IsStep Next opening seat k answer (with_book b (mapped space held)) d d2 m
 quiet_step {end} {most} {d} {d2} {Rows} {Next} opening seat k outcome answer held space b m after reads honest s can fits possible whole is changes lists gives = record {
   outcome = outcome;

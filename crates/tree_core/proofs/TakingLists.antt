@@ -229,7 +229,7 @@ module _ (opening : List (Key × Value)) (old : Held) (m : Machine) (d : DiskSta
         (tests_agree_with_lists settled middle (deep_swapped m) mid.bytes (deep_settled is.numbers) settled_in.at sound between.numbers).pass_is_done.0 done,
         either_commits (deep_swapped m).gears.sizes settled.runs.sizes (deep_swapped m).catalogue.version middle made.0 after (carries.sizes ∙ sizes_here)
             (version_of settled middle (deep_swapped m) mid.bytes over_middle.are_of settled_in.at.holds)
-                (inr (made.1.done done).version) made.2.either,
+            (inr (made.1.done done).version) made.2.either,
       )
 
   pub pass_whole : (new : Held) (ok : Bool) (after : DiskState) → IsPassDone settled ⊎ (IsPassDone settled → ⊥) → PassLeaves settled new ok mid after → LeavesWhole opening m d after

@@ -119,7 +119,7 @@ pub record Turning {D : Type 0} (state : D → DiskState) (w : Bool) (seat : ℕ
   pub in_memory : LeavesDisk mv old.disk disk
   pub lists : (tree : Tree) → IsTrue (state old.disk).is_honest → StandOver old.held.runs tree (state old.disk)
       → HasAllAhead old.held.runs.pass old.held.log.a.entries tree → (next : Tree)
-          × LeavesMoved mv made old.held moved tree next (state old.disk) (state disk)
+      × LeavesMoved mv made old.held moved tree next (state old.disk) (state disk)
   pub opened : (m : Machine) → book_of m ≡ old.held.book → IsOpenTo w m
 
 turning_goes : {D : Type 0} (state : D → DiskState) (w : Bool) (seat : ℕ) (mv : Move) (made : Result ℕ Broken) (faults : ℕ) (old : CoreState D) (disk : D) (moved : Held) (ended : Turned) (b : BookState) → is_held (kind_of_turn w) ≡ false

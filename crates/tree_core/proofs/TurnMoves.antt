@@ -32,13 +32,13 @@ on_pair r P Q h1 h2 = grind (arith, common_steps, nat_tests)
 
 swap_leaves : {T E : Type 0} (r : Result T E) (mv : Move) (old new : Held) (tree next : Tree) (before after : DiskState) → MakesTree mv old tree next
     → LeavesSwapped old.runs new.runs tree next (is_ok r) before after → OnOk r (TurnsTree mv 0 old new tree next)
-        → LeavesMoved mv (as_moved r) old new tree next before after
+    → LeavesMoved mv (as_moved r) old new tree next before after
 swap_leaves (Ok done) mv old new tree next before after makes leaves trees = record { makes = makes; each = leaves.each; either = leaves.either; moved = λ well. (0, refl, leaves.stands refl, trees) }
 swap_leaves (Err failed) mv old new tree next before after makes leaves trees = record { makes = makes; each = leaves.each; either = leaves.either; moved = λ well. absurd (well refl) }
 
 pub swap_left : {T E : Type 0} (r : Result T E) (made : Result ℕ Broken) (mv : Move) (old new : Held) (tree next : Tree) (before after : DiskState) → made ≡ as_moved r → MakesTree mv old tree next
     → LeavesSwapped old.runs new.runs tree next (is_ok r) before after → OnOk r (TurnsTree mv 0 old new tree next)
-        → LeavesMoved mv made old new tree next before after
+    → LeavesMoved mv made old new tree next before after
 swap_left r made mv old new tree next before after is makes leaves trees =
     subst (λ (x : Result ℕ Broken). LeavesMoved mv x old new tree next before after) (sym is) (swap_leaves r mv old new tree next before after makes leaves trees)
 
@@ -72,7 +72,7 @@ swap_told r made before after is tells = subst (λ (x : Result ℕ Broken). Tell
 -- the tree stands
 pub quantum_left : (mv : Move) (result : Result ℕ Broken) (old new : Held) (tree : Tree) (before after : DiskState) → MakesTree mv old tree tree → StandsOn old.runs.sizes tree after × LeavesOnly before after (HoldsTree old.runs.sizes tree)
     → (result ≢ Err Fault → (n : ℕ) × (result ≡ Ok n) × StandOver new.runs tree after × TurnsTree mv n old new tree tree)
-        → LeavesMoved mv result old new tree tree before after
+    → LeavesMoved mv result old new tree tree before after
 quantum_left mv result old new tree before after makes stands moved = record {
   makes = makes;
   each = leaves_only_weaken (λ c here. inl here) stands.1;

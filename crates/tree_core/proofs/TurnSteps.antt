@@ -293,7 +293,7 @@ failed_turn w opening seat f old moved m tree before after made kept counted ros
         each = λ c here. stop_shows c (shows c (o.leaves.either.each c here));
         commits = either_commits m.gears.sizes old.runs.sizes m.catalogue.version tree o.next after (same_sizes opening old m before tree o.runs)
             (version_of old tree m before.bytes o.runs.over.are_of o.runs.holds)
-                (moved_version (move_in w old) old tree o.next o.leaves.makes) o.leaves.either;
+            (moved_version (move_in w old) old tree o.next o.leaves.makes) o.leaves.either;
       };
     }
 

@@ -1,5 +1,5 @@
 //! The core of a store that was opened.
-ghost use Rattle.std.specs.Prelude.{◌≡◌, ◌+◌, ◌≤◌, ℕ, [], None, IsTrue, length, replicate, sum};
+ghost use Rattle.std.specs.Prelude.{◌≡◌, ◌+◌, ◌≤◌, ℕ, None, IsTrue, length, replicate, sum};
 ghost use Rattle.blsm_model.specs.Components.{empty_component};
 ghost use Rattle.blsm_model.specs.Format.{callers, most_entries};
 ghost use Rattle.blsm_model.specs.Geometry.{file_length, high_mark};
@@ -7,6 +7,7 @@ ghost use Rattle.disk_trait.specs.Disk.{DiskState};
 ghost use Rattle.page_file.specs.Component.{entries_of};
 ghost use Rattle.pacing.specs.Laws.{IsOpening};
 ghost use Rattle.tree_machine.specs.Machine.{opened};
+ghost use Rattle.gated_log.specs.Lane.{no_lane};
 ghost use Rattle.tree_file.specs.Tree.{Tree, map_of_tree};
 ghost use Rattle.tree_log.specs.Log.{IsLogOf};
 ghost use Rattle.tree_runs.specs.Holding.{StandOver};
@@ -61,7 +62,7 @@ impl<D: Disk + Drop> Core<D> {
 
         // On an honest disk that stands on a tree with empty lanes it stands at the machine's first state, whose history begins with the tree's map.
         ensures stands { (tree : Tree) → IsTrue (D.state parts.disk).is_honest → StandOver parts.runs tree (D.state parts.disk)
-            → tree.lane_a ≡ [] → tree.lane_b ≡ []
+            → tree.lane_a ≡ no_lane → tree.lane_b ≡ no_lane
             → StandsWhole D.state (map_of_tree tree) result
             (opened parts.runs.sizes (entries_of tree.c1) (entries_of tree.c2) (catalogue_of parts.runs.catalogue) (D.state parts.disk).faults parts.annals.room) }
     {

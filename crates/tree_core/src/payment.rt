@@ -28,7 +28,7 @@ fn take<D: Disk>(held: &mut Held, disk: &mut D, seat: u32, plan: Plan) -> Result
     requires ready { IsReady held.old (D.state disk.old) }
     ensures lists { (tree : Tree) → IsTrue (D.state disk.old).is_honest → StandOver held.old.runs tree (D.state disk.old)
         → HasAllAhead held.old.runs.pass held.old.log.a.entries tree → LeavesTaken plan result held.old held.new tree (D.state disk.old)
-            (D.state disk.new) }
+        (D.state disk.new) }
     ensures takes { IfOk result (λ n. TakesByPlan plan seat n held.old held.new) }
     ensures damaged { (n : ℕ) → result ≡ Err (Broken.Damaged n) → IsTrue (D.state disk.old).tells_bytes → IsDamageAhead plan held.new.runs n (D.state disk.new).bytes }
     ensures on { OnOk result (IsOn held.new (D.state disk.new)) }

@@ -1,9 +1,10 @@
 -- The tree of a store that was just made, the map of a tree that has a record of one key in each of its lists, and what is no tree.
-use Rattle.std.proofs.Common.{◌≡◌, ℕ, ◌+◌, ◌<◌, List, [], ◌∷◌, false, take, refl, ap, sym, subst, codes, arith}
+use Rattle.std.proofs.Common.{◌≡◌, ℕ, ◌+◌, ◌<◌, List, [], ◌∷◌, ◌++◌, length, false, take, refl, ap, sym, subst, codes, arith}
 use Rattle.std.specs.Prelude.{nat_eq}
 use Rattle.std.specs.List.{IsDistinct}
 use Rattle.std.proofs.lemmas.Bool.{false≢true}
 use Rattle.gated_write.specs.Gated.{open_byte}
+use Rattle.gated_log.specs.Lane.{Lane, no_lane}
 use Rattle.blsm_model.specs.Sizes.{Sizes, IsGeometry, default_sizes}
 use Rattle.blsm_model.specs.Geometry.{c1_mark, capacity, high_mark}
 use Rattle.blsm_model.specs.declared.key.Key.{Key}
@@ -35,9 +36,14 @@ made_reads_empty = first_map default_sizes (first_file open_byte default_sizes) 
 none_is_some : (e : Key × Rec) → ◌≡◌ {A = Entries} [] (e ∷ []) → ⊥
 none_is_some e same = cc (same)
 
-made_has_no_entry : (e : Key × Rec) → HoldsTree default_sizes (record first_tree { lane_a = e ∷ [] }) (first_file open_byte default_sizes) → ⊥
+-- a lane of these entries, each a record of its own
+abbrev lane : Entries → Lane
+lane entries = record { entries = entries; end = entries_weight entries + length entries }
+
+made_has_no_entry : (e : Key × Rec) → HoldsTree default_sizes (record first_tree { lane_a = lane (e ∷ []) }) (first_file open_byte default_sizes) → ⊥
 made_has_no_entry e holds =
-    none_is_some e (ap (λ (t : Tree). t.lane_a) (one_tree default_sizes first_tree (record first_tree { lane_a = e ∷ [] }) (first_file open_byte default_sizes) made_is_empty holds))
+    none_is_some e (ap (λ (t : Tree). t.lane_a.entries)
+    (one_tree default_sizes first_tree (record first_tree { lane_a = lane (e ∷ []) }) (first_file open_byte default_sizes) made_is_empty holds))
 
 -- ---- one key in each list
 
@@ -58,22 +64,23 @@ five = record {
   c1x = page 1 (added 10) ∷ [];
   c2 = page 2 ((k, Base (record { count = 1; text = codes "old" })) ∷ []) ∷ [];
   output = [];
-  lane_a = (k, Delta (record { count = 1000; text = [] })) ∷ (k, Delta (record { count = 1000; text = [] })) ∷ [];
-  lane_b = added 30000;
+  lane_a = lane (added 1000 ++ added 1000);
+  lane_b = lane (added 30000);
 }
 
 five_shows : map_of_tree five ≡ (k, record { count = 32111; text = codes "old" }) ∷ []
 five_shows = refl
 
 -- Lane B is newer than lane A: an add behind a del counts from 0, and a del behind an add leaves nothing.
-add_behind_del : map_of_tree (record five { lane_a = (k, Tomb) ∷ []; lane_b = added 7 }) ≡ (k, record { count = 7; text = [] }) ∷ []
+add_behind_del : map_of_tree (record five { lane_a = lane ((k, Tomb) ∷ []); lane_b = lane (added 7) }) ≡ (k, record { count = 7; text = [] }) ∷ []
 add_behind_del = refl
 
-del_behind_add : map_of_tree (record five { lane_a = added 7; lane_b = (k, Tomb) ∷ [] }) ≡ []
+del_behind_add : map_of_tree (record five { lane_a = lane (added 7); lane_b = lane ((k, Tomb) ∷ []) }) ≡ []
 del_behind_add = refl
 
 -- within a lane the later record is the newer
-add_behind_del_in_lane : map_of_tree (record five { lane_a = (k, Tomb) ∷ (k, Delta (record { count = 7; text = [] })) ∷ []; lane_b = [] }) ≡ (k, record { count = 7; text = [] }) ∷ []
+add_behind_del_in_lane : map_of_tree (record five { lane_a = lane ((k, Tomb) ∷ added 7); lane_b = no_lane })
+    ≡ (k, record { count = 7; text = [] }) ∷ []
 add_behind_del_in_lane = refl
 
 -- The swap of the deep merge puts C1' and C2 together: the map stays.
@@ -120,7 +127,9 @@ no_next_of_c1 sizes progress file is named = false≢true (sym (subst (λ (n : �
 no_full_c1 : (sizes : Sizes) (tree : Tree) → entries_weight (entries_of tree.c1) ≡ c1_mark sizes → FitsSizes sizes tree → ⊥
 no_full_c1 sizes tree full fits = omega (arith, full, fits.mark)
 
-no_high_front : (sizes : Sizes) (tree : Tree) (n : ℕ) → high_mark sizes < entries_weight (replayed tree.lane_a) + entries_weight (replayed (take n tree.lane_b)) → FitsSizes sizes tree → ⊥
+no_high_front : (sizes : Sizes) (tree : Tree) (n : ℕ)
+    → high_mark sizes < entries_weight (replayed tree.lane_a.entries) + entries_weight (replayed (take n tree.lane_b.entries)) → FitsSizes sizes tree
+    → ⊥
 no_high_front sizes tree n high fits = omega (arith, high, fits.replays.high_b n)
 
 -- and C1', which counts in the capacity

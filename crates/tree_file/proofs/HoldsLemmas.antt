@@ -1,5 +1,5 @@
 -- A tree stays in its file where bytes change beside it.
-use Rattle.std.specs.Prelude.{◌≡◌, ◌≢◌, ◌⊎◌, ℕ, ◌+◌, ◌<◌, ◌≤◌, List, [], ◌++◌, Option, Some, None}
+use Rattle.std.specs.Prelude.{◌≢◌, ◌⊎◌, ℕ, ◌+◌, ◌<◌, ◌≤◌, List, ◌++◌, Option, Some, None}
 use Rattle.std.proofs.lemmas.Grind.{common_steps}
 use Rattle.std.proofs.lemmas.Bool.Decides.{nat_tests}
 use Rattle.std.specs.List.{Contains}
@@ -11,12 +11,11 @@ use Rattle.blsm_model.specs.Format.{page_length}
 use Rattle.blsm_model.specs.Sizes.{Sizes}
 use Rattle.blsm_model.specs.Geometry.{page_count, file_length}
 use Rattle.blsm_model.specs.Lanes.{a_of, b_of, region_start, region_length, AreRoles}
-use Rattle.record_delta.specs.Entries.{Entries}
 use Rattle.page_file.specs.File.{page_start, page_region, pages_region, AreSamePages}
 use Rattle.page_file.specs.Component.{numbers_of}
 use Rattle.page_file.proofs.PageLemmas.{others_apart, before_apart}
 use Rattle.page_file.proofs.ComponentLemmas.{component_kept, run_kept}
-use Rattle.gated_log.specs.Lane.{HasEntries, lane_region}
+use Rattle.gated_log.specs.Lane.{Lane, lane_region, HasEntries}
 use Rattle.gated_log.proofs.LaneLaws.{entries_apart, lanes_apart}
 use Rattle.gated_log.proofs.LaneLemmas.{region_inside}
 use Rattle.catalog_swap.specs.declared.catalog.Progress.{Progress}
@@ -213,13 +212,13 @@ abbrev pub lane_of : Role → Tree → ℕ
 lane_of as_a tree = a_of tree.catalogue.lanes
 lane_of as_b tree = b_of tree.catalogue.lanes
 
-abbrev pub entries_in : Role → Tree → Entries
-entries_in as_a tree = tree.lane_a
-entries_in as_b tree = tree.lane_b
+abbrev pub lane_in : Role → Tree → Lane
+lane_in as_a tree = tree.lane_a
+lane_in as_b tree = tree.lane_b
 
-abbrev pub with_entries : Role → Entries → Tree → Tree
-with_entries as_a entries tree = record tree { lane_a = entries }
-with_entries as_b entries tree = record tree { lane_b = entries }
+abbrev pub with_lane : Role → Lane → Tree → Tree
+with_lane as_a lane tree = record tree { lane_a = lane }
+with_lane as_b lane tree = record tree { lane_b = lane }
 
 pub roles_of : {sizes : Sizes} {tree : Tree} {file : List ℕ} → HoldsTree sizes tree file → AreRoles tree.catalogue.lanes
 roles_of holds = holds.newest.stands.fits.lanes
@@ -227,18 +226,20 @@ roles_of holds = holds.newest.stands.fits.lanes
 pub role_below : (role : Role) (tree : Tree) → AreRoles tree.catalogue.lanes → lane_of role tree < 3
 role_below role tree h1 = grind (arith, common_steps, nat_tests)
 
-pub has_entries : (role : Role) {sizes : Sizes} {tree : Tree} {file : List ℕ} → HoldsTree sizes tree file → HasEntries sizes (lane_of role tree) (entries_in role tree) file
+pub has_entries : (role : Role) {sizes : Sizes} {tree : Tree} {file : List ℕ} → HoldsTree sizes tree file
+    → HasEntries sizes (lane_of role tree) (lane_in role tree) file
 has_entries as_a holds = holds.lane_a
 has_entries as_b holds = holds.lane_b
 
 -- the lanes don't count in what is named of a deep merge
-progress_over : (sizes : Sizes) (progress : Option Progress) (tree : Tree) (es fs : Entries) (file : List ℕ) → HasProgress sizes progress tree file
+progress_over : (sizes : Sizes) (progress : Option Progress) (tree : Tree) (es fs : Lane) (file : List ℕ) → HasProgress sizes progress tree file
     → HasProgress sizes progress (record tree { lane_a = es; lane_b = fs }) file
 progress_over sizes None tree es fs file has = has
 progress_over sizes (Some progress) tree es fs file has = record { output = has.output; apart = has.apart }
 
 -- bytes of one lane changed, and both lanes have these entries
-lanes_changed : {old new : List ℕ} (sizes : Sizes) (tree : Tree) (lane : ℕ) (es fs : Entries) → lane < 3 → HoldsTree sizes tree old → IsSameOutside (lane_region sizes lane) old new
+lanes_changed : {old new : List ℕ} (sizes : Sizes) (tree : Tree) (lane : ℕ) (es fs : Lane) → lane < 3 → HoldsTree sizes tree old
+    → IsSameOutside (lane_region sizes lane) old new
     → HasEntries sizes (a_of tree.catalogue.lanes) es new → HasEntries sizes (b_of tree.catalogue.lanes) fs new → HoldsTree sizes (record tree { lane_a = es; lane_b = fs }) new
 lanes_changed sizes tree lane es fs below holds same a b =
     let body = body_of holds in
@@ -262,19 +263,21 @@ lanes_changed sizes tree lane es fs below holds same a b =
     }
 
 -- Where bytes of one lane alone change, and it has other entries then, the tree has these.
-pub entries_changed : (role : Role) {old new : List ℕ} (sizes : Sizes) (tree : Tree) (entries : Entries) → HoldsTree sizes tree old → IsSameOutside (lane_region sizes (lane_of role tree)) old new
-    → HasEntries sizes (lane_of role tree) entries new → HoldsTree sizes (with_entries role entries tree) new
-entries_changed as_a sizes tree entries holds same has =
+pub entries_changed : (role : Role) {old new : List ℕ} (sizes : Sizes) (tree : Tree) (lane : Lane) → HoldsTree sizes tree old
+    → IsSameOutside (lane_region sizes (lane_of role tree)) old new
+    → HasEntries sizes (lane_of role tree) lane new → HoldsTree sizes (with_lane role lane tree) new
+entries_changed as_a sizes tree lane holds same has =
     let roles = roles_of holds in
-    lanes_changed sizes tree (a_of tree.catalogue.lanes) entries tree.lane_b roles.a_below holds same has
+    lanes_changed sizes tree (a_of tree.catalogue.lanes) lane tree.lane_b roles.a_below holds same has
     (entries_apart sizes (b_of tree.catalogue.lanes) tree.lane_b (lanes_apart sizes (a_of tree.catalogue.lanes) (b_of tree.catalogue.lanes) roles.a_not_b) same holds.lane_b)
-entries_changed as_b sizes tree entries holds same has =
+entries_changed as_b sizes tree lane holds same has =
     let roles = roles_of holds in
-    lanes_changed sizes tree (b_of tree.catalogue.lanes) tree.lane_a entries roles.b_below holds same
+    lanes_changed sizes tree (b_of tree.catalogue.lanes) tree.lane_a lane roles.b_below holds same
     (entries_apart sizes (a_of tree.catalogue.lanes) tree.lane_a (lanes_apart sizes (b_of tree.catalogue.lanes) (a_of tree.catalogue.lanes) (λ is. roles.a_not_b (sym is))) same holds.lane_a) has
 
 -- with those that it had it is the tree that it was
-pub same_entries : (role : Role) {sizes : Sizes} {tree : Tree} {file : List ℕ} → HoldsTree sizes (with_entries role (entries_in role tree) tree) file → HoldsTree sizes tree file
+pub same_entries : (role : Role) {sizes : Sizes} {tree : Tree} {file : List ℕ} → HoldsTree sizes (with_lane role (lane_in role tree) tree) file
+    → HoldsTree sizes tree file
 same_entries as_a holds = holds
 same_entries as_b holds = holds
 

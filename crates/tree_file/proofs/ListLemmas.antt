@@ -1,9 +1,6 @@
 -- The lists of a tree that a file holds.
-use Rattle.std.specs.Prelude.{◌≡◌, ◌++◌, ℕ, List, [], ◌∷◌, Option, fold, refl}
-use Rattle.std.proofs.lemmas.Grind.{common_steps}
-use Rattle.std.proofs.lemmas.Bool.Decides.{nat_tests}
-use Rattle.std.proofs.Common.{arith}
-use Rattle.std.proofs.Common.{ap}
+use Rattle.std.specs.Prelude.{◌≡◌, ◌++◌, ℕ, List, [], ◌∷◌, Option, None, fold, refl}
+use Rattle.std.proofs.Common.{ap, subst}
 use Rattle.std.proofs.lemmas.List.Elements.{All-head, All-tail}
 use Rattle.blsm_model.specs.Sizes.{Sizes}
 use Rattle.blsm_model.specs.declared.key.Key.{Key}
@@ -12,8 +9,10 @@ use Rattle.record_delta.specs.Records.{IsWithin}
 use Rattle.record_delta.specs.Entries.{Entries, AreSorted, replayed, with_record}
 use Rattle.entry_codec.specs.Spelling.{IsEntry}
 use Rattle.page_file.specs.Component.{RunPage, AreChained, ReadsAs, entries_of}
+use Rattle.page_file.specs.Entry.{AreEntries}
 use Rattle.page_file.proofs.OrderLemmas.{orders}
-use Rattle.gated_log.specs.Lane.{AreEntries}
+use Rattle.gated_log.specs.Lane.{Lane, entries_in, AreRecords, HasEntries}
+use Rattle.gated_log.specs.Records.{AreSpelled, IsLaneRecord}
 use Rattle.tree_machine.specs.Layers.{AreLight}
 use Rattle.tree_machine.proofs.FoldLemmas.{sorted_with_record}
 use Rattle.tree_machine.proofs.LightLemmas.{light_with, light_append}
@@ -28,6 +27,19 @@ light_entries [] each = tt
 light_entries (e ∷ es) each = (light_entry e (All-head (λ x. IsEntry x.0 x.1) e es each), light_entries es (All-tail (λ x. IsEntry x.0 x.1) e es each))
 
 -- ---- a lane
+
+light_spelled : (es : Entries) → AreSpelled es → AreLight es
+light_spelled [] each = tt
+light_spelled (e ∷ es) each = (light_entry e each.0, light_spelled es each.1)
+
+light_records : (records : List Entries) → AreRecords records → AreLight (entries_in records)
+light_records [] each = tt
+light_records (es ∷ records) each =
+    light_append es (entries_in records) (light_spelled es (All-head IsLaneRecord es records each).each)
+    (light_records records (All-tail IsLaneRecord es records each))
+
+light_lane : {sizes : Sizes} {n : ℕ} {lane : Lane} {file : List ℕ} → HasEntries sizes n lane file → AreLight lane.entries
+light_lane has = subst AreLight has.entries_are (light_records has.records has.has.each)
 
 -- records of a lane, folded into a table
 abbrev replay_on : Entries → Entries → Entries
@@ -44,8 +56,8 @@ light_on table (e ∷ lane) lane_light light = light_on (with_record e.0 e.1 tab
 pub sorted_replayed : (lane : Entries) → AreSorted (replayed lane)
 sorted_replayed lane = sorted_on [] lane refl
 
-pub light_replayed : (lane : Entries) → AreEntries lane → AreLight (replayed lane)
-light_replayed lane each = light_on [] lane (light_entries lane each) tt
+light_replayed : (lane : Entries) → AreLight lane → AreLight (replayed lane)
+light_replayed lane light = light_on [] lane light tt
 
 -- one record more is folded over the table
 replay_push : (table lane : Entries) (e : Key × Rec) → replay_on table (lane ++ e ∷ []) ≡ with_record e.0 e.1 (replay_on table lane)
@@ -53,11 +65,13 @@ replay_push table [] e = refl
 replay_push table (x ∷ lane) e = replay_push (with_record x.0 x.1 table) lane e
 
 -- So an entry that is appended to a lane joins its table.
-pub lists_appended_a : (e : Key × Rec) (tree : Tree) → lists_of (appended_a e tree) ≡ record (lists_of tree) { a = with_record e.0 e.1 (replayed tree.lane_a) }
-lists_appended_a e tree = ap (λ (table : Entries). record (lists_of tree) { a = table }) (replay_push [] tree.lane_a e)
+pub lists_appended_a : (e : Key × Rec) (tree : Tree)
+    → lists_of (appended_a e tree) ≡ record (lists_of tree) { a = with_record e.0 e.1 (replayed tree.lane_a.entries) }
+lists_appended_a e tree = ap (λ (table : Entries). record (lists_of tree) { a = table }) (replay_push [] tree.lane_a.entries e)
 
-pub lists_appended_b : (e : Key × Rec) (tree : Tree) → lists_of (appended_b e tree) ≡ record (lists_of tree) { b = with_record e.0 e.1 (replayed tree.lane_b) }
-lists_appended_b e tree = ap (λ (table : Entries). record (lists_of tree) { b = table }) (replay_push [] tree.lane_b e)
+pub lists_appended_b : (e : Key × Rec) (tree : Tree)
+    → lists_of (appended_b e tree) ≡ record (lists_of tree) { b = with_record e.0 e.1 (replayed tree.lane_b.entries) }
+lists_appended_b e tree = ap (λ (table : Entries). record (lists_of tree) { b = table }) (replay_push [] tree.lane_b.entries e)
 
 -- ---- a component
 
@@ -72,9 +86,20 @@ light_pages sizes (p ∷ ps) end file chained = light_append p.entries (entries_
 
 pub lists_sorted : (sizes : Sizes) (tree : Tree) (file : List ℕ) → HoldsTree sizes tree file
     → AreSorted (lists_of tree).b × AreSorted (lists_of tree).a × AreSorted (lists_of tree).c1 × AreSorted (lists_of tree).c1x × AreSorted (lists_of tree).c2
-lists_sorted sizes tree file holds =
-    (sorted_replayed tree.lane_b, sorted_replayed tree.lane_a, sorted_component holds.c1, sorted_component holds.c1x, sorted_component holds.c2)
+lists_sorted sizes tree file holds = (
+  sorted_replayed tree.lane_b.entries,
+  sorted_replayed tree.lane_a.entries,
+  sorted_component holds.c1,
+  sorted_component holds.c1x,
+  sorted_component holds.c2,
+)
 
 pub lists_light : (sizes : Sizes) (tree : Tree) (file : List ℕ) → HoldsTree sizes tree file
     → AreLight (lists_of tree).b × AreLight (lists_of tree).a × AreLight (lists_of tree).c1 × AreLight (lists_of tree).c1x × AreLight (lists_of tree).c2
-lists_light sizes tree file holds = grind (arith, common_steps, nat_tests, light_replayed, light_pages)
+lists_light sizes tree file holds = (
+  light_replayed tree.lane_b.entries (light_lane holds.lane_b),
+  light_replayed tree.lane_a.entries (light_lane holds.lane_a),
+  light_pages sizes tree.c1 None file holds.c1.chained,
+  light_pages sizes tree.c1x None file holds.c1x.chained,
+  light_pages sizes tree.c2 None file holds.c2.chained,
+)

@@ -7,8 +7,8 @@ use Rattle.std.proofs.lemmas.List.Elements.{Contains-append_left, Contains-appen
 use Rattle.blsm_model.specs.Sizes.{Sizes}
 use Rattle.blsm_model.specs.Components.{empty_component}
 use Rattle.blsm_model.specs.declared.component.Component.{Component}
-use Rattle.record_delta.specs.Entries.{Entries}
 use Rattle.page_file.specs.Component.{RunPage, ReadsAs, entries_of, numbers_of}
+use Rattle.gated_log.specs.Lane.{Lane}
 use Rattle.catalog_swap.specs.declared.catalog.Catalog.{Catalog}
 use Rattle.catalog_swap.specs.declared.catalog.Progress.{Progress}
 use Rattle.tree_machine.specs.Layers.{AreBases}
@@ -146,7 +146,7 @@ module _ (sizes : Sizes) (tree : Tree) (file : List ℕ) (holds : HoldsTree size
       })
 
   -- beside what a deep merge has finished, if that is named
-  pub next_of_pass : (next : Catalog) (a b : Entries) (component : Component) (run output : List RunPage) → IsRunBeside sizes tree component run file
+  pub next_of_pass : (next : Catalog) (a b : Lane) (component : Component) (run output : List RunPage) → IsRunBeside sizes tree component run file
       → next.c1 ≡ component → next.c1x ≡ tree.catalogue.c1x → next.c2 ≡ tree.catalogue.c2
       → HasProgress sizes next.progress (record { catalogue = next; c1 = run; c1x = tree.c1x; c2 = tree.c2; output = output; lane_a = a; lane_b = b }) file
       → ReadsNext sizes (record { catalogue = next; c1 = run; c1x = tree.c1x; c2 = tree.c2; output = output; lane_a = a; lane_b = b }) file
@@ -160,7 +160,7 @@ module _ (sizes : Sizes) (tree : Tree) (file : List ℕ) (holds : HoldsTree size
   }
 
   -- or, where C1' is empty, C1', and C1 is empty
-  pub next_of_rotated_pass : (next : Catalog) (a b : Entries) (component : Component) (run : List RunPage) → IsRunBeside sizes tree component run file
+  pub next_of_rotated_pass : (next : Catalog) (a b : Lane) (component : Component) (run : List RunPage) → IsRunBeside sizes tree component run file
       → next.c1 ≡ empty_component → next.c1x ≡ component → next.c2 ≡ tree.catalogue.c2 → next.progress ≡ None
       → ReadsNext sizes (record { catalogue = next; c1 = []; c1x = run; c2 = tree.c2; output = []; lane_a = a; lane_b = b }) file
   next_of_rotated_pass next a b component run is c1 c1x c2 none = record {
@@ -173,7 +173,8 @@ module _ (sizes : Sizes) (tree : Tree) (file : List ℕ) (holds : HoldsTree size
   }
 
   -- C1 becomes C1' by itself
-  pub next_of_rotation : (next : Catalog) (a b : Entries) → next.c1 ≡ empty_component → next.c1x ≡ tree.catalogue.c1 → next.c2 ≡ tree.catalogue.c2 → next.progress ≡ None
+  pub next_of_rotation : (next : Catalog) (a b : Lane) → next.c1 ≡ empty_component → next.c1x ≡ tree.catalogue.c1 → next.c2 ≡ tree.catalogue.c2
+      → next.progress ≡ None
       → ReadsNext sizes (record { catalogue = next; c1 = []; c1x = tree.c1; c2 = tree.c2; output = []; lane_a = a; lane_b = b }) file
   next_of_rotation next a b c1 c1x c2 none = record {
     c1 = subst (λ (c : Component). ReadsAs sizes c [] file) (sym c1) (no_pages sizes file);
@@ -185,7 +186,8 @@ module _ (sizes : Sizes) (tree : Tree) (file : List ℕ) (holds : HoldsTree size
   }
 
   -- the deep merge's run becomes C2, and C1' is empty
-  pub next_of_deep : (next : Catalog) (a b : Entries) (component : Component) (run : List RunPage) → IsRunBeside sizes tree component run file → AreBases (entries_of run)
+  pub next_of_deep : (next : Catalog) (a b : Lane) (component : Component) (run : List RunPage) → IsRunBeside sizes tree component run file
+      → AreBases (entries_of run)
       → next.c1 ≡ tree.catalogue.c1 → next.c1x ≡ empty_component → next.c2 ≡ component → next.progress ≡ None
       → ReadsNext sizes (record { catalogue = next; c1 = tree.c1; c1x = []; c2 = run; output = []; lane_a = a; lane_b = b }) file
   next_of_deep next a b component run is bases c1 c1x c2 none = record {

@@ -20,7 +20,7 @@ use Rattle.page_file.specs.File.{page_at}
 use Rattle.page_file.specs.Page.{IsPageOf, page_number}
 use Rattle.page_file.proofs.PageLemmas.{few_pages, page_same}
 use Rattle.page_file.proofs.ComponentLemmas.{one_component}
-use Rattle.gated_log.specs.Lane.{HasEntries}
+use Rattle.gated_log.specs.Lane.{Lane, HasEntries}
 use Rattle.gated_log.proofs.OneList.{one_list}
 use Rattle.catalog_swap.specs.declared.catalog.Catalog.{Catalog}
 use Rattle.catalog_swap.specs.declared.catalog.Progress.{Progress}
@@ -77,7 +77,8 @@ one_tree sizes one other file holds also =
     component of ps qs reads other_reads =
         one_component sizes (of other.catalogue) ps qs file (few_pages sizes holds.store.geometry) (subst (λ (c : Catalog). ReadsAs sizes (of c) ps file) catalogue reads) other_reads
 
-    lane : (of : List ℕ → ℕ) (es fs : Entries) → HasEntries sizes (of one.catalogue.lanes) es file → HasEntries sizes (of other.catalogue.lanes) fs file → es ≡ fs
+    lane : (of : List ℕ → ℕ) (es fs : Lane) → HasEntries sizes (of one.catalogue.lanes) es file → HasEntries sizes (of other.catalogue.lanes) fs file
+        → es ≡ fs
     lane of es fs has other_has = one_list sizes (of other.catalogue.lanes) es fs file (subst (λ (c : Catalog). HasEntries sizes (of c.lanes) es file) catalogue has) other_has
 
 -- so it reads as one map

@@ -1,5 +1,5 @@
 -- What each writer of a store's file leaves of the tree that stood on its disk.
-use Rattle.std.specs.Prelude.{◌≡◌, Result, Ok, Err, OnOk, is_ok, ◌⊎◌, ℕ, ◌≤◌, Bool, IsTrue, List, [], ◌∷◌, ◌++◌, length}
+use Rattle.std.specs.Prelude.{◌≡◌, Result, Ok, Err, OnOk, is_ok, ◌⊎◌, ℕ, ◌≤◌, Bool, IsTrue, List, [], ◌∷◌}
 use Rattle.std.proofs.lemmas.Grind.{common_steps}
 use Rattle.std.proofs.lemmas.Bool.Decides.{nat_tests}
 use Rattle.std.proofs.Common.{inl, inr, ⊎_elim, sym, subst, arith}
@@ -16,8 +16,7 @@ use Rattle.blsm_model.specs.Geometry.{file_length}
 use Rattle.blsm_model.specs.Lanes.{a_of, b_of, spare_of, region_start, AreRoles}
 use Rattle.blsm_model.specs.declared.key.Key.{Key}
 use Rattle.record_delta.specs.declared.record.Rec.{Rec}
-use Rattle.record_delta.specs.Entries.{Entries}
-use Rattle.gated_log.specs.Lane.{lane_region, blocks, HasEntries, Appends, LeavesAppended, IsAppended}
+use Rattle.gated_log.specs.Lane.{Lane, lane_region, no_lane, with_more, HasEntries, Appends, LeavesAppended, IsAppended}
 use Rattle.gated_log.proofs.LaneLaws.{empty_lane}
 use Rattle.gated_log.proofs.LaneLemmas.{region_inside}
 use Rattle.catalog_swap.specs.declared.catalog.Catalog.{Catalog}
@@ -26,7 +25,9 @@ use Rattle.catalog_swap.specs.Swap.{spare_start, prepared, IsSettled, IsPrepared
 use Rattle.catalog_swap.proofs.FileLemmas.{settled_only, settled_apart, settled_each, ready_prepared}
 use Rattle.tree_file.specs.Tree.{Tree, HoldsTree, kept_pages}
 use Rattle.tree_file.specs.Places.{HoldsEither, StandsOn, StandsOnEither, Becomes, ReadsNext, KeepsRoles, TurnsRoles, appended_a, appended_b}
-use Rattle.tree_file.proofs.HoldsLemmas.{HasBody, body_holds, body_beside, holds_beside_body, holds_beside, beside_within, beside_both, head_beside, lane_beside, lane_pages, lane_slots, pages_after, reads_next_beside, roles_of, Role, as_a, as_b, lane_of, entries_in, with_entries, has_entries, entries_changed, same_entries}
+use Rattle.tree_file.proofs.HoldsLemmas.{HasBody, body_holds, body_beside, holds_beside_body, holds_beside, beside_within, beside_both, head_beside}
+use Rattle.tree_file.proofs.HoldsLemmas.{lane_beside, lane_pages, lane_slots, pages_after, reads_next_beside, roles_of, Role, as_a, as_b, lane_of}
+use Rattle.tree_file.proofs.HoldsLemmas.{lane_in, with_lane, has_entries, entries_changed, same_entries}
 use Rattle.tree_file.proofs.Terms.{IsBesideBody, IsBeside, Stays}
 
 -- ---- beside the tree: a quantum of a merge, the end of a run
@@ -94,20 +95,24 @@ stands_read {end} {most} {old} {new} sizes tree run honest stands = (
 
 -- a lane that has its entries, or one more, in a file of which only its own bytes changed
 either_appended : (role : Role) (sizes : Sizes) (tree : Tree) (e : Key × Rec) (was file : List ℕ) → HoldsTree sizes tree was → IsSameOutside (lane_region sizes (lane_of role tree)) was file
-    → HasEntries sizes (lane_of role tree) (entries_in role tree) file ⊎ HasEntries sizes (lane_of role tree) (entries_in role tree ++ e ∷ []) file
-    → HoldsEither sizes tree (with_entries role (entries_in role tree ++ e ∷ []) tree) file
+    → HasEntries sizes (lane_of role tree) (lane_in role tree) file
+    ⊎ HasEntries sizes (lane_of role tree) (with_more (lane_in role tree) (e ∷ [])) file
+    → HoldsEither sizes tree (with_lane role (with_more (lane_in role tree) (e ∷ [])) tree) file
 either_appended role sizes tree e was file holds same =
     ⊎_elim
-    (λ has. inl (same_entries role {tree = tree} (entries_changed role sizes tree (entries_in role tree) holds same has)))
-    (λ more. inr (entries_changed role sizes tree (entries_in role tree ++ e ∷ []) holds same more))
+    (λ has. inl (same_entries role {tree = tree} (entries_changed role sizes tree (lane_in role tree) holds same has)))
+    (λ more. inr (entries_changed role sizes tree (with_more (lane_in role tree) (e ∷ [])) holds same more))
 
-settled_with : (role : Role) {sizes : Sizes} (tree : Tree) {d : DiskState} (entries : Entries) → IsSettled sizes tree.catalogue d → IsSettled sizes (with_entries role entries tree).catalogue d
-settled_with as_a tree entries settled = settled
-settled_with as_b tree entries settled = settled
+settled_with : (role : Role) {sizes : Sizes} (tree : Tree) {d : DiskState} (lane : Lane) → IsSettled sizes tree.catalogue d
+    → IsSettled sizes (with_lane role lane tree).catalogue d
+settled_with as_a tree lane settled = settled
+settled_with as_b tree lane settled = settled
 
-pub stands_appended : (role : Role) {done : Bool} {at end most : ℕ} {old new : DiskState} (sizes : Sizes) (tree : Tree) (e : Key × Rec) → Appends sizes (lane_of role tree) at e done old new
-    → length (blocks (entries_in role tree)) ≡ at → Affects (lane_region sizes (lane_of role tree)) end most old new → IsTrue old.is_honest → IsTimed new → StandsOn sizes tree old
-    → Becomes sizes tree (with_entries role (entries_in role tree ++ e ∷ []) tree) done old new
+pub stands_appended : (role : Role) {done : Bool} {at end most : ℕ} {old new : DiskState} (sizes : Sizes) (tree : Tree) (e : Key × Rec)
+    → Appends sizes (lane_of role tree) at (e ∷ []) done old new
+    → (lane_in role tree).end ≡ at → Affects (lane_region sizes (lane_of role tree)) end most old new → IsTrue old.is_honest → IsTimed new
+    → StandsOn sizes tree old
+    → Becomes sizes tree (with_lane role (with_more (lane_in role tree) (e ∷ [])) tree) done old new
 stands_appended role {done} {at} {end} {most} {old} {new} sizes tree e appends ends run honest timed stands = record {
   each = each;
   either = record { reads = either_appended role sizes tree e old.bytes new.bytes stands.reads (run.bytes honest) (leaves.reads (has_entries role stands.reads)).has; each = leaves_only_now timed each };
@@ -121,29 +126,33 @@ stands_appended role {done} {at} {end} {most} {old} {new} sizes tree e appends e
   };
 }
   where
-    more : Entries
-    more = entries_in role tree ++ e ∷ []
+    more : Lane
+    more = with_more (lane_in role tree) (e ∷ [])
 
-    leaves : LeavesAppended sizes (lane_of role tree) (entries_in role tree) e done old new
-    leaves = appends (entries_in role tree) honest ends
+    leaves : LeavesAppended sizes (lane_of role tree) (lane_in role tree) (e ∷ []) done old new
+    leaves = appends (lane_in role tree) honest ends
 
-    each_has : (c : List ℕ) → old.images c → HasEntries sizes (lane_of role tree) (entries_in role tree) c
+    each_has : (c : List ℕ) → old.images c → HasEntries sizes (lane_of role tree) (lane_in role tree) c
     each_has c left = has_entries role (stands.each c left)
 
-    appended : LeavesOnly old new (IsAppended sizes (lane_of role tree) (entries_in role tree) e old.images)
+    appended : LeavesOnly old new (IsAppended sizes (lane_of role tree) (lane_in role tree) (e ∷ []) old.images)
     appended = leaves.each each_has
 
-    each : LeavesOnly old new (HoldsEither sizes tree (with_entries role (entries_in role tree ++ e ∷ []) tree))
+    each : LeavesOnly old new (HoldsEither sizes tree (with_lane role (with_more (lane_in role tree) (e ∷ [])) tree))
     each = leaves_only_weaken (λ c is. either_appended role sizes tree e is.outside.0 c (stands.each is.outside.0 is.outside.1) is.outside.2 is.has) appended
 
 -- An append to a lane leaves the tree with the entry or without, in each image of each moment; once it is done, with it.
-pub stands_appended_a : {done : Bool} {at end most : ℕ} {old new : DiskState} (sizes : Sizes) (tree : Tree) (e : Key × Rec) → Appends sizes (a_of tree.catalogue.lanes) at e done old new
-    → length (blocks tree.lane_a) ≡ at → Affects (lane_region sizes (a_of tree.catalogue.lanes)) end most old new → IsTrue old.is_honest → IsTimed new → StandsOn sizes tree old
+pub stands_appended_a : {done : Bool} {at end most : ℕ} {old new : DiskState} (sizes : Sizes) (tree : Tree) (e : Key × Rec)
+    → Appends sizes (a_of tree.catalogue.lanes) at (e ∷ []) done old new
+    → tree.lane_a.end ≡ at → Affects (lane_region sizes (a_of tree.catalogue.lanes)) end most old new → IsTrue old.is_honest → IsTimed new
+    → StandsOn sizes tree old
     → Becomes sizes tree (appended_a e tree) done old new
 stands_appended_a = stands_appended as_a
 
-pub stands_appended_b : {done : Bool} {at end most : ℕ} {old new : DiskState} (sizes : Sizes) (tree : Tree) (e : Key × Rec) → Appends sizes (b_of tree.catalogue.lanes) at e done old new
-    → length (blocks tree.lane_b) ≡ at → Affects (lane_region sizes (b_of tree.catalogue.lanes)) end most old new → IsTrue old.is_honest → IsTimed new → StandsOn sizes tree old
+pub stands_appended_b : {done : Bool} {at end most : ℕ} {old new : DiskState} (sizes : Sizes) (tree : Tree) (e : Key × Rec)
+    → Appends sizes (b_of tree.catalogue.lanes) at (e ∷ []) done old new
+    → tree.lane_b.end ≡ at → Affects (lane_region sizes (b_of tree.catalogue.lanes)) end most old new → IsTrue old.is_honest → IsTimed new
+    → StandsOn sizes tree old
     → Becomes sizes tree (appended_b e tree) done old new
 stands_appended_b = stands_appended as_b
 
@@ -272,13 +281,14 @@ pub stands_committed : {T E : Type 0} {result : Result T E} {old new : DiskState
     → IsCommitReady sizes tree next old → KeepsRoles tree.catalogue next.catalogue → next.lane_a ≡ tree.lane_a → next.lane_b ≡ tree.lane_b → Becomes sizes tree next (is_ok result) old new
 stands_committed {T} {E} {result} {old} {new} sizes tree next commits honest timed is roles a b =
     stands_switched sizes tree next commits honest timed is
-    (subst (λ (es : Entries). HasEntries sizes (a_of next.catalogue.lanes) es old.bytes) (sym a)
+    (subst (λ (lane : Lane). HasEntries sizes (a_of next.catalogue.lanes) lane old.bytes) (sym a)
     (subst (λ (l : List ℕ). HasEntries sizes (a_of l) tree.lane_a old.bytes) (sym roles) is.stands.reads.lane_a))
-    (subst (λ (es : Entries). HasEntries sizes (b_of next.catalogue.lanes) es old.bytes) (sym b)
+    (subst (λ (lane : Lane). HasEntries sizes (b_of next.catalogue.lanes) lane old.bytes) (sym b)
     (subst (λ (l : List ℕ). HasEntries sizes (b_of l) tree.lane_b old.bytes) (sym roles) is.stands.reads.lane_b))
 
 -- the spare lane of a tree that is prepared has no entries
-spare_empty : {sizes : Sizes} {tree : Tree} (d : DiskState) → StandsOn sizes tree d → IsPrepared sizes tree.catalogue d → HasEntries sizes (spare_of tree.catalogue.lanes) [] d.bytes
+spare_empty : {sizes : Sizes} {tree : Tree} (d : DiskState) → StandsOn sizes tree d → IsPrepared sizes tree.catalogue d
+    → HasEntries sizes (spare_of tree.catalogue.lanes) no_lane d.bytes
 spare_empty {sizes} {tree} d stands ready =
     let spare = spare_of tree.catalogue.lanes in
     let store = stands.reads.store in
@@ -287,10 +297,11 @@ spare_empty {sizes} {tree} d stands ready =
 
 -- Here they turn: lane B is lane A then, and the spare lane, which is empty, lane B.
 pub stands_turned : {T E : Type 0} {result : Result T E} {old new : DiskState} (sizes : Sizes) (tree next : Tree) → Commits sizes next.catalogue result old new → IsTrue old.is_honest → IsTimed new
-    → IsCommitReady sizes tree next old → TurnsRoles tree.catalogue next.catalogue → next.lane_a ≡ tree.lane_b → next.lane_b ≡ [] → Becomes sizes tree next (is_ok result) old new
+    → IsCommitReady sizes tree next old → TurnsRoles tree.catalogue next.catalogue → next.lane_a ≡ tree.lane_b → next.lane_b ≡ no_lane
+    → Becomes sizes tree next (is_ok result) old new
 stands_turned {T} {E} {result} {old} {new} sizes tree next commits honest timed is roles a b =
     stands_switched sizes tree next commits honest timed is
-    (subst (λ (es : Entries). HasEntries sizes (a_of next.catalogue.lanes) es old.bytes) (sym a)
+    (subst (λ (lane : Lane). HasEntries sizes (a_of next.catalogue.lanes) lane old.bytes) (sym a)
     (subst (λ (l : List ℕ). HasEntries sizes (a_of l) tree.lane_b old.bytes) (sym roles) is.stands.reads.lane_b))
-    (subst (λ (es : Entries). HasEntries sizes (b_of next.catalogue.lanes) es old.bytes) (sym b)
-    (subst (λ (l : List ℕ). HasEntries sizes (b_of l) [] old.bytes) (sym roles) (spare_empty old is.stands is.ready)))
+    (subst (λ (lane : Lane). HasEntries sizes (b_of next.catalogue.lanes) lane old.bytes) (sym b)
+    (subst (λ (l : List ℕ). HasEntries sizes (b_of l) no_lane old.bytes) (sym roles) (spare_empty old is.stands is.ready)))

@@ -1,5 +1,5 @@
 -- Where a tree stands in its file, and the trees that a write leaves.
-use Rattle.std.specs.Prelude.{◌≡◌, ◌⊎◌, ℕ, Bool, List, [], ◌∷◌, ◌++◌, IsTrue, nat_eq}
+use Rattle.std.specs.Prelude.{◌≡◌, ◌⊎◌, ℕ, Bool, List, [], ◌∷◌, IsTrue, nat_eq}
 use Rattle.std.specs.List.{IsDistinct}
 use Rattle.disk_trait.specs.Disk.{DiskState}
 use Rattle.disk_trait.specs.Moments.{LeavesOnly}
@@ -7,6 +7,7 @@ use Rattle.blsm_model.specs.Sizes.{Sizes}
 use Rattle.blsm_model.specs.Lanes.{a_of, b_of, spare_of}
 use Rattle.blsm_model.specs.declared.key.Key.{Key}
 use Rattle.record_delta.specs.declared.record.Rec.{Rec}
+use Rattle.gated_log.specs.Lane.{no_lane, with_more}
 use Rattle.page_file.specs.Component.{RunPage, ReadsAs, entries_of}
 use Rattle.catalog_swap.specs.declared.catalog.Catalog.{Catalog}
 use Rattle.catalog_swap.specs.Swap.{IsSettled}
@@ -15,10 +16,10 @@ use Rattle.tree_file.specs.Tree.{Tree, HasProgress, HoldsTree, live_pages}
 
 -- with one entry more in lane A, or in lane B
 abbrev pub appended_a : Key × Rec → Tree → Tree
-appended_a entry tree = record tree { lane_a = tree.lane_a ++ entry ∷ [] }
+appended_a entry tree = record tree { lane_a = with_more tree.lane_a (entry ∷ []) }
 
 abbrev pub appended_b : Key × Rec → Tree → Tree
-appended_b entry tree = record tree { lane_b = tree.lane_b ++ entry ∷ [] }
+appended_b entry tree = record tree { lane_b = with_more tree.lane_b (entry ∷ []) }
 
 -- the tree of another catalogue, which has other components on these pages, names no deep merge's progress, and has the same lanes
 abbrev pub with_components : Catalog → (c1 c1x c2 : List RunPage) → Tree → Tree
@@ -27,7 +28,8 @@ with_components next c1 c1x c2 tree = record { catalogue = next; c1 = c1; c1x = 
 -- or that of one which may name what a deep merge has finished, on these pages, and whose lanes are turned: lane B is lane A then, and the spare
 -- lane, which is empty, lane B
 abbrev pub with_pass : Catalog → (c1 c1x c2 output : List RunPage) → Tree → Tree
-with_pass next c1 c1x c2 output tree = record { catalogue = next; c1 = c1; c1x = c1x; c2 = c2; output = output; lane_a = tree.lane_b; lane_b = [] }
+with_pass next c1 c1x c2 output tree =
+    record { catalogue = next; c1 = c1; c1x = c1x; c2 = c2; output = output; lane_a = tree.lane_b; lane_b = no_lane }
 
 -- The lanes' roles stay, or they turn.
 abbrev pub KeepsRoles : Catalog → Catalog → Type 0

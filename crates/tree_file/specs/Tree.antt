@@ -7,10 +7,10 @@ use Rattle.blsm_model.specs.Geometry.{c1_mark, capacity}
 use Rattle.blsm_model.specs.Lanes.{a_of, b_of}
 use Rattle.blsm_model.specs.declared.key.Key.{Key}
 use Rattle.blsm_model.specs.declared.row.Value.{Value}
-use Rattle.record_delta.specs.Entries.{Entries, entries_weight, replayed}
+use Rattle.record_delta.specs.Entries.{entries_weight, replayed}
 use Rattle.record_delta.specs.Replays.{ReplaysWithin}
 use Rattle.page_file.specs.Component.{RunPage, ReadsAs, entries_of, numbers_of}
-use Rattle.gated_log.specs.Lane.{HasEntries}
+use Rattle.gated_log.specs.Lane.{Lane, no_lane, HasEntries}
 use Rattle.catalog_swap.specs.declared.catalog.Catalog.{Catalog}
 use Rattle.catalog_swap.specs.declared.catalog.Progress.{Progress}
 use Rattle.catalog_swap.specs.Slots.{IsNewest}
@@ -20,24 +20,30 @@ use Rattle.tree_machine.specs.Lists.{Lists, map_in}
 use Rattle.tree_machine.specs.Layers.{AreBases}
 use Rattle.tree_file.specs.Output.{IsOutputOf}
 
--- The newest catalogue; the pages of C1, C1' and C2 and the finished ones of the deep merge that it names, each with its entries; and the entries
--- of lanes A and B, as they were appended.
+-- The newest catalogue; the pages of C1, C1' and C2 and the finished ones of the deep merge that it names, each with its entries; and what
+-- lanes A and B have.
 pub record Tree : Type 0 where
   pub catalogue : Catalog
   pub c1 : List RunPage
   pub c1x : List RunPage
   pub c2 : List RunPage
   pub output : List RunPage
-  pub lane_a : Entries
-  pub lane_b : Entries
+  pub lane_a : Lane
+  pub lane_b : Lane
 
 -- the tree of a store that was just made
 abbrev pub first_tree : Tree
-first_tree = record { catalogue = first_catalog; c1 = []; c1x = []; c2 = []; output = []; lane_a = []; lane_b = [] }
+first_tree = record { catalogue = first_catalog; c1 = []; c1x = []; c2 = []; output = []; lane_a = no_lane; lane_b = no_lane }
 
 -- the lists that it has: each lane replays to its table
 abbrev pub lists_of : Tree → Lists
-lists_of tree = record { b = replayed tree.lane_b; a = replayed tree.lane_a; c1 = entries_of tree.c1; c1x = entries_of tree.c1x; c2 = entries_of tree.c2 }
+lists_of tree = record {
+  b = replayed tree.lane_b.entries;
+  a = replayed tree.lane_a.entries;
+  c1 = entries_of tree.c1;
+  c1x = entries_of tree.c1x;
+  c2 = entries_of tree.c2;
+}
 
 -- the map that it shows
 abbrev pub map_of_tree : Tree → List (Key × Value)
@@ -84,7 +90,7 @@ pub record HoldsTree (sizes : Sizes) (tree : Tree) (file : List ℕ) : Type 0 wh
 pub record FitsSizes (sizes : Sizes) (tree : Tree) : Type 0 where
   pub mark : entries_weight (entries_of tree.c1) < c1_mark sizes
   pub full : components_weight tree ≤ capacity sizes
-  pub replays : ReplaysWithin sizes (components_weight tree) tree.lane_a tree.lane_b
+  pub replays : ReplaysWithin sizes (components_weight tree) tree.lane_a.entries tree.lane_b.entries
 
 -- The file reads as this map.
 pub record ReadsAsMap (sizes : Sizes) (pairs : List (Key × Value)) (file : List ℕ) : Type 0 where

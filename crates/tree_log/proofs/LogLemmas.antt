@@ -1,8 +1,7 @@
 -- An append to a lane, and the tree whose log it is.
-use Rattle.std.specs.Prelude.{◌≡◌, ℕ, ◌+◌, Bool, true, false, IsTrue, List, [], ◌∷◌, length, Result, Ok, Err, OnOk, is_ok, if◌then◌else◌, refl}
+use Rattle.std.specs.Prelude.{◌≡◌, ℕ, ◌+◌, Bool, true, false, IsTrue, List, [], ◌∷◌, length, Result, Ok, Err, OnOk, is_ok, if◌then◌else◌}
 use Rattle.std.proofs.Common.{◌∙◌, sym, ap, subst, arith, length-append}
 use Rattle.std.proofs.lemmas.List.{get_or-set_other}
-use Rattle.std.proofs.lemmas.List.Sums.{sum_by-cons}
 use Rattle.disk_trait.specs.Disk.{DiskState}
 use Rattle.disk_trait.specs.Effects.{Affects}
 use Rattle.disk_trait.specs.Moments.{IsTimed}
@@ -11,13 +10,11 @@ use Rattle.blsm_model.specs.Lanes.{a_of, b_of, AreRoles}
 use Rattle.blsm_model.specs.declared.key.Key.{Key}
 use Rattle.record_delta.specs.declared.record.Rec.{Rec}
 use Rattle.record_delta.specs.Records.{weight}
-use Rattle.record_delta.specs.Entries.{Entries, entries_weight, is_above, replayed, with_record}
-use Rattle.entry_codec.specs.Spelling.{spelling}
-use Rattle.entry_codec.proofs.SpellingLemmas.{length-spelling}
+use Rattle.record_delta.specs.Entries.{Entries, is_above, replayed, with_record}
 use Rattle.mem_table.specs.Tables.{Contents}
-use Rattle.gated_log.specs.Lane.{lane_region, blocks, Appends}
+use Rattle.gated_log.specs.Lane.{Lane, lane_region, with_more, Appends, MayEnd}
 use Rattle.gated_log.specs.Lanes.{LanesState, end_of, moved}
-use Rattle.gated_log.proofs.BlockLemmas.{length-blocks-push}
+use Rattle.gated_log.proofs.RecordLemmas.{cost_one}
 use Rattle.tree_file.specs.Tree.{Tree}
 use Rattle.tree_file.specs.Places.{StandsOn, Becomes}
 use Rattle.tree_file.proofs.ListLemmas.{lists_appended_a, lists_appended_b}
@@ -26,39 +23,39 @@ use Rattle.tree_machine.specs.Lists.{Lists}
 use Rattle.tree_log.specs.Log.{LogState, IsLogOf, IsRestOf, appended, end_of_a, end_of_b, folded_into}
 use Rattle.tree_log.proofs.RestLemmas.{rest_grown}
 
--- a lane is as long as its entries weigh, with a gate for each
-pub lane_ends : (entries : Entries) → length (blocks entries) ≡ entries_weight entries + length entries
-lane_ends [] = refl
-lane_ends (e ∷ es) =
-    omega (arith, lane_ends es, length-append (spelling e.0 e.1) (blocks es), length-spelling e.0 e.1, sum_by-cons (λ (x : Key × Rec). weight x.0 x.1) e es)
-
 -- ---- what the disk holds then
 
 pub becomes_a : {done : Bool} {old new : DiskState} (log : LogState) (tree : Tree) (lane : ℕ) (e : Key × Rec) → lane ≡ a_of log.lanes.roles
-    → Appends log.lanes.sizes lane (end_of log.lanes lane) e done old new → Affects (lane_region log.lanes.sizes lane) (file_length log.lanes.sizes) 4 old new
+    → Appends log.lanes.sizes lane (end_of log.lanes lane) (e ∷ []) done old new
+    → Affects (lane_region log.lanes.sizes lane) (file_length log.lanes.sizes) 4 old new
     → IsTrue old.is_honest → IsTimed new → IsLogOf tree log → StandsOn log.lanes.sizes tree old → Becomes log.lanes.sizes tree (appended true e tree) done old new
 becomes_a {done} {old} {new} log tree lane e here appends run honest timed is stands =
     let sizes = log.lanes.sizes in
     let same : lane ≡ a_of tree.catalogue.lanes = here ∙ ap a_of is.roles in
     stands_appended_a {done = done} {at = end_of log.lanes lane} {end = file_length sizes} {most = 4} {old = old} {new = new} sizes tree e
-    (subst (λ (n : ℕ). Appends sizes n (end_of log.lanes lane) e done old new) same appends)
+    (subst (λ (n : ℕ). Appends sizes n (end_of log.lanes lane) (e ∷ []) done old new) same appends)
     (sym is.end_a ∙ ap (end_of log.lanes) (sym here))
     (subst (λ (n : ℕ). Affects (lane_region sizes n) (file_length sizes) 4 old new) same run)
     honest timed stands
 
 pub becomes_b : {done : Bool} {old new : DiskState} (log : LogState) (tree : Tree) (lane : ℕ) (e : Key × Rec) → lane ≡ b_of log.lanes.roles
-    → Appends log.lanes.sizes lane (end_of log.lanes lane) e done old new → Affects (lane_region log.lanes.sizes lane) (file_length log.lanes.sizes) 4 old new
+    → Appends log.lanes.sizes lane (end_of log.lanes lane) (e ∷ []) done old new
+    → Affects (lane_region log.lanes.sizes lane) (file_length log.lanes.sizes) 4 old new
     → IsTrue old.is_honest → IsTimed new → IsLogOf tree log → StandsOn log.lanes.sizes tree old → Becomes log.lanes.sizes tree (appended false e tree) done old new
 becomes_b {done} {old} {new} log tree lane e here appends run honest timed is stands =
     let sizes = log.lanes.sizes in
     let same : lane ≡ b_of tree.catalogue.lanes = here ∙ ap b_of is.roles in
     stands_appended_b {done = done} {at = end_of log.lanes lane} {end = file_length sizes} {most = 4} {old = old} {new = new} sizes tree e
-    (subst (λ (n : ℕ). Appends sizes n (end_of log.lanes lane) e done old new) same appends)
+    (subst (λ (n : ℕ). Appends sizes n (end_of log.lanes lane) (e ∷ []) done old new) same appends)
     (sym is.end_b ∙ ap (end_of log.lanes) (sym here))
     (subst (λ (n : ℕ). Affects (lane_region sizes n) (file_length sizes) 4 old new) same run)
     honest timed stands
 
 -- ---- whose log it is then
+
+-- a lane with an entry
+with_entry_ends : (lane : Lane) (e : Key × Rec) → MayEnd (with_more lane (e ∷ []))
+with_entry_ends lane e none = absurd (omega (arith, ap (λ (es : Entries). length es) none, length-append lane.entries (e ∷ [])))
 
 pub is_of_a : {T E : Type 0} (result : Result T E) (key : Key) (rec : Rec) (old : LogState) (lane : ℕ) (table : Contents) (lanes : LanesState) → AreRoles old.lanes.roles → lane ≡ a_of old.lanes.roles
     → lanes ≡ (if is_ok result then moved old.lanes lane (weight key rec + 1) else old.lanes) → OnOk result (end_of lanes lane ≡ end_of old.lanes lane + (weight key rec + 1))
@@ -73,11 +70,13 @@ is_of_a (Ok value) key rec old lane table lanes roles here lanes_are ended high 
     ∙ get_or-set_other old.lanes.ends lane (b_of old.lanes.roles) (end_of old.lanes lane + (weight key rec + 1)) 0 (λ is_lane. roles.a_not_b (sym (is_lane ∙ here))) in
     record {
       roles = same ∙ is.roles;
-      end_a = ap (λ (l : List ℕ). end_of lanes (a_of l)) same ∙ omega (arith, own, is.end_a, length-blocks-push tree.lane_a (key, rec));
+      end_a = ap (λ (l : List ℕ). end_of lanes (a_of l)) same ∙ omega (arith, own, is.end_a, cost_one key rec);
       end_b = ap (λ (l : List ℕ). end_of lanes (b_of l)) same ∙ other ∙ is.end_b;
-      a = subst (λ (t : Contents). IsRestOf (replayed (appended true (key, rec) tree).lane_a) t) (sym table_is)
+      may_a = with_entry_ends tree.lane_a (key, rec);
+      may_b = is.may_b;
+      a = subst (λ (t : Contents). IsRestOf (replayed (appended true (key, rec) tree).lane_a.entries) t) (sym table_is)
           (subst (λ (es : Entries). IsRestOf es (folded_into key rec old.a)) (sym (ap (λ (l : Lists). l.a) (lists_appended_a (key, rec) tree)))
-          (rest_grown (replayed tree.lane_a) old.a key rec is.a high));
+          (rest_grown (replayed tree.lane_a.entries) old.a key rec is.a high));
       b = is.b;
     }
 is_of_a (Err error) key rec old lane table lanes roles here lanes_are ended high table_is = tt
@@ -96,7 +95,9 @@ is_of_b (Ok value) key rec old lane table lanes roles here lanes_are ended table
     record {
       roles = same ∙ is.roles;
       end_a = ap (λ (l : List ℕ). end_of lanes (a_of l)) same ∙ other ∙ is.end_a;
-      end_b = ap (λ (l : List ℕ). end_of lanes (b_of l)) same ∙ omega (arith, own, is.end_b, length-blocks-push tree.lane_b (key, rec));
+      end_b = ap (λ (l : List ℕ). end_of lanes (b_of l)) same ∙ omega (arith, own, is.end_b, cost_one key rec);
+      may_a = is.may_a;
+      may_b = with_entry_ends tree.lane_b (key, rec);
       a = is.a;
       b = ap (λ (t : Contents). t.entries) table_is ∙ ap (λ (es : Entries). with_record key rec es) is.b ∙ sym (ap (λ (l : Lists). l.b) (lists_appended_b (key, rec) tree));
     }

@@ -1,5 +1,5 @@
 -- What a table has left of a list above its floor.
-use Rattle.std.proofs.Common.{◌≡◌, ◌∙◌, ℕ, zero, suc, List, length, get_or, set, subst, ◌+◌}
+use Rattle.std.proofs.Common.{◌≡◌, ◌∙◌, ℕ, zero, suc, List, get_or, set, subst, ◌+◌}
 use Rattle.std.proofs.Common.{Bool, true, false, cond, not, ◌&&◌, [], ◌∷◌, Option, Some, None, refl, ap, sym, arith}
 use Rattle.std.proofs.lemmas.Grind.{common_steps}
 use Rattle.std.proofs.lemmas.Bool.Decides.{nat_tests}
@@ -22,7 +22,7 @@ use Rattle.tree_machine.proofs.QuantumLemmas.{weight_parts}
 use Rattle.tree_machine.specs.Lists.{Lists}
 use Rattle.std.proofs.lemmas.List.{get_or-set_other}
 use Rattle.blsm_model.specs.Lanes.{a_of, b_of, spare_of, AreRoles}
-use Rattle.gated_log.specs.Lane.{blocks}
+use Rattle.gated_log.specs.Lane.{Lane, no_lane, MayEnd}
 use Rattle.gated_log.specs.Lanes.{turned}
 use Rattle.tree_machine.specs.Machine.{Machine}
 use Rattle.tree_machine.specs.Moves.{end_pass}
@@ -157,8 +157,23 @@ dropped_is_of key tree log is = record {
   roles = is.roles;
   end_a = is.end_a;
   end_b = is.end_b;
-  a = rest_dropped (replayed tree.lane_a) log.a key is.a;
+  may_a = is.may_a;
+  may_b = is.may_b;
+  a = rest_dropped (replayed tree.lane_a.entries) log.a key is.a;
   b = is.b;
+}
+
+-- the log of a tree with the same lanes
+pub log_keeps : (old new : Tree) (log : LogState) → new.catalogue.lanes ≡ old.catalogue.lanes → new.lane_a ≡ old.lane_a → new.lane_b ≡ old.lane_b
+    → IsLogOf old log → IsLogOf new log
+log_keeps old new log roles a b is = record {
+  roles = is.roles ∙ sym roles;
+  end_a = is.end_a ∙ ap (λ (l : Lane). l.end) (sym a);
+  end_b = is.end_b ∙ ap (λ (l : Lane). l.end) (sym b);
+  may_a = subst MayEnd (sym a) is.may_a;
+  may_b = subst MayEnd (sym b) is.may_b;
+  a = subst (λ (l : Lane). IsRestOf (replayed l.entries) log.a) (sym a) is.a;
+  b = is.b ∙ ap (λ (l : Lane). replayed l.entries) (sym b);
 }
 
 -- ---- what a list weighs
@@ -201,14 +216,16 @@ none_there (x ∷ ends) zero = refl
 none_there (x ∷ ends) (suc i) = none_there ends i
 
 pub turned_is_of : (tree next : Tree) (log : LogState) → AreRoles log.lanes.roles → IsWhole log.b → TurnsRoles tree.catalogue next.catalogue
-    → next.lane_a ≡ tree.lane_b → next.lane_b ≡ [] → IsLogOf tree log → (a b : Contents) → a ≡ log.b → b.entries ≡ []
+    → next.lane_a ≡ tree.lane_b → next.lane_b ≡ no_lane → IsLogOf tree log → (a b : Contents) → a ≡ log.b → b.entries ≡ []
     → IsLogOf next (record { a = a; b = b; lanes = turned log.lanes })
 turned_is_of tree next log roles whole_b turns lane_a lane_b is a b a_is b_is = record {
   roles = ap (λ (r : List ℕ). b_of r ∷ spare_of r ∷ a_of r ∷ []) is.roles ∙ sym turns;
   end_a = get_or-set_other log.lanes.ends (spare_of log.lanes.roles) (b_of log.lanes.roles) 0 0 roles.b_not_spare
-      ∙ is.end_b ∙ ap (λ (l : Entries). length (blocks l)) (sym lane_a);
-  end_b = none_there log.lanes.ends (spare_of log.lanes.roles) ∙ sym (ap (λ (l : Entries). length (blocks l)) lane_b);
-  a = rest_whole (replayed next.lane_a) a (subst IsWhole (sym a_is) whole_b)
-      (ap (λ (t : Contents). t.entries) a_is ∙ is.b ∙ ap replayed (sym lane_a));
-  b = b_is ∙ sym (ap replayed lane_b);
+      ∙ is.end_b ∙ ap (λ (l : Lane). l.end) (sym lane_a);
+  end_b = none_there log.lanes.ends (spare_of log.lanes.roles) ∙ sym (ap (λ (l : Lane). l.end) lane_b);
+  may_a = subst MayEnd (sym lane_a) is.may_b;
+  may_b = subst MayEnd (sym lane_b) (λ none. refl);
+  a = rest_whole (replayed next.lane_a.entries) a (subst IsWhole (sym a_is) whole_b)
+      (ap (λ (t : Contents). t.entries) a_is ∙ is.b ∙ ap (λ (l : Lane). replayed l.entries) (sym lane_a));
+  b = b_is ∙ sym (ap (λ (l : Lane). replayed l.entries) lane_b);
 }

@@ -1,12 +1,12 @@
 -- The memory table of a tree, as contracts see it, and of which tree it is. Weights are in bytes.
-use Rattle.std.specs.Prelude.{◌≡◌, ⊤, ℕ, ◌+◌, ◌<◌, ◌^◌, Bool, true, false, IsTrue, None, length, if◌then◌else◌}
+use Rattle.std.specs.Prelude.{◌≡◌, ⊤, ℕ, ◌+◌, ◌<◌, ◌^◌, Bool, true, false, IsTrue, None, if◌then◌else◌}
 use Rattle.blsm_model.specs.Lanes.{a_of, b_of, AreRoles}
 use Rattle.blsm_model.specs.declared.key.Key.{Key}
 use Rattle.record_delta.specs.declared.record.Rec.{Rec}
 use Rattle.record_delta.specs.Records.{weight}
 use Rattle.record_delta.specs.Entries.{Entries, entries_weight, replayed, with_record, is_above, above, up_to}
 use Rattle.mem_table.specs.Tables.{Contents, IsWhole, arrived_with, empty_table, dropped_to}
-use Rattle.gated_log.specs.Lane.{blocks}
+use Rattle.gated_log.specs.Lane.{MayEnd}
 use Rattle.gated_log.specs.Lanes.{LanesState, end_of, moved, turned}
 use Rattle.tree_machine.specs.Lists.{Lists}
 use Rattle.tree_file.specs.Tree.{Tree}
@@ -27,8 +27,7 @@ pub record IsLog (log : LogState) : Type 0 where
 
 -- ---- what is read off it
 
--- The closed gates of lanes A and B, in bytes from each region's start: how much the lane's entries weigh, as they were appended, and one
--- byte for each of them.
+-- The closed gates of lanes A and B, in bytes from each region's start.
 abbrev pub end_of_a : LogState → ℕ
 end_of_a log = end_of log.lanes (a_of log.lanes.roles)
 
@@ -106,14 +105,16 @@ pub record IsRestOf (list : Entries) (table : Contents) : Type 0 where
   pub entries : table.entries ≡ above table.floor list
   pub dropped : table.dropped ≡ entries_weight (up_to table.floor list)
 
--- The log of this tree: the lanes have its roles, each ends behind its entries, table A is the rest of what its lane replays to, and table B
+-- The log of this tree: the lanes have its roles, each ends where the tree's does, table A is the rest of what its lane replays to, and table B
 -- all of it.
 pub record IsLogOf (tree : Tree) (log : LogState) : Type 0 where
   pub roles : log.lanes.roles ≡ tree.catalogue.lanes
-  pub end_a : end_of_a log ≡ length (blocks tree.lane_a)
-  pub end_b : end_of_b log ≡ length (blocks tree.lane_b)
-  pub a : IsRestOf (replayed tree.lane_a) log.a
-  pub b : log.b.entries ≡ replayed tree.lane_b
+  pub end_a : end_of_a log ≡ tree.lane_a.end
+  pub end_b : end_of_b log ≡ tree.lane_b.end
+  pub may_a : MayEnd tree.lane_a
+  pub may_b : MayEnd tree.lane_b
+  pub a : IsRestOf (replayed tree.lane_a.entries) log.a
+  pub b : log.b.entries ≡ replayed tree.lane_b.entries
 
 -- the tree with one entry more in the one lane or the other
 abbrev pub appended : Bool → Key × Rec → Tree → Tree

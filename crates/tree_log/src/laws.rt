@@ -1,9 +1,8 @@
 //! What holds of the memory table of a tree. The functions do nothing: each stands for the laws that its clauses name.
-ghost use Rattle.std.specs.Prelude.{◌≡◌, ◌+◌, [], ℕ, Option, length};
+ghost use Rattle.std.specs.Prelude.{◌≡◌, Option};
 ghost use Rattle.blsm_model.specs.declared.key.Key.{Key};
 ghost use Rattle.record_delta.specs.declared.record.Rec.{Rec};
-ghost use Rattle.record_delta.specs.Entries.{Entries, entries_weight};
-ghost use Rattle.gated_log.specs.Lane.{blocks};
+ghost use Rattle.record_delta.specs.Entries.{entries_weight};
 ghost use Rattle.tree_machine.specs.Lists.{Lists};
 ghost use Rattle.tree_machine.specs.Machine.{Machine};
 ghost use Rattle.tree_machine.specs.Merges.{Merge};
@@ -33,9 +32,4 @@ pub fn a_drop_shows_nothing()
 /// A turn makes of the tables what the machine makes of them where the pass ends.
 pub fn tables_turn()
     ensures tables { (m : Machine) (log : LogState) → AreTables m.lists log → AreTables (end_pass m).lists (turned_log log) }
-{}
-
-/// A lane ends behind so many bytes as its entries weigh, as they were appended, and one more for the gate of each.
-pub fn a_lane_ends_by_weight()
-    ensures { (entries : Entries) → length (blocks entries) ≡ entries_weight entries + length entries }
 {}

@@ -6,5 +6,5 @@
 mod laws;
 mod logged;
 
-pub use laws::{a_drop_shows_nothing, a_lane_ends_by_weight, entries_join, tables_turn};
+pub use laws::{a_drop_shows_nothing, entries_join, tables_turn};
 pub use logged::LoggedTables;

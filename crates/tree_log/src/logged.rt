@@ -1,5 +1,5 @@
 //! Two tables and the lanes that they replay from.
-ghost use Rattle.std.specs.Prelude.{◌≡◌, ◌↔◌, ◌≤◌, ◌<◌, ◌+◌, ◌^◌, [], length, is_ok, if◌then◌else◌, IsTrue, OnOk};
+ghost use Rattle.std.specs.Prelude.{◌≡◌, ◌↔◌, ◌≤◌, ◌<◌, ◌+◌, ◌^◌, ◌∷◌, [], length, is_ok, if◌then◌else◌, IsTrue, OnOk};
 ghost use Rattle.disk_trait.specs.Disk.{TellsFaults};
 ghost use Rattle.disk_trait.specs.Effects.{Affects};
 ghost use Rattle.blsm_model.specs.Geometry.{file_length};
@@ -8,7 +8,7 @@ ghost use Rattle.record_delta.specs.Records.{weight};
 ghost use Rattle.record_delta.specs.Entries.{entries_weight, is_above, over_any, record_of_key, with_record};
 ghost use Rattle.mem_table.specs.Tables.{IsWhole};
 ghost use Rattle.gated_write.specs.Ends.{EndsSynced};
-ghost use Rattle.gated_log.specs.Lane.{lane_region, Appends};
+ghost use Rattle.gated_log.specs.Lane.{lane_region, no_lane, Appends};
 ghost use Rattle.gated_log.specs.Lanes.{end_of, moved};
 ghost use Rattle.tree_file.specs.Tree.{Tree};
 ghost use Rattle.tree_file.specs.Places.{StandsOn, Becomes, TurnsRoles};
@@ -58,7 +58,8 @@ fn append_to<D: Disk>(
     ensures lanes { lanes.new ≡ (if is_ok result then moved lanes.old lane (weight key.now rec.now + 1) else lanes.old) }
     ensures ended { OnOk result (end_of lanes.new lane ≡ end_of lanes.old lane + (weight key.now rec.now + 1)) }
     ensures table { table.new ≡ (if is_ok result then folded_into key.now rec.now table.old else table.old) }
-    ensures appends { Appends lanes.old.sizes lane (end_of lanes.old lane) (key.now, rec.now) (is_ok result) (D.state disk.old) (D.state disk.new) }
+    ensures appends { Appends lanes.old.sizes lane (end_of lanes.old lane) ((key.now, rec.now) ∷ []) (is_ok result) (D.state disk.old)
+        (D.state disk.new) }
     ensures ends { OnOk result (EndsSynced 4 (D.state disk.old) (D.state disk.new)) }
     ensures effect { Affects (lane_region lanes.old.sizes lane) (file_length lanes.old.sizes) 4 (D.state disk.old) (D.state disk.new) }
     ensures faults { TellsFaults result (D.state disk.old) (D.state disk.new) }
@@ -215,7 +216,7 @@ impl LoggedTables {
     pub fn turn(&mut self)
         ensures log { self.new ≡ turned_log self.old }
         ensures turns { Turns self.old self.new }
-        ensures is_of { (tree next : Tree) → TurnsRoles tree.catalogue next.catalogue → next.lane_a ≡ tree.lane_b → next.lane_b ≡ []
+        ensures is_of { (tree next : Tree) → TurnsRoles tree.catalogue next.catalogue → next.lane_a ≡ tree.lane_b → next.lane_b ≡ no_lane
             → IsLogOf tree self.old → IsLogOf next self.new }
     {
         self.a.clear();

@@ -6,10 +6,10 @@ use Rattle.std.specs.Prelude.{nat_eq}
 use Rattle.std.specs.List.{IsDistinct}
 use Rattle.blsm_model.specs.Sizes.{Sizes}
 use Rattle.blsm_model.specs.Lanes.{a_of}
-use Rattle.record_delta.specs.Entries.{Entries}
 use Rattle.page_file.specs.Component.{RunPage, entries_of, numbers_of}
 use Rattle.page_file.proofs.PageLemmas.{few_pages}
 use Rattle.page_file.proofs.ComponentLemmas.{one_component}
+use Rattle.gated_log.specs.Lane as log
 use Rattle.gated_log.specs.Lane.{HasEntries}
 use Rattle.gated_log.proofs.OneList.{one_list}
 use Rattle.catalog_swap.specs.declared.catalog.Catalog.{Catalog}
@@ -55,10 +55,12 @@ use Rattle.tree_reading.proofs.PagesLemmas.{no_damaged_page}
 pub fits_marks : (sizes : Sizes) (tree : Tree) (file : List ℕ) → HoldsTree sizes tree file → FitsSizes sizes tree → FitsMarks sizes tree.catalogue
 fits_marks sizes tree file h1 h2 = grind (arith, common_steps, nat_tests)
 
-stays_a : (sizes : Sizes) (tree : Tree) (file : List ℕ) → HoldsTree sizes tree file → FitsSizes sizes tree → StaysWithin (room_for_a sizes (catalogue_weight tree.catalogue)) tree.lane_a
+stays_a : (sizes : Sizes) (tree : Tree) (file : List ℕ) → HoldsTree sizes tree file → FitsSizes sizes tree
+    → StaysWithin (room_for_a sizes (catalogue_weight tree.catalogue)) tree.lane_a.entries
 stays_a sizes tree file h1 h2 = grind (arith, common_steps, nat_tests)
 
-stays_b : (sizes : Sizes) (tree : Tree) (file : List ℕ) → HoldsTree sizes tree file → FitsSizes sizes tree → StaysWithin (room_for_b sizes (catalogue_weight tree.catalogue) tree.lane_a) tree.lane_b
+stays_b : (sizes : Sizes) (tree : Tree) (file : List ℕ) → HoldsTree sizes tree file → FitsSizes sizes tree
+    → StaysWithin (room_for_b sizes (catalogue_weight tree.catalogue) tree.lane_a.entries) tree.lane_b.entries
 stays_b sizes tree file h1 h2 = grind (arith, common_steps, nat_tests)
 
 -- a component that reads, apart from those before it, isn't the damaged one
@@ -100,18 +102,23 @@ part_fine sizes catalogue c1 c1x c2 output n file few has named (in_output d1 d1
     none_departs sizes progress (entries_of d1x) (entries_of d2) (numbers_of d1 ++ numbers_of d1x ++ numbers_of d2) file few n output there.0 there.1
     d
 
-pub a_fine : (sizes : Sizes) (catalogue : Catalog) (lane : ℕ) (entries : Entries) (file : List ℕ) → lane ≡ a_of catalogue.lanes → HasEntries sizes (a_of catalogue.lanes) entries file
-    → StaysWithin (room_for_a sizes (catalogue_weight catalogue)) entries → IsDamagedLane sizes lane (room_for_a sizes (catalogue_weight catalogue)) file → ⊥
-a_fine sizes catalogue lane entries file is has within damage =
-    no_damaged_lane sizes lane (room_for_a sizes (catalogue_weight catalogue)) entries file (subst (λ k. HasEntries sizes k entries file) (sym is) has) within damage
+pub a_fine : (sizes : Sizes) (catalogue : Catalog) (lane : ℕ) (of : log.Lane) (file : List ℕ) → lane ≡ a_of catalogue.lanes
+    → HasEntries sizes (a_of catalogue.lanes) of file
+    → StaysWithin (room_for_a sizes (catalogue_weight catalogue)) of.entries
+    → IsDamagedLane sizes lane (room_for_a sizes (catalogue_weight catalogue)) file → ⊥
+a_fine sizes catalogue lane of file is has within damage =
+    no_damaged_lane sizes lane (room_for_a sizes (catalogue_weight catalogue)) of file
+    (subst (λ k. HasEntries sizes k of file) (sym is) has) within damage
 
 no_damaged_log : (sizes : Sizes) (tree : Tree) (lane : ℕ) (file : List ℕ) → HoldsTree sizes tree file → FitsSizes sizes tree → IsDamagedLog sizes tree.catalogue lane file → ⊥
 no_damaged_log sizes tree lane file holds fits (in_a is d) =
     a_fine sizes tree.catalogue lane tree.lane_a file is holds.lane_a (stays_a sizes tree file holds fits) d
 no_damaged_log sizes tree lane file holds fits (in_b is lane_a has within d) =
     let same : lane_a ≡ tree.lane_a = one_list sizes (a_of tree.catalogue.lanes) lane_a tree.lane_a file has holds.lane_a in
-    no_damaged_lane sizes lane (room_for_b sizes (catalogue_weight tree.catalogue) lane_a) tree.lane_b file (subst (λ k. HasEntries sizes k tree.lane_b file) (sym is) holds.lane_b)
-    (subst (λ (l : Entries). StaysWithin (room_for_b sizes (catalogue_weight tree.catalogue) l) tree.lane_b) (sym same) (stays_b sizes tree file holds fits)) d
+    no_damaged_lane sizes lane (room_for_b sizes (catalogue_weight tree.catalogue) lane_a.entries) tree.lane_b file
+    (subst (λ k. HasEntries sizes k tree.lane_b file) (sym is) holds.lane_b)
+    (subst (λ (l : log.Lane). StaysWithin (room_for_b sizes (catalogue_weight tree.catalogue) l.entries) tree.lane_b.entries) (sym same)
+    (stays_b sizes tree file holds fits)) d
 
 -- where the newest catalogue fits the slots aren't damaged
 pub slots_fine : (sizes : Sizes) (catalogue : Catalog) (file : List ℕ) → HasCatalogue sizes catalogue file → AreDamagedSlots sizes file → ⊥

@@ -2,6 +2,7 @@
 use Rattle.std.proofs.Common.{◌≡◌, ℕ, ◌≤◌, List, [], ◌∷◌, length, take, refl, ap, sym, subst, Bool, IsTrue, Err}
 use Rattle.blsm_model.specs.Sizes.{Sizes}
 use Rattle.record_delta.specs.Entries.{Entries, entries_weight, replayed}
+use Rattle.gated_log.specs.Lane.{Lane}
 use Rattle.gated_log.specs.declared.replay.LaneBroken.{LaneBroken}
 use Rattle.gated_log.specs.declared.replay.LaneBroken.TheVariants.{Damaged}
 use Rattle.tree_reading.specs.declared.lane.LaneEnd.{LaneEnd}
@@ -11,9 +12,11 @@ all_taken : (es : Entries) → take (length es) es ≡ es
 all_taken [] = refl
 all_taken (e ∷ es) = ap (λ (l : Entries). e ∷ l) (all_taken es)
 
-pub within_room : (sizes : Sizes) (room : ℕ) (entries table : Entries) (end : LaneEnd) → IsReplayed sizes room entries table end → entries_weight table ≤ room
-within_room sizes room entries table end is =
-    subst (λ (l : Entries). entries_weight l ≤ room) (sym is.table_is) (subst (λ (l : Entries). entries_weight (replayed l) ≤ room) (all_taken entries) (is.within (length entries)))
+pub within_room : (sizes : Sizes) (room : ℕ) (of : Lane) (table : Entries) (end : LaneEnd) → IsReplayed sizes room of table end
+    → entries_weight table ≤ room
+within_room sizes room of table end is =
+    subst (λ (l : Entries). entries_weight l ≤ room) (sym is.table_is)
+    (subst (λ (l : Entries). entries_weight (replayed l) ≤ room) (all_taken of.entries) (is.within (length of.entries)))
 
 pub lane_damage : (sizes : Sizes) (lane room : ℕ) (table : Entries) (honest : Bool) (file : List ℕ) {broken : LaneBroken} (n : ℕ) → broken ≡ Damaged n → TellsReplay sizes lane room table honest file (Err broken)
     → (n ≡ lane) × (IsTrue honest → IsDamagedLane sizes lane room file)

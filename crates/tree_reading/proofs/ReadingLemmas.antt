@@ -57,10 +57,14 @@ fits_found found honest file sure is has read guided =
     let high = high_mark found.geometry in
     let left = capacity found.geometry - catalogue_weight found.catalogue in
     let parts = tagged.components in
-    let light : entries_weight (replayed r.lane_a) ≤ min high left =
+    let light : entries_weight (replayed r.lane_a.entries) ≤ min high left =
     subst (λ (l : Entries). entries_weight l ≤ min high left) r.a_is.table_is (within_room found.geometry (min high left) r.lane_a found.a.entries _ r.a_is) in
-    let below_a : (n : ℕ) → (entries_weight (replayed (take n r.lane_a)) ≤ high) × (entries_weight (replayed (take n r.lane_a)) ≤ left) = λ n. min_below _ high left (r.a_is.within n) in
-    let below_b : (n : ℕ) → (entries_weight (replayed r.lane_a) + entries_weight (replayed (take n r.lane_b)) ≤ high) × (entries_weight (replayed r.lane_a) + entries_weight (replayed (take n r.lane_b)) ≤ left) =
+    let below_a : (n : ℕ)
+    → (entries_weight (replayed (take n r.lane_a.entries)) ≤ high) × (entries_weight (replayed (take n r.lane_a.entries)) ≤ left) =
+    λ n. min_below _ high left (r.a_is.within n) in
+    let below_b : (n : ℕ)
+    → (entries_weight (replayed r.lane_a.entries) + entries_weight (replayed (take n r.lane_b.entries)) ≤ high)
+    × (entries_weight (replayed r.lane_a.entries) + entries_weight (replayed (take n r.lane_b.entries)) ≤ left) =
     λ n. min_below _ high left (together (min high left) _ _ light (r.b_is.within n)) in
     let tree : Tree = record {
       catalogue = found.catalogue;

@@ -6,6 +6,7 @@ use Rattle.blsm_model.specs.Geometry.{c1_mark, capacity, high_mark}
 use Rattle.blsm_model.specs.Lanes.{a_of, b_of}
 use Rattle.record_delta.specs.Entries.{Entries, entries_weight, replayed}
 use Rattle.page_file.specs.Component.{RunPage, ReadsAs, entries_of, numbers_of}
+use Rattle.gated_log.specs.Lane as log
 use Rattle.gated_log.specs.Lane.{HasEntries}
 use Rattle.catalog_swap.specs.declared.catalog.Catalog.{Catalog}
 use Rattle.catalog_swap.specs.declared.catalog.Progress.{Progress}
@@ -82,8 +83,9 @@ pub data IsDamagedPart (sizes : Sizes) (catalogue : Catalog) (n : ℕ) (file : L
 -- the first lane that doesn't replay is this
 pub data IsDamagedLog (sizes : Sizes) (catalogue : Catalog) (lane : ℕ) (file : List ℕ) : Type 0 where
   in_a : lane ≡ a_of catalogue.lanes → IsDamagedLane sizes lane (room_for_a sizes (catalogue_weight catalogue)) file → IsDamagedLog sizes catalogue lane file
-  in_b : lane ≡ b_of catalogue.lanes → (lane_a : Entries) → HasEntries sizes (a_of catalogue.lanes) lane_a file → StaysWithin (room_for_a sizes (catalogue_weight catalogue)) lane_a
-      → IsDamagedLane sizes lane (room_for_b sizes (catalogue_weight catalogue) lane_a) file → IsDamagedLog sizes catalogue lane file
+  in_b : lane ≡ b_of catalogue.lanes → (lane_a : log.Lane) → HasEntries sizes (a_of catalogue.lanes) lane_a file
+      → StaysWithin (room_for_a sizes (catalogue_weight catalogue)) lane_a.entries
+      → IsDamagedLane sizes lane (room_for_b sizes (catalogue_weight catalogue) lane_a.entries) file → IsDamagedLog sizes catalogue lane file
 
 -- Of the store in this file this is the first place that isn't of the written form.
 abbrev pub IsFirstDamage : Sizes → Place → List ℕ → Type 0

@@ -4,7 +4,7 @@ use Rattle.blsm_model.specs.Format.{least_weight}
 use Rattle.blsm_model.specs.Lanes.{region_length}
 use Rattle.blsm_model.specs.Sizes.{Sizes}
 use Rattle.record_delta.specs.Entries.{Entries, entries_weight, replayed}
-use Rattle.gated_log.specs.Lane.{HasEntries, HasFront, IsDamaged, blocks}
+use Rattle.gated_log.specs.Lane.{Lane, HasEntries, HasFront, IsDamaged, MayEnd}
 use Rattle.gated_log.specs.declared.replay.LaneBroken.{LaneBroken}
 use Rattle.gated_log.specs.declared.replay.LaneBroken.TheVariants.{Fault, Damaged}
 use Rattle.tree_reading.specs.declared.lane.LaneEnd.{LaneEnd}
@@ -18,20 +18,22 @@ pub data IsDamagedLane (sizes : Sizes) (lane room : ℕ) (file : List ℕ) : Typ
 abbrev pub StaysWithin : ℕ → Entries → Type 0
 StaysWithin room entries = (n : ℕ) → entries_weight (replayed (take n entries)) ≤ room
 
--- What was kept of the entries of a lane: their table, where the lane's closed gate stands in its region, and how many there are.
-pub record IsReplayed (sizes : Sizes) (room : ℕ) (entries table : Entries) (end : LaneEnd) : Type 0 where
-  pub table_is : table ≡ replayed entries
-  pub place_is : end.place ≡ length (blocks entries)
+-- What was kept of a lane: the table of its entries, where its closed gate stands in its region, and how many entries there are.
+pub record IsReplayed (sizes : Sizes) (room : ℕ) (of : Lane) (table : Entries) (end : LaneEnd) : Type 0 where
+  pub table_is : table ≡ replayed of.entries
+  pub place_is : end.place ≡ of.end
+  pub may_end : MayEnd of
   pub inside : end.place < region_length sizes
-  pub records_is : end.records ≡ length entries
-  pub within : StaysWithin room entries
+  pub records_is : end.records ≡ length of.entries
+  pub within : StaysWithin room of.entries
 
--- how many calls a replay takes: one for each entry, which has its least weight and a gate, and one for the closed gate
+-- how many calls a replay takes: one for each record, which has an entry's least weight and a gate, and one for the closed gate
 abbrev pub lane_calls : Sizes → ℕ
 lane_calls sizes = region_length sizes / (least_weight + 1) + 1
 
--- What an answer says of a lane: it has just the entries of which this is kept, or is damaged. After a fault nobody knows.
+-- What an answer says of a lane: it has just what this is kept of, or is damaged. After a fault nobody knows.
 abbrev pub TellsReplay : Sizes → ℕ → ℕ → Entries → Bool → List ℕ → Result LaneEnd LaneBroken → Type 0
-TellsReplay sizes lane room table honest file (Ok end) = (entries : Entries) × IsReplayed sizes room entries table end × (IsTrue honest → HasEntries sizes lane entries file)
+TellsReplay sizes lane room table honest file (Ok end) =
+    (of : Lane) × IsReplayed sizes room of table end × (IsTrue honest → HasEntries sizes lane of file)
 TellsReplay sizes lane room table honest file (Err (Damaged named)) = (named ≡ lane) × (IsTrue honest → IsDamagedLane sizes lane room file)
 TellsReplay sizes lane room table honest file (Err Fault) = ⊤

@@ -13,7 +13,7 @@ use Rattle.page_file.specs.declared.file.Broken.TheVariants as broken
 use Rattle.page_file.specs.Component.{RunPage, ReadsAs, numbers_of}
 use Rattle.page_space.specs.Space.{HasRole, SpaceState}
 use Rattle.mem_table.specs.Tables.{IsWhole}
-use Rattle.gated_log.specs.Lane.{HasEntries, blocks}
+use Rattle.gated_log.specs.Lane.{Lane, HasEntries}
 use Rattle.gated_log.specs.Lanes.{end_of}
 use Rattle.catalog_swap.specs.declared.catalog.Catalog.{Catalog}
 use Rattle.catalog_swap.specs.declared.catalog.Progress.{Progress}
@@ -119,10 +119,10 @@ TellsTree sizes catalogue space guides file (Err broken.Fault) = ⊤
 
 -- Lanes A and B were replayed to these tables, and end here; on an honest disk their entries are those of the file.
 pub record AreReplayed (sizes : Sizes) (catalogue : Catalog) (a b : Entries) (end_a end_b : LaneEnd) (honest : Bool) (file : List ℕ) : Type 0 where
-  pub lane_a : Entries
-  pub lane_b : Entries
+  pub lane_a : Lane
+  pub lane_b : Lane
   pub a_is : IsReplayed sizes (room_for_a sizes (catalogue_weight catalogue)) lane_a a end_a
-  pub b_is : IsReplayed sizes (room_for_b sizes (catalogue_weight catalogue) lane_a) lane_b b end_b
+  pub b_is : IsReplayed sizes (room_for_b sizes (catalogue_weight catalogue) lane_a.entries) lane_b b end_b
   pub has_a : IsTrue honest → HasEntries sizes (a_of catalogue.lanes) lane_a file
   pub has_b : IsTrue honest → HasEntries sizes (b_of catalogue.lanes) lane_b file
 
@@ -153,12 +153,12 @@ pub record HoldsFound (found : Found) (file : List ℕ) : Type 0 where
   pub c1_tag : (k : ℕ) → HasRole found.space 0 k ↔ Contains (numbers_of tree.c1) k
   pub c1x_tag : (k : ℕ) → HasRole found.space 1 k ↔ Contains (numbers_of tree.c1x) k
   pub c2_tag : (k : ℕ) → HasRole found.space 2 k ↔ Contains (numbers_of tree.c2) k
-  pub table_a : found.a.entries ≡ replayed tree.lane_a
-  pub table_b : found.b.entries ≡ replayed tree.lane_b
-  pub end_a : end_of found.lanes (a_of found.catalogue.lanes) ≡ length (blocks tree.lane_a)
-  pub end_b : end_of found.lanes (b_of found.catalogue.lanes) ≡ length (blocks tree.lane_b)
-  pub records_a : found.records_a ≡ length tree.lane_a
-  pub records_b : found.records_b ≡ length tree.lane_b
+  pub table_a : found.a.entries ≡ replayed tree.lane_a.entries
+  pub table_b : found.b.entries ≡ replayed tree.lane_b.entries
+  pub end_a : end_of found.lanes (a_of found.catalogue.lanes) ≡ tree.lane_a.end
+  pub end_b : end_of found.lanes (b_of found.catalogue.lanes) ≡ tree.lane_b.end
+  pub records_a : found.records_a ≡ length tree.lane_a.entries
+  pub records_b : found.records_b ≡ length tree.lane_b.entries
   pub guided : AreGuides found.geometry first_tags found.guides → AreGuided found.guides first_tags tree
   pub over : AreGuides found.geometry first_tags found.guides
       → IsAheadOver found.geometry file found.space first_tags.deep (guide_at found.guides first_tags.deep) tree.c1x tree.c2 found.ahead

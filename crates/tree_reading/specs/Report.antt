@@ -17,5 +17,5 @@ pub record IsReportOf (report : Report) (file : List ℕ) : Type 0 where
   pub c1 : report.c1 ≡ tree.catalogue.c1
   pub c1x : report.c1x ≡ tree.catalogue.c1x
   pub c2 : report.c2 ≡ tree.catalogue.c2
-  pub lane_a : report.lane_a ≡ length tree.lane_a
-  pub lane_b : report.lane_b ≡ length tree.lane_b
+  pub lane_a : report.lane_a ≡ length tree.lane_a.entries
+  pub lane_b : report.lane_b ≡ length tree.lane_b.entries

@@ -46,10 +46,10 @@ fn take(table: &mut Table, room: u64, lane: u8, key: &Key, rec: &Rec) -> Result<
     }
 }
 
-/// Replays a lane, which is named by its region's number, 0 to 2, to its table. It reads one entry with each call of the disk, and takes no
+/// Replays a lane, which is named by its region's number, 0 to 2, to its table. It reads one record with each call of the disk, and takes no
 /// memory.
 ///
-/// `Damaged` comes exactly where the lane is damaged, or one of its records makes a table that weighs more than `room`, in bytes. `Fault`
+/// `Damaged` comes exactly where the lane is damaged, or one of its entries makes a table that weighs more than `room`, in bytes. `Fault`
 /// comes only where the disk's count of faults rose. The table has what was replayed then.
 pub(crate) fn replay_lane<D: Disk>(
     disk: &mut D,

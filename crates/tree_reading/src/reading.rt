@@ -155,6 +155,9 @@ fn lanes_of(head: &Head, a: u64, b: u64) -> Lanes
 ///
 /// `NotAStore`, `Damaged` and `Worn` come exactly where the file is no store, isn't of the written form, or has a version above 2^62;
 /// `Damaged` names the first such place. `Fault` comes only where the disk's count of faults rose.
+///
+/// It stays a call, so that what it reads by isn't added to the frame of who settles what was read.
+#[inline(never)]
 pub fn read_tree<D: Disk>(
     alloc: Global,
     disk: &mut D,

@@ -19,7 +19,7 @@ pub struct Report {
     pub c1: Component,
     pub c1x: Component,
     pub c2: Component,
-    /// How many records lanes A and B have.
+    /// How many entries lanes A and B have.
     pub lane_a: u64,
     pub lane_b: u64,
 }

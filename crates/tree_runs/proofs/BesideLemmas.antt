@@ -67,7 +67,7 @@ grown_over sizes file space guide (Some snow) a grown c1 sorted same over =
 
 -- over the tree's lists, where the file holds a tree of the same components whose table A grew ahead
 over_tree : (runs : RunsState) (tree next : Tree) (old new : List ℕ) → IsBesideRuns runs old new
-    → up_to (cursor_of_pass runs.pass) (replayed next.lane_a) ≡ up_to (cursor_of_pass runs.pass) (replayed tree.lane_a) → AreOf runs tree old
+    → up_to (cursor_of_pass runs.pass) (replayed next.lane_a.entries) ≡ up_to (cursor_of_pass runs.pass) (replayed tree.lane_a.entries) → AreOf runs tree old
     → HoldsTree runs.sizes next new
     → next.catalogue ≡ tree.catalogue → next.c1 ≡ tree.c1 → next.c1x ≡ tree.c1x → next.c2 ≡ tree.c2 → next.output ≡ tree.output → AreOf runs next new
 over_tree runs tree next old new same behind is holds catalogue c1 c1x c2 output = record {
@@ -77,12 +77,12 @@ over_tree runs tree next old new same behind is holds catalogue c1 c1x c2 output
   c1x = subst (λ (ps : List RunPage). AreTagged runs.space runs.tags.c1x ps) (sym c1x) is.c1x;
   c2 = subst (λ (ps : List RunPage). AreTagged runs.space runs.tags.c2 ps) (sym c2) is.c2;
   pass = subst (λ (ps : List RunPage). IsPassOver runs.sizes new runs.space (guide_at runs.guides runs.tags.pass) runs.pass
-      (replayed next.lane_a) ps) (sym c1)
-      (grown_over runs.sizes new runs.space (guide_at runs.guides runs.tags.pass) runs.pass (replayed tree.lane_a) (replayed next.lane_a) tree.c1
-      (sorted_replayed next.lane_a) behind
-      (pass_over_still (guide_at runs.guides runs.tags.pass) runs.pass (replayed tree.lane_a) tree.c1
-          (keeps_used runs true old new (tag_of_pass runs.pass) (λ told. same)) (pages_used runs runs.tags.c1)
-          (pass_has_it runs.pass) is.c1 is.pass));
+      (replayed next.lane_a.entries) ps) (sym c1)
+      (grown_over runs.sizes new runs.space (guide_at runs.guides runs.tags.pass) runs.pass (replayed tree.lane_a.entries) (replayed next.lane_a.entries) tree.c1
+      (sorted_replayed next.lane_a.entries) behind
+      (pass_over_still (guide_at runs.guides runs.tags.pass) runs.pass (replayed tree.lane_a.entries) tree.c1
+      (keeps_used runs true old new (tag_of_pass runs.pass) (λ told. same)) (pages_used runs runs.tags.c1)
+      (pass_has_it runs.pass) is.c1 is.pass));
   deep = subst (λ (ps : List RunPage). IsDeepOver runs.sizes new runs.space (guide_at runs.guides runs.tags.deep) runs.deep ps next.c2) (sym c1x)
       (subst (λ (ps : List RunPage). IsDeepOver runs.sizes new runs.space (guide_at runs.guides runs.tags.deep) runs.deep tree.c1x ps) (sym c2)
       (deep_over_still (guide_at runs.guides runs.tags.deep) runs.deep tree.c1x tree.c2 (keeps_used runs true old new (tag_of_deep runs.deep) (λ told. same)) (pages_used runs runs.tags.c1x) (pages_used runs runs.tags.c2) (deep_has_it runs.deep) is.c1x is.c2 is.deep));
@@ -102,7 +102,7 @@ pub entries_join : EntriesJoin
 entries_join runs tree old new key rec same is_ahead is holds =
     over_tree runs tree (appended_a (key, rec) tree) old new same
     (ap (λ (lists : Lists). up_to (cursor_of_pass runs.pass) lists.a) (lists_appended_a (key, rec) tree)
-    ∙ grown_ahead (cursor_of_pass runs.pass) key rec (replayed tree.lane_a) is_ahead) is holds refl refl refl refl refl
+    ∙ grown_ahead (cursor_of_pass runs.pass) key rec (replayed tree.lane_a.entries) is_ahead) is holds refl refl refl refl refl
 
 pub entries_wait : EntriesWait
 entries_wait runs tree old new key rec same is holds =

@@ -166,7 +166,7 @@ module _ (runs : RunsState) (floor : Option Key) (key : Key) (tree : Tree) (file
 pub finds_failed : {newer : Option Rec} {broken : Broken} {result : Result (Option Rec) Broken} {old new : DiskState} (runs : RunsState)
     (floor : Option Key) (key : Key) → IsTimed old
     → FindsBelow runs (first_run floor key runs) (first_tag floor key runs) key newer (Err broken) old new → result ≡ Err broken
-        → FindsAll runs floor key newer result old new
+    → FindsAll runs floor key newer result old new
 finds_failed {newer} {broken} {result} {old} {new} runs floor key timed one is = record {
   looks = λ c1 c1x c2 asked others last. looks c1 c1x c2 (inr asked);
   ends = λ tree c1 c1x c2 honest at asked. (looks c1 c1x c2 asked.first).reads;
@@ -182,7 +182,7 @@ module _ (runs : RunsState) (floor : Option Key) (key : Key) {newer found : Opti
   -- what was found first in a tree that is read hides C1' or doesn't
   found_first : (tree : Tree) (n : ℕ) → IsTrue old.is_honest → IsTreeAt runs floor tree old.bytes
       → CountsAsked (over_any newer (first_record floor key tree)) (filter_of runs runs.tags.c1x) key n
-          → CountsAsked found (filter_of runs runs.tags.c1x) key n
+      → CountsAsked found (filter_of runs runs.tags.c1x) key n
   found_first tree n honest at asked =
       subst (λ (r : Option Rec). CountsAsked r (filter_of runs runs.tags.c1x) key n)
       (sym (found_in one honest (first_record floor key tree) (first_at runs floor key tree old.bytes at))) asked
@@ -210,13 +210,13 @@ module _ (runs : RunsState) (floor : Option Key) (key : Key) {newer found : Opti
         let read = (one.reads 1 (inl (omega arith))).effect in
         let there = record_of_key key (entries_of tree.c1x) in
         let second = subst (λ (file : List ℕ). HasRecord runs.sizes runs.catalogue.c1x (guide_at runs.guides runs.tags.c1x) key file there)
-            (sym (only_reads_same read honest))
+        (sym (only_reads_same read honest))
         (second_at runs floor key tree old.bytes at) in
         let below = found_in two (subst IsTrue (sym read.effect.goes_on.is_honest) honest) there second
         ∙ ap (λ (r : Option Rec). over_any r there) (found_in one honest (first_record floor key tree)
-            (first_at runs floor key tree old.bytes at)) in
+        (first_at runs floor key tree old.bytes at)) in
         (looks c1 c1x c2 asked.first (found_first tree c1x honest at asked.second)
-            (subst (λ (r : Option Rec). CountsAsked r (filter_of runs runs.tags.c2) key c2) (sym below) asked.third)).reads;
+        (subst (λ (r : Option Rec). CountsAsked r (filter_of runs runs.tags.c2) key c2) (sym below) asked.third)).reads;
     tells = tells_behind runs.sizes key _ _ one.told (one.reads 1 (inl (omega arith))).effect
         (tells_behind runs.sizes key _ _ two.told (two.reads 1 (inl (omega arith))).effect (tells_last runs.sizes key _ three.told));
   }
@@ -236,7 +236,7 @@ module _ {runs : RunsState} {floor : Option Key} {key : Key} {newer : Option Rec
 
   pub looked_up : (tree : Tree) → IsTrue old.is_honest → IsTreeAt runs floor tree old.bytes → result ≢ Err Fault
       → result ≡ Ok (over_any newer (over_any (first_record floor key tree)
-          (over_any (record_of_key key (entries_of tree.c1x)) (record_of_key key (entries_of tree.c2)))))
+      (over_any (record_of_key key (entries_of tree.c1x)) (record_of_key key (entries_of tree.c2)))))
   looked_up tree honest at other =
       once_each.list (over_any (over_any one two) three) honest (
         over_any one two,
@@ -329,10 +329,10 @@ module _ {runs : RunsState} {floor : Option Key} {key : Key} {newer : Option Rec
       → AreGuided runs.guides runs.tags tree
       → IsFloorOf floor runs tree old.bytes → result ≢ Err Fault
       → found_by result found ≡ Ok (over_any newer (over_any (first_record floor key tree)
-          (over_any (record_of_key key (entries_of tree.c1x)) (record_of_key key (entries_of tree.c2)))))
+      (over_any (record_of_key key (entries_of tree.c1x)) (record_of_key key (entries_of tree.c2)))))
   lists_by tree honest holds is guided released other =
       looked_up all tree honest (record { holds = holds; now = is; guided = guided; released = released })
-          (λ wrong. other (broken_by result found Fault wrong))
+      (λ wrong. other (broken_by result found Fault wrong))
 
   pub damaged_by : (n : ℕ) → result ≡ Err (Damaged n) → IsTrue old.is_honest
       → IsDamageBelow runs.sizes key old.bytes (from_newest floor key runs) newer n
@@ -346,7 +346,7 @@ module _ {runs : RunsState} {floor : Option Key} {key : Key} {newer : Option Rec
   pub ends_by : (tree : Tree) (c1 c1x c2 : ℕ) → IsTrue old.is_honest → HoldsTree runs.sizes tree old.bytes
       → tree.catalogue ≡ runs.catalogue → AreGuided runs.guides runs.tags tree
       → IsFloorOf floor runs tree old.bytes → AreAsked newer floor key runs tree c1 c1x c2
-          → Reads (file_length runs.sizes) (c1 + c1x + c2) result old new
+      → Reads (file_length runs.sizes) (c1 + c1x + c2) result old new
   ends_by tree c1 c1x c2 honest holds now guided released asked =
       reads_of result found (all.ends tree c1 c1x c2 honest (record { holds = holds; now = now; guided = guided; released = released }) asked)
 

@@ -91,7 +91,7 @@ lists_repinned runs after is tree file of = record {
   c1 = λ n has. has_now is runs.tags.c1 n (of.c1 n has);
   c1x = λ n has. has_now is runs.tags.c1x n (of.c1x n has);
   c2 = λ n has. has_now is runs.tags.c2 n (of.c2 n has);
-  pass = pass_over_still (guide_at runs.guides runs.tags.pass) runs.pass (replayed tree.lane_a) tree.c1
+  pass = pass_over_still (guide_at runs.guides runs.tags.pass) runs.pass (replayed tree.lane_a.entries) tree.c1
       (keeps_run file (tag_of_pass runs.pass) is) (keeps_pages runs.tags.c1 is) (pass_has_it runs.pass) of.c1 of.pass;
   deep = deep_over_still (guide_at runs.guides runs.tags.deep) runs.deep tree.c1x tree.c2 (keeps_run file (tag_of_deep runs.deep) is) (keeps_pages runs.tags.c1x is) (keeps_pages runs.tags.c2 is)
       (deep_has_it runs.deep) of.c1x of.c2 of.deep;

@@ -12,6 +12,7 @@ use Rattle.blsm_model.specs.Sizes.{Sizes, IsGeometry}
 use Rattle.blsm_model.specs.declared.component.Component.{Component}
 use Rattle.blsm_model.specs.declared.key.Key.{Key}
 use Rattle.catalog_swap.specs.Text.{HasKey, IsComponent, IsEmpty, IsInRange}
+use Rattle.gated_log.specs.Lane.{Lane}
 use Rattle.catalog_swap.specs.declared.catalog.Catalog.{Catalog}
 use Rattle.catalog_swap.specs.declared.catalog.Progress.{Progress}
 use Rattle.record_delta.specs.Entries.{Entries, above, entries_weight, up_to}
@@ -106,7 +107,7 @@ range_of pages component is some = ⊎_elim (λ (none : IsEmpty component). absu
 pub record IsNaming (sizes : Sizes) (tree : Tree) (file : List ℕ) (space : SpaceState) (tag : ℕ) (deep : Option DeepState) (progress : Option Progress) : Type 0 where
   pub output : List RunPage
   pub finished : AreFinished space deep output
-  pub named : (next : Catalog) (run : List RunPage) (a b : Entries) → IsDistinct nat_eq (numbers_of run ++ numbers_of tree.c1x ++ numbers_of tree.c2)
+  pub named : (next : Catalog) (run : List RunPage) (a b : Lane) → IsDistinct nat_eq (numbers_of run ++ numbers_of tree.c1x ++ numbers_of tree.c2)
       → ((n : ℕ) → Contains (numbers_of run ++ numbers_of tree.c1x ++ numbers_of tree.c2) n → HasRole space tag n → ⊥)
       → HasProgress sizes progress (record { catalogue = next; c1 = run; c1x = tree.c1x; c2 = tree.c2; output = output; lane_a = a; lane_b = b }) file
   pub suits : HasKey progress → SuitsNamed sizes tree.catalogue.c1x progress
@@ -210,7 +211,7 @@ module _ (sizes : Sizes) (tree : Tree) (file : List ℕ) (space : SpaceState) (t
       over.begun
 
   -- so it is what the next tree wants
-  are_named : (next : Catalog) (run : List RunPage) (a b : Entries) → IsDistinct nat_eq (numbers_of run ++ numbers_of tree.c1x ++ numbers_of tree.c2)
+  are_named : (next : Catalog) (run : List RunPage) (a b : Lane) → IsDistinct nat_eq (numbers_of run ++ numbers_of tree.c1x ++ numbers_of tree.c2)
       → ((m : ℕ) → Contains (numbers_of run ++ numbers_of tree.c1x ++ numbers_of tree.c2) m → HasRole space tag m → ⊥)
       → HasProgress sizes (Some p) (record { catalogue = next; c1 = run; c1x = tree.c1x; c2 = tree.c2; output = closed; lane_a = a; lane_b = b }) file
   are_named next run a b live others =

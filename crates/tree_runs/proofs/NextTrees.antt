@@ -5,6 +5,7 @@ use Rattle.std.proofs.Common.{inl, inr, sym, subst, ap, ◌∙◌}
 use Rattle.blsm_model.specs.declared.component.Component.{Component}
 use Rattle.blsm_model.specs.Components.{empty_component}
 use Rattle.blsm_model.specs.Sizes.{Sizes}
+use Rattle.gated_log.specs.Lane.{no_lane}
 use Rattle.catalog_swap.specs.declared.catalog.Catalog.{Catalog}
 use Rattle.catalog_swap.specs.declared.catalog.Progress.{Progress}
 use Rattle.catalog_swap.specs.Text.{HasKey, IsCatalog}
@@ -84,7 +85,8 @@ module _ (sizes : Sizes) (tree : Tree) (file : List ℕ) (holds : HoldsTree size
       let parts = parts_of_pass sizes made progress tree.catalogue true is heavy in
       let lanes = ap (λ (k : Catalog). k.lanes) is in
       record {
-        reads = next_of_rotated_pass sizes tree file holds next tree.lane_b [] made list.pages (record { reads = list.reads; others = others }) parts.c1_is parts.c1x_is parts.c2_is
+        reads = next_of_rotated_pass sizes tree file holds next tree.lane_b no_lane made list.pages
+            (record { reads = list.reads; others = others }) parts.c1_is parts.c1x_is parts.c2_is
             (parts.progress_is ∙ none);
         may = λ key. record {
           follows = may_be_next sizes tree.catalogue next parts is_now (ap (λ (k : Catalog). k.version) is) few (inr lanes) (empty_suits sizes) suits (c2_suits is_now)
@@ -98,9 +100,9 @@ module _ (sizes : Sizes) (tree : Tree) (file : List ℕ) (holds : HoldsTree size
       let beside : IsRunBeside sizes tree made list.pages file = record { reads = list.reads; others = others } in
       let live = live_of_pass sizes tree file holds made list.pages beside in
       record {
-        reads = next_of_pass sizes tree file holds next tree.lane_b [] made list.pages named.output beside parts.c1_is parts.c1x_is parts.c2_is
+        reads = next_of_pass sizes tree file holds next tree.lane_b no_lane made list.pages named.output beside parts.c1_is parts.c1x_is parts.c2_is
             (subst (λ (p : Option Progress). HasProgress sizes p (with_pass next list.pages tree.c1x tree.c2 named.output tree) file) (sym parts.progress_is)
-            (named.named next list.pages tree.lane_b [] live apart));
+            (named.named next list.pages tree.lane_b no_lane live apart));
         may = λ key. record {
           follows = may_be_next sizes tree.catalogue next parts is_now (ap (λ (k : Catalog). k.version) is) few (inr lanes) suits (c1x_suits is_now) (c2_suits is_now)
               (named.suits (subst HasKey parts.progress_is key));

@@ -249,9 +249,9 @@ pub pass_stands : (runs : RunsState) (after : SpaceState) (guides : List GuideSt
     → PassQuantum runs.sizes runs.space after (guide_at runs.guides runs.tags.pass) guide snow next a result old new → IsTimed new → (tree : Tree)
     → IsTrue old.is_honest → StandOver runs tree old → HasAllAhead runs.pass a tree → result ≢ Err Fault
     → (n : ℕ) × (result ≡ Ok n) × StandOver (passed runs after guides quanta next) tree new
-    × PassTook runs.sizes.quantum runs.pass (Some next) (replayed tree.lane_a) (entries_of tree.c1) n
+    × PassTook runs.sizes.quantum runs.pass (Some next) (replayed tree.lane_a.entries) (entries_of tree.c1) n
 pass_stands runs after guides quanta guide snow next a result old new is are shape writes quantum timed tree honest stand ahead other =
-    let list = replayed tree.lane_a in
+    let list = replayed tree.lane_a.entries in
     let over = subst (λ (p : Option SnowState). IsPassOver runs.sizes old.bytes runs.space (guide_at runs.guides runs.tags.pass) p list tree.c1) is
     stand.are_of.pass in
     let same = subst (λ (p : Option SnowState). HasAllAhead p a tree) is ahead in
@@ -311,12 +311,12 @@ deep_works runs after guide guide_after merge next result old new is are quantum
 pub deep_stays : (runs : RunsState) (tree : Tree) (most : ℕ) (after : SpaceState) (merge : DeepState) (next : WriterState) (old new : DiskState)
     → runs.deep ≡ Some merge
     → AreRuns runs → IsSpace after → Grows runs.sizes most runs.space after merge.writer next old new → IsTrue old.is_honest → IsTimed new
-        → StandOver runs tree old
+    → StandOver runs tree old
     → StandsOn runs.sizes tree new × LeavesOnly old new (HoldsTree runs.sizes tree)
 deep_stays runs tree most after merge next old new is are shape grows honest timed stand =
     let role = deep_role runs merge is are in
     tree_stays runs tree runs.tags.deep after old new are (deep_is_run runs are) shape
-        (subst (λ (r : ℕ). TakesPages r runs.space after) role grows.takes) grows.effect
+    (subst (λ (r : ℕ). TakesPages r runs.space after) role grows.takes) grows.effect
     (λ i here. subst (λ (r : ℕ). role_region runs.sizes after r i) role here.0)
     (finished_grown runs.sizes runs.space after merge tree.output (subst (λ (d : Option DeepState). AreFinished runs.space d tree.output) is stand.are_of.output))
     honest timed stand
@@ -380,12 +380,12 @@ pub deep_stands : (runs : RunsState) (after : SpaceState) (guides : List GuideSt
     → DeepQuantum runs.sizes runs.space after (guide_at runs.guides runs.tags.deep) guide merge next result old new → IsTimed new
     → (tree : Tree) → IsTrue old.is_honest → StandOver runs tree old → result ≢ Err Fault
     → (n : ℕ) × (result ≡ Ok n) × StandOver (deepened runs after guides quanta next) tree new
-        × DeepTook runs.sizes.quantum runs.deep (Some next) (entries_of tree.c1x) (entries_of tree.c2) n
+    × DeepTook runs.sizes.quantum runs.deep (Some next) (entries_of tree.c1x) (entries_of tree.c2) n
 deep_stands runs after guides quanta guide merge next result old new is are shape writes quantum timed tree honest stand other =
     let over = subst (λ (d : Option DeepState). IsDeepOver runs.sizes old.bytes runs.space (guide_at runs.guides runs.tags.deep) d tree.c1x tree.c2) is stand.are_of.deep in
     let took = quantum.took (numbers_of tree.c1x) (numbers_of tree.c2) (entries_of tree.c1x) (entries_of tree.c2) honest over other in
     let stood = (deep_stays runs tree (runs.sizes.quantum / 4 + 3) after merge next.writer old new is are shape quantum.on.works honest timed
-        stand).0 in (
+    stand).0 in (
       took.0,
       took.1,
       record {
@@ -396,9 +396,9 @@ deep_stands runs after guides quanta guide merge next result old new is are shap
           c1 = λ n has. tag_kept works.takes runs.tags.c1 are.tags.c1_deep n (stand.are_of.c1 n has);
           c1x = λ n has. tag_kept works.takes runs.tags.c1x are.tags.c1x_deep n (stand.are_of.c1x n has);
           c2 = λ n has. tag_kept works.takes runs.tags.c2 are.tags.c2_deep n (stand.are_of.c2 n has);
-          pass = subst (λ (g : GuideState). IsPassOver runs.sizes new.bytes after g runs.pass (replayed tree.lane_a) tree.c1)
+          pass = subst (λ (g : GuideState). IsPassOver runs.sizes new.bytes after g runs.pass (replayed tree.lane_a.entries) tree.c1)
               (sym (writes.others runs.tags.pass are.tags.pass_deep))
-              (pass_over_still (guide_at runs.guides runs.tags.pass) runs.pass (replayed tree.lane_a) tree.c1
+              (pass_over_still (guide_at runs.guides runs.tags.pass) runs.pass (replayed tree.lane_a.entries) tree.c1
               (keeps_other runs.sizes runs.tags.pass are.tags.pass_deep one_tag works.takes (λ told. works.effect.bytes honest))
               (pages_other runs.sizes runs.tags.c1 are.tags.c1_deep one_tag works.takes) are.pass_tag stand.are_of.c1 stand.are_of.pass);
           deep = subst (λ (g : GuideState). IsDeepOver runs.sizes new.bytes after g (Some next) tree.c1x tree.c2) (sym writes.here) took.2;

@@ -187,7 +187,7 @@ pub first_has : (runs : RunsState) (floor : Option Key) (key : Key) (tree : Tree
 first_has runs floor key tree file holds now guided = by floor
   where
     list : Entries
-    list = replayed tree.lane_a
+    list = replayed tree.lane_a.entries
 
     c1 : HasRecord runs.sizes runs.catalogue.c1 (guide_at runs.guides runs.tags.c1) key file (record_of_key key (entries_of tree.c1))
     c1 = component_has runs.sizes runs.catalogue.c1 (guide_at runs.guides runs.tags.c1) key tree.c1 file
@@ -211,13 +211,13 @@ first_has runs floor key tree file holds now guided = by floor
 
 -- What is left of the table has a record over what is asked first just as its list has over C1.
 pub rest_over : (floor : Option Key) (key : Key) (tree : Tree)
-    → over_any (record_of_key key (above floor (replayed tree.lane_a))) (first_record floor key tree)
-    ≡ over_any (record_of_key key (replayed tree.lane_a)) (record_of_key key (entries_of tree.c1))
+    → over_any (record_of_key key (above floor (replayed tree.lane_a.entries))) (first_record floor key tree)
+    ≡ over_any (record_of_key key (replayed tree.lane_a.entries)) (record_of_key key (entries_of tree.c1))
 rest_over floor key tree =
-    ap (λ (r : Option Rec). over_any r (first_record floor key tree)) (find-ahead floor (replayed tree.lane_a) key) ∙ by (is_above floor key)
+    ap (λ (r : Option Rec). over_any r (first_record floor key tree)) (find-ahead floor (replayed tree.lane_a.entries) key) ∙ by (is_above floor key)
   where
     a : Option Rec
-    a = record_of_key key (replayed tree.lane_a)
+    a = record_of_key key (replayed tree.lane_a.entries)
 
     c1 : Option Rec
     c1 = record_of_key key (entries_of tree.c1)

@@ -109,7 +109,7 @@ pub record DeepCommitted (runs : RunsState) (tree : Tree) (made : Component) (ne
 
 pub deep_becomes : {T E : Type 0} {result : Result T E} {old mid new : DiskState} (runs : RunsState) (tree : Tree) (made : Component) (next : Catalog)
     → IsFinished runs tree runs.tags.deep old mid → made ≡ made_by_deep runs.deep
-        → (list : HasList runs.sizes made (settled_entries (folded_over (entries_of tree.c1x) (entries_of tree.c2))) mid.bytes)
+    → (list : HasList runs.sizes made (settled_entries (folded_over (entries_of tree.c1x) (entries_of tree.c2))) mid.bytes)
     → AreTagged runs.space runs.tags.deep list.pages → Guide (filter_of runs runs.tags.deep) (fences_of_tag runs runs.tags.deep) list.pages → next ≡ with_deep_run made runs.catalogue
     → Switches runs.sizes runs.catalogue next result mid new → DeepCommitted runs tree made next (is_ok result) old mid new
 deep_becomes {old = old} {mid = mid} runs tree made next is made_is list tagged guided next_is switches =
@@ -135,7 +135,7 @@ deep_unswapped tree = record { version = refl; c1 = refl; c1x = refl; c2 = one_p
 -- the run and what its swap makes of the tree
 pub record PassCommitted (runs : RunsState) (tree : Tree) (b : Bool) (made : Component) (next : Catalog) (done : Bool)
     (old mid new : DiskState) : Type 0 where
-  pub list : HasList runs.sizes made (folded_over (replayed tree.lane_a) (entries_of tree.c1)) mid.bytes
+  pub list : HasList runs.sizes made (folded_over (replayed tree.lane_a.entries) (entries_of tree.c1)) mid.bytes
   pub tagged : AreTagged runs.space runs.tags.pass list.pages
   pub guided : Guide (filter_of runs runs.tags.pass) (fences_of_tag runs runs.tags.pass) list.pages
   pub output : List RunPage
@@ -145,7 +145,7 @@ pub record PassCommitted (runs : RunsState) (tree : Tree) (b : Bool) (made : Com
   pub becomes : Becomes runs.sizes tree (pass_tree b next list.pages output tree) done mid new
 
 pub pass_swapped : (b : Bool) (tree : Tree) (next : Catalog) (run output : List RunPage)
-    → entries_of run ≡ folded_over (replayed tree.lane_a) (entries_of tree.c1) → next.version ≡ tree.catalogue.version + 1
+    → entries_of run ≡ folded_over (replayed tree.lane_a.entries) (entries_of tree.c1) → next.version ≡ tree.catalogue.version + 1
     → IsPassSwapped b tree (pass_tree b next run output tree)
 pass_swapped b tree next run output h1 h2 = grind (arith, common_steps, nat_tests)
 
@@ -187,7 +187,7 @@ pub pass_becomes : {T E : Type 0} {result : Result T E} {old mid new : DiskState
     (next : Catalog) (b : Bool) → is_full runs.sizes (made_by_pass runs.pass) ≡ b
     → (b ≡ true → runs.deep ≡ None) → AreRoles runs.catalogue.lanes
     → IsFinished runs tree runs.tags.pass old mid → made ≡ made_by_pass runs.pass
-        → (list : HasList runs.sizes made (folded_over (replayed tree.lane_a) (entries_of tree.c1)) mid.bytes)
+    → (list : HasList runs.sizes made (folded_over (replayed tree.lane_a.entries) (entries_of tree.c1)) mid.bytes)
     → AreTagged runs.space runs.tags.pass list.pages → Guide (filter_of runs runs.tags.pass) (fences_of_tag runs runs.tags.pass) list.pages
     → next ≡ with_pass_run runs.sizes made (progress_of runs.catalogue runs.deep) runs.catalogue
     → Switches runs.sizes runs.catalogue next result mid new → PassCommitted runs tree b made next (is_ok result) old mid new
@@ -200,7 +200,7 @@ pass_becomes {old = old} {mid = mid} runs tree made next b full rests roles is m
     let named = named_for_pass runs tree b rests is roles in
     let output = named_pages b runs.sizes tree mid.bytes runs.space runs.tags.deep runs.deep progress named in
     let ready = ready_for_pass runs.sizes tree mid.bytes stands.0.reads (few_of_tree runs tree of is.few) b next made
-        (folded_over (replayed tree.lane_a) (entries_of tree.c1)) progress list suits
+    (folded_over (replayed tree.lane_a.entries) (entries_of tree.c1)) progress list suits
     (subst (λ (k : Catalog). next ≡ with_pass_run runs.sizes made progress k) (sym of.catalogue) next_is) (ap (λ (k : Component). is_full runs.sizes k) made_is ∙ full) (λ n has. run_others runs runs.tags.pass are (pass_is_run runs are) of n (tagged n has))
     runs.space runs.tags.deep runs.deep (not_of_deep runs list.pages are of tagged) named in
     record {

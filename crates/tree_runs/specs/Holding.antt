@@ -12,6 +12,7 @@ use Rattle.blsm_model.specs.Geometry.{c1_mark, file_length}
 use Rattle.blsm_model.specs.Lanes.{a_of, b_of, spare_of}
 use Rattle.blsm_model.specs.declared.key.Key.{Key}
 use Rattle.blsm_model.specs.declared.component.Component.{Component}
+use Rattle.gated_log.specs.Lane.{no_lane}
 use Rattle.catalog_swap.specs.declared.catalog.Catalog.{Catalog}
 use Rattle.catalog_swap.specs.declared.catalog.Progress.{Progress}
 use Rattle.record_delta.specs.Entries.{Entries, above, folded_over, replayed, settled_entries}
@@ -79,7 +80,7 @@ pub record AreOf (runs : RunsState) (tree : Tree) (file : List ℕ) : Type 0 whe
   pub c1 : AreTagged runs.space runs.tags.c1 tree.c1
   pub c1x : AreTagged runs.space runs.tags.c1x tree.c1x
   pub c2 : AreTagged runs.space runs.tags.c2 tree.c2
-  pub pass : IsPassOver runs.sizes file runs.space (guide_at runs.guides runs.tags.pass) runs.pass (replayed tree.lane_a) tree.c1
+  pub pass : IsPassOver runs.sizes file runs.space (guide_at runs.guides runs.tags.pass) runs.pass (replayed tree.lane_a.entries) tree.c1
   pub deep : IsDeepOver runs.sizes file runs.space (guide_at runs.guides runs.tags.deep) runs.deep tree.c1x tree.c2
   pub guided : AreGuided runs.guides runs.tags tree
   pub output : AreFinished runs.space runs.deep tree.output
@@ -151,11 +152,11 @@ pub record IsRotated (old new : Tree) : Type 0 where
 -- The pass's output, table A's list folded over C1, is C1; or it is C1', and C1 is empty. Lane B is lane A, and lane B is empty.
 pub record IsPassSwapped (rotates : Bool) (old new : Tree) : Type 0 where
   pub version : new.catalogue.version ≡ old.catalogue.version + 1
-  pub c1 : entries_of new.c1 ≡ (if rotates then [] else folded_over (replayed old.lane_a) (entries_of old.c1))
-  pub c1x : entries_of new.c1x ≡ (if rotates then folded_over (replayed old.lane_a) (entries_of old.c1) else entries_of old.c1x)
+  pub c1 : entries_of new.c1 ≡ (if rotates then [] else folded_over (replayed old.lane_a.entries) (entries_of old.c1))
+  pub c1x : entries_of new.c1x ≡ (if rotates then folded_over (replayed old.lane_a.entries) (entries_of old.c1) else entries_of old.c1x)
   pub c2 : new.c2 ≡ old.c2
   pub lane_a : new.lane_a ≡ old.lane_b
-  pub lane_b : new.lane_b ≡ []
+  pub lane_b : new.lane_b ≡ no_lane
 
 -- ---- where they write
 
@@ -244,7 +245,7 @@ cursor_of_deep (Some merge) = merge.at
 
 -- Above the pass's cursor this table has what the tree's list of table A has.
 abbrev pub HasAllAhead : Option SnowState → Entries → Tree → Type 0
-HasAllAhead pass table tree = above (cursor_of_pass pass) (replayed tree.lane_a) ≡ above (cursor_of_pass pass) table
+HasAllAhead pass table tree = above (cursor_of_pass pass) (replayed tree.lane_a.entries) ≡ above (cursor_of_pass pass) table
 
 -- The deep merge's run is C2 now: its tag is C2's, and the tag of the old C2 is free for the next run. Filters and fences go with their tags, so
 -- none of them moves.

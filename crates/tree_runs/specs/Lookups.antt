@@ -51,12 +51,12 @@ first_tag floor key runs = if is_above floor key then runs.tags.c1 else runs.tag
 abbrev pub first_record : Option Key → Key → Tree → Option Rec
 first_record floor key tree =
     if is_above floor key then record_of_key key (entries_of tree.c1)
-    else over_any (record_of_key key (replayed tree.lane_a)) (record_of_key key (entries_of tree.c1))
+    else over_any (record_of_key key (replayed tree.lane_a.entries)) (record_of_key key (entries_of tree.c1))
 
 -- In this file the finished pages are those of a pass over the tree's list of table A and its C1, up to the floor.
 pub record IsReleased (floor : Key) (runs : RunsState) (tree : Tree) (file : List ℕ) : Type 0 where
   pub floor_is : released_by runs.pass ≡ Some floor
-  pub over : IsPassOver runs.sizes file runs.space (guide_at runs.guides runs.tags.pass) runs.pass (replayed tree.lane_a) tree.c1
+  pub over : IsPassOver runs.sizes file runs.space (guide_at runs.guides runs.tags.pass) runs.pass (replayed tree.lane_a.entries) tree.c1
 
 -- the floor of this tree's table A: up to there what was dropped is on these pages, and where it has none nothing was
 abbrev pub IsFloorOf : Option Key → RunsState → Tree → List ℕ → Type 0

@@ -28,7 +28,7 @@ impl Runs {
         requires running { AreRunning (D.state disk.old).is_honest (D.state disk.old).bytes self.old }
         requires fits { Fits self.old a.now.entries }
         ensures told { TellsQuantum (HasAllAhead self.old.pass a.now.entries) (self.old.sizes.quantum / 7 + 2)
-            (λ tree n. PassTook self.old.sizes.quantum self.old.pass self.new.pass (replayed tree.lane_a) (entries_of tree.c1) n)
+            (λ tree n. PassTook self.old.sizes.quantum self.old.pass self.new.pass (replayed tree.lane_a.entries) (entries_of tree.c1) n)
             (PassMeetsDamage self.new.sizes self.new.pass) self.old self.new result (D.state disk.old) (D.state disk.new) }
         // It writes the page that was open, and pages that the run takes: none that was closed.
         ensures writes { Affects (region_of_pass self.old.sizes self.old.space self.new.space self.old.pass) (file_length self.old.sizes)

@@ -64,7 +64,7 @@ impl Runs {
 
         ensures lists { (tree : Tree) → IsTrue (D.state disk.old).is_honest → StandOver self.old tree (D.state disk.old)
             → (next : Tree) × IsDeepSwapped tree next × LeavesSwapped self.old self.new tree next (is_ok result) (D.state disk.old)
-                (D.state disk.new) }
+            (D.state disk.new) }
         ensures swaps { OnOk result (SwapsDeep self.old self.new) }
         ensures running { OnOk result (AreRunning (D.state disk.new).is_honest (D.state disk.new).bytes self.new) }
         ensures kept { OnErr result (self.new ≡ self.old) }
@@ -217,7 +217,7 @@ impl Runs {
         ensures lists { (tree : Tree) (run : List RunPage) (file : List ℕ) → HoldsTree self.old.sizes (with_components next tree.c1 [] run tree) file
             → AreTagged self.old.space self.old.tags.c1 tree.c1 → AreTagged self.old.space self.old.tags.deep run
             → IsGuidedBy (guide_at self.old.guides self.old.tags.c1) tree.c1 → IsGuidedBy (guide_at self.old.guides self.old.tags.deep) run
-            → IsPassOver self.old.sizes file self.old.space (guide_at self.old.guides self.old.tags.pass) self.old.pass (replayed tree.lane_a) tree.c1
+            → IsPassOver self.old.sizes file self.old.space (guide_at self.old.guides self.old.tags.pass) self.old.pass (replayed tree.lane_a.entries) tree.c1
             → AreOf self.new (with_components next tree.c1 [] run tree) file }
     {
         self.catalogue = next;

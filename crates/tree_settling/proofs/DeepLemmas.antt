@@ -1,6 +1,4 @@
 -- A deep merge that is gone on with to its end and swapped in.
-use Rattle.std.proofs.lemmas.Grind.{common_steps}
-use Rattle.std.proofs.lemmas.Bool.Decides.{nat_tests}
 use Rattle.std.proofs.Common.{◌≡◌, ◌∙◌, ◌+◌, ◌*◌, ◌≤◌, Bool, List, Option, refl, ap, sym, subst, arith}
 use Rattle.std.specs.Prelude.{IsTrue}
 use Rattle.disk_trait.specs.Disk.{DiskState}
@@ -17,7 +15,7 @@ use Rattle.deep_merge.specs.Merge.{DeepState}
 use Rattle.mem_table.specs.Tables.{Contents, IsWhole}
 use Rattle.tree_file.specs.Tree.{Tree, HoldsTree, FitsSizes}
 use Rattle.tree_file.specs.Places.{HoldsEither}
-use Rattle.tree_log.specs.Log.{LogState, IsLogOf, weight_of_tables}
+use Rattle.tree_log.specs.Log.{LogState, weight_of_tables}
 use Rattle.tree_runs.specs.Runs.{RunsState, AreRunning, left_for_deep, made_by_deep}
 use Rattle.tree_runs.specs.Holding.{IsDeepSwapped, LeavesSwapped, StandOver, SwapsDeep, with_deep_run}
 use Rattle.tree_settling.specs.Settling.{
@@ -36,6 +34,7 @@ use Rattle.tree_settling.specs.Settling.{
 use Rattle.tree_settling.proofs.LightLemmas.{light_unnamed}
 use Rattle.tree_settling.proofs.NextLemmas.{Follows, deep_follows}
 use Rattle.tree_settling.proofs.StepLemmas.{honest_still, kept_swapped, stays_long, table_of}
+use Rattle.tree_log.proofs.RestLemmas.{log_keeps}
 use Rattle.tree_settling.proofs.TakenLemmas.{goes_then}
 
 -- what is known of it once the swap has answered
@@ -49,10 +48,6 @@ pub record IsDeepSwap (done : Bool) (a : Contents) (runs mid new : RunsState) (l
       × LeavesSwapped mid new tree next done d after
   pub few : CallsFew (taking_calls runs.sizes (left_for_deep runs.deep)) before d
   pub effect : Affects anywhere (file_length mid.sizes) 9 d after
-
--- the log of a tree of the same lanes
-log_keeps : (old new : Tree) (log : LogState) → new.catalogue.lanes ≡ old.catalogue.lanes → new.lane_a ≡ old.lane_a → new.lane_b ≡ old.lane_b → IsLogOf old log → IsLogOf new log
-log_keeps old new log roles a b is = grind (arith, common_steps, nat_tests)
 
 module _ {done : Bool} {a : Contents} {runs mid new : RunsState} {log : LogState} {before d after : DiskState} (swap : IsDeepSwap done a runs mid new log before d after) where
   -- the disk still stands on the tree before the swap

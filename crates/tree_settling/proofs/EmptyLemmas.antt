@@ -1,5 +1,5 @@
 -- Tables without an entry, and their lanes.
-use Rattle.std.proofs.Common.{◌≡◌, ◌∙◌, ℕ, [], ◌∷◌, None, refl, ap, sym, arith, length}
+use Rattle.std.proofs.Common.{◌≡◌, ◌∙◌, [], ◌∷◌, None, refl, sym, arith}
 use Rattle.std.proofs.lemmas.Grind.{common_steps}
 use Rattle.std.proofs.lemmas.Bool.Decides.{nat_tests}
 use Rattle.std.specs.Prelude.{fold}
@@ -8,7 +8,7 @@ use Rattle.std.specs.FinMap.{put}
 use Rattle.std.specs.FinMap.Entries.{by_order}
 use Rattle.blsm_model.specs.declared.key.Key.{Key}
 use Rattle.blsm_model.specs.Keys.{key_cmp}
-use Rattle.gated_log.specs.Lane.{blocks}
+use Rattle.gated_log.specs.Lane.{Lane, no_lane, MayEnd}
 use Rattle.merge_ends.proofs.GroupLemmas.{weightless}
 use Rattle.record_delta.specs.declared.record.Rec.{Rec}
 use Rattle.record_delta.specs.Entries.{Entries, record_of_key, replayed, with_record}
@@ -16,7 +16,7 @@ use Rattle.record_delta.specs.Folding.{over}
 use Rattle.disk_trait.specs.Disk.{DiskState}
 use Rattle.tree_runs.specs.Runs.{RunsState}
 use Rattle.tree_settling.specs.Settling.{IsSettled, SettlesOn}
-use Rattle.tree_log.specs.Log.{LogState, IsRestOf, end_of_a, end_of_b, weight_of_tables}
+use Rattle.tree_log.specs.Log.{LogState, IsRestOf, weight_of_tables}
 use Rattle.tree_log.proofs.RestLemmas.{whole_list}
 
 pub empty_a : (log : LogState) → weight_of_tables log ≡ 0 → log.a.entries ≡ []
@@ -41,8 +41,8 @@ replays_to_none table (e ∷ lane) is = absurd (put_some e.0 (over e.1 (record_o
 empty_lane : (table lane : Entries) → table ≡ replayed lane → table ≡ [] → lane ≡ []
 empty_lane table lane is none = (replays_to_none [] lane (sym is ∙ none)).0
 
-ends_at_none : (end : ℕ) (lane : Entries) → end ≡ length (blocks lane) → lane ≡ [] → end ≡ 0
-ends_at_none end lane is none = is ∙ ap (λ (l : Entries). length (blocks l)) none
+no_entries : (lane : Lane) → MayEnd lane → lane.entries ≡ [] → lane ≡ no_lane
+no_entries lane may none = λ i. record { entries = none i; end = may none i }
 
 -- Where no deep merge runs and both tables are empty all is settled. Table A is what B was before the last pass, which was empty.
 pub is_settled : (old new : RunsState) (log log' : LogState) (d e : DiskState) → log.b.entries ≡ [] → SettlesOn old new log log' d e
@@ -59,7 +59,10 @@ is_settled old new log log' d e none on rests a b =
       deep = rests;
       a = empty;
       b = b;
-      end_a = ends_at_none (end_of_a log') lanes.lane_a is_of.end_a (none_a lanes.lane_a is_of.a);
-      end_b = ends_at_none (end_of_b log') lanes.lane_b is_of.end_b (empty_lane log'.b.entries lanes.lane_b is_of.b b);
-      lanes = λ tree is. (none_a tree.lane_a is.a, empty_lane log'.b.entries tree.lane_b is.b b);
+      end_a = is_of.end_a ∙ is_of.may_a (none_a lanes.lane_a.entries is_of.a);
+      end_b = is_of.end_b ∙ is_of.may_b (empty_lane log'.b.entries lanes.lane_b.entries is_of.b b);
+      lanes = λ tree is. (
+        no_entries tree.lane_a is.may_a (none_a tree.lane_a.entries is.a),
+        no_entries tree.lane_b is.may_b (empty_lane log'.b.entries tree.lane_b.entries is.b b),
+      );
     }

@@ -7,6 +7,7 @@ use Rattle.blsm_model.specs.declared.key.Key.{Key}
 use Rattle.blsm_model.specs.declared.row.Value.{Value}
 use Rattle.record_delta.specs.Entries.{Entries, entries_weight, folded_over, replayed, settled_entries}
 use Rattle.record_delta.specs.Replays.{ReplaysWithin}
+use Rattle.gated_log.specs.Lane.{Lane, no_lane}
 use Rattle.page_file.specs.Component.{RunPage, entries_of}
 use Rattle.tree_file.specs.Tree.{Tree, HoldsTree, FitsSizes, ReadsAsMap, components_weight, lists_of, map_of_tree}
 use Rattle.tree_file.proofs.ListLemmas.{lists_sorted}
@@ -64,9 +65,9 @@ deep_follows sizes old new file holds fits swapped = record {
   fits = record {
     mark = omega (arith, ap (λ (ps : List RunPage). entries_weight (entries_of ps)) swapped.c1, fits.mark);
     full = omega (arith, light, fits.full);
-    replays = subst (λ (l : Entries). ReplaysWithin sizes (components_weight new) l new.lane_b) (sym swapped.lane_a)
-        (subst (λ (l : Entries). ReplaysWithin sizes (components_weight new) old.lane_a l) (sym swapped.lane_b)
-        (replays_lighter sizes (components_weight old) (components_weight new) old.lane_a old.lane_b light fits.replays));
+    replays = subst (λ (l : Lane). ReplaysWithin sizes (components_weight new) l.entries new.lane_b.entries) (sym swapped.lane_a)
+        (subst (λ (l : Lane). ReplaysWithin sizes (components_weight new) old.lane_a.entries l.entries) (sym swapped.lane_b)
+        (replays_lighter sizes (components_weight old) (components_weight new) old.lane_a.entries old.lane_b.entries light fits.replays));
   };
   map_is =
       ap map_in lists_are
@@ -79,7 +80,13 @@ deep_follows sizes old new file holds fits swapped = record {
     five = five_lists sizes old file holds
 
     lists_are : lists_of new ≡ merged (lists_of old)
-    lists_are = λ i. record { b = replayed (swapped.lane_b i); a = replayed (swapped.lane_a i); c1 = entries_of (swapped.c1 i); c1x = entries_of (swapped.c1x i); c2 = swapped.c2 i }
+    lists_are = λ i. record {
+      b = replayed (swapped.lane_b i).entries;
+      a = replayed (swapped.lane_a i).entries;
+      c1 = entries_of (swapped.c1 i);
+      c1x = entries_of (swapped.c1x i);
+      c2 = swapped.c2 i;
+    }
 
     light : components_weight new ≤ components_weight old
     light =
@@ -99,45 +106,66 @@ passed lists = record { b = []; a = lists.b; c1 = folded_over lists.a lists.c1; 
 
 -- It is C1's place or that of C1', which is empty, that the fold of table A over C1 takes: C1's only where it is below the mark.
 pub pass_follows : (rotates : Bool) (sizes : Sizes) (old new : Tree) (file : List ℕ) → HoldsTree sizes old file → FitsSizes sizes old → old.c1x ≡ []
-    → (rotates ≡ false → entries_weight (folded_over (replayed old.lane_a) (entries_of old.c1)) < c1_mark sizes) → IsPassSwapped rotates old new
-        → Follows sizes old new
+    → (rotates ≡ false → entries_weight (folded_over (replayed old.lane_a.entries) (entries_of old.c1)) < c1_mark sizes) → IsPassSwapped rotates old new
+    → Follows sizes old new
 pass_follows rotates sizes old new file holds fits none below swapped = by rotates below swapped
   where
     five : AreFive (lists_of old)
     five = five_lists sizes old file holds
 
-    light_fold : entries_weight (folded_over (replayed old.lane_a) (entries_of old.c1)) ≤ entries_weight (replayed old.lane_a) + entries_weight (entries_of old.c1)
-    light_fold = weight_folded (replayed old.lane_a) (entries_of old.c1) five.c1
+    light_fold : entries_weight (folded_over (replayed old.lane_a.entries) (entries_of old.c1)) ≤ entries_weight
+        (replayed old.lane_a.entries) + entries_weight (entries_of old.c1)
+    light_fold = weight_folded (replayed old.lane_a.entries) (entries_of old.c1) five.c1
 
-    room : components_weight old + entries_weight (replayed old.lane_a) ≤ capacity sizes
+    room : components_weight old + entries_weight (replayed old.lane_a.entries) ≤ capacity sizes
     room = omega (arith, fits.replays.full_b 0)
 
     same : map_in (passed (lists_of old)) ≡ map_of_tree old
     same =
-        same_map (lists_of old) (passed (lists_of old)) five (record { b = refl; a = five.b; c1 = sorted_folded_over (replayed old.lane_a) (entries_of old.c1) five.c1; c1x = refl; c2 = five.c2 })
+        same_map (lists_of old) (passed (lists_of old)) five
+        (record {
+          b = refl;
+          a = five.b;
+          c1 = sorted_folded_over (replayed old.lane_a.entries) (entries_of old.c1) five.c1;
+          c1x = refl;
+          c2 = five.c2;
+        })
         (pass_values (lists_of old) five (ap entries_of none))
 
-    replays : {lane_a lane_b : Entries} → lane_a ≡ old.lane_b → lane_b ≡ [] → components_weight new ≤ components_weight old + entries_weight (replayed old.lane_a)
-        → ReplaysWithin sizes (components_weight new) lane_a lane_b
+    replays : {lane_a lane_b : Lane} → lane_a ≡ old.lane_b → lane_b ≡ no_lane
+        → components_weight new ≤ components_weight old + entries_weight (replayed old.lane_a.entries)
+        → ReplaysWithin sizes (components_weight new) lane_a.entries lane_b.entries
     replays {lane_a} {lane_b} is_a is_b light =
-        subst (λ (l : Entries). ReplaysWithin sizes (components_weight new) l lane_b) (sym is_a)
-        (subst (λ (l : Entries). ReplaysWithin sizes (components_weight new) old.lane_b l) (sym is_b)
-        (replays_turned sizes (components_weight old) (components_weight new) old.lane_a old.lane_b light fits.replays))
+        subst (λ (l : Lane). ReplaysWithin sizes (components_weight new) l.entries lane_b.entries) (sym is_a)
+        (subst (λ (l : Lane). ReplaysWithin sizes (components_weight new) old.lane_b.entries l.entries) (sym is_b)
+        (replays_turned sizes (components_weight old) (components_weight new) old.lane_a.entries old.lane_b.entries light fits.replays))
 
-    by : (b : Bool) → (b ≡ false → entries_weight (folded_over (replayed old.lane_a) (entries_of old.c1)) < c1_mark sizes) → IsPassSwapped b old new
+    by : (b : Bool) → (b ≡ false → entries_weight (folded_over (replayed old.lane_a.entries) (entries_of old.c1)) < c1_mark sizes) → IsPassSwapped b old new
         → Follows sizes old new
     by true below swapped =
-        let light : components_weight new ≤ components_weight old + entries_weight (replayed old.lane_a) =
+        let light : components_weight new ≤ components_weight old + entries_weight (replayed old.lane_a.entries) =
         omega (arith, ap entries_weight swapped.c1, ap entries_weight swapped.c1x, ap (λ (ps : List RunPage). entries_weight (entries_of ps)) swapped.c2, light_fold) in
         record {
           fits = record { mark = omega (arith, ap entries_weight swapped.c1, fits.mark); full = omega (arith, light, room); replays = replays swapped.lane_a swapped.lane_b light };
-          map_is = (λ i. map_in (record { b = replayed (swapped.lane_b i); a = replayed (swapped.lane_a i); c1 = swapped.c1 i; c1x = swapped.c1x i; c2 = entries_of (swapped.c2 i) })) ∙ same;
+          map_is = (λ i. map_in (record {
+            b = replayed (swapped.lane_b i).entries;
+            a = replayed (swapped.lane_a i).entries;
+            c1 = swapped.c1 i;
+            c1x = swapped.c1x i;
+            c2 = entries_of (swapped.c2 i);
+          })) ∙ same;
         }
     by false below swapped =
-        let light : components_weight new ≤ components_weight old + entries_weight (replayed old.lane_a) =
+        let light : components_weight new ≤ components_weight old + entries_weight (replayed old.lane_a.entries) =
         omega (arith, ap entries_weight swapped.c1, ap entries_weight swapped.c1x, ap (λ (ps : List RunPage). entries_weight (entries_of ps)) swapped.c2, light_fold) in
         let empty : entries_of new.c1x ≡ [] = swapped.c1x ∙ ap entries_of none in
         record {
           fits = record { mark = omega (arith, ap entries_weight swapped.c1, below refl); full = omega (arith, light, room); replays = replays swapped.lane_a swapped.lane_b light };
-          map_is = (λ i. map_in (record { b = replayed (swapped.lane_b i); a = replayed (swapped.lane_a i); c1 = swapped.c1 i; c1x = empty i; c2 = entries_of (swapped.c2 i) })) ∙ same;
+          map_is = (λ i. map_in (record {
+            b = replayed (swapped.lane_b i).entries;
+            a = replayed (swapped.lane_a i).entries;
+            c1 = swapped.c1 i;
+            c1x = empty i;
+            c2 = entries_of (swapped.c2 i);
+          })) ∙ same;
         }

@@ -14,6 +14,7 @@ use Rattle.blsm_model.specs.Lanes.{AreRoles, a_of, b_of, spare_of}
 use Rattle.blsm_model.specs.declared.component.Component.{Component}
 use Rattle.blsm_model.specs.declared.key.Key.{Key}
 use Rattle.blsm_model.specs.declared.row.Value.{Value}
+use Rattle.gated_log.specs.Lane.{no_lane}
 use Rattle.catalog_swap.specs.declared.catalog.Catalog.{Catalog}
 use Rattle.deep_merge.specs.Merge.{DeepState, started as deep_started}
 use Rattle.mem_table.specs.Tables.{Contents, IsWhole}
@@ -169,8 +170,8 @@ module _ {done : Bool} {memory : ℕ} {a : Contents} {runs begun mid new : RunsS
       let over = over_mid pairs honest shows in
       let is = is_table pairs shows in
       let x = swap.lists shows.tree (honest_still swap.goes.effect honest) over (ap (above (cursor_of_pass mid.pass)) is) in
-      let weighs : entries_weight (folded_over (replayed shows.tree.lane_a) (entries_of shows.tree.c1)) ≡ (made_by_pass mid.pass).weight =
-      pass_weighs mid.sizes mid (guide_at mid.guides mid.tags.pass) mid.pass (replayed shows.tree.lane_a) shows.tree.c1 d.bytes swap.some
+      let weighs : entries_weight (folded_over (replayed shows.tree.lane_a.entries) (entries_of shows.tree.c1)) ≡ (made_by_pass mid.pass).weight =
+      pass_weighs mid.sizes mid (guide_at mid.guides mid.tags.pass) mid.pass (replayed shows.tree.lane_a.entries) shows.tree.c1 d.bytes swap.some
       (ap (left_for_pass mid.pass) is ∙ swap.none) over.are_of.pass in
       let empty : shows.tree.c1x ≡ [] = subst (λ (o : Option DeepState). IsDeepOver mid.sizes d.bytes mid.space (guide_at mid.guides mid.tags.deep) o shows.tree.c1x shows.tree.c2) rests_still over.are_of.deep in (
         x.0,
@@ -188,7 +189,7 @@ module _ {done : Bool} {memory : ℕ} {a : Contents} {runs begun mid new : RunsS
         let left = x.2 in
         kept_swapped runs.sizes shows.tree x.0 pairs before d after shows.fits shows.map_is x.3
         (subst (λ (s : Sizes). LeavesOnly before d (HoldsTree s shows.tree)) (ap (λ (r : RunsState). r.sizes) swap.begins)
-            (swap.goes.leaves shows.tree honest (is_table pairs shows)
+        (swap.goes.leaves shows.tree honest (is_table pairs shows)
         (over_begun pairs shows)))
         (subst (λ (s : Sizes). LeavesOnly d after (HoldsEither s shows.tree x.0)) same_sizes left.each)
         (subst (λ (s : Sizes). HoldsEither s shows.tree x.0 after.bytes) same_sizes left.either.reads);
@@ -207,7 +208,8 @@ module _ {done : Bool} {memory : ℕ} {a : Contents} {runs begun mid new : RunsS
 
   -- the log turns with the tree
   pub pass_shows : (log' : LogState) → IsTrue done → SwapsPass mid new
-      → ((tree next : Tree) → TurnsRoles tree.catalogue next.catalogue → next.lane_a ≡ tree.lane_b → next.lane_b ≡ [] → IsLogOf tree log → IsLogOf next log')
+      → ((tree next : Tree) → TurnsRoles tree.catalogue next.catalogue → next.lane_a ≡ tree.lane_b → next.lane_b ≡ no_lane → IsLogOf tree log
+      → IsLogOf next log')
       → (pairs : List (Key × Value)) → IsTrue before.is_honest → ShowsMap runs log pairs before → ShowsMap new log' pairs after
   pass_shows log' well swaps turns pairs honest shows =
       let x = next_of pairs honest shows in
@@ -251,12 +253,13 @@ module _ {done : Bool} {memory : ℕ} {a : Contents} {runs begun mid new : RunsS
       )
 
   pub pass_may : (log' : LogState) → MaySettle runs log before → SwapsPass mid new
-      → ((tree next : Tree) → TurnsRoles tree.catalogue next.catalogue → next.lane_a ≡ tree.lane_b → next.lane_b ≡ [] → IsLogOf tree log → IsLogOf next log')
+      → ((tree next : Tree) → TurnsRoles tree.catalogue next.catalogue → next.lane_a ≡ tree.lane_b → next.lane_b ≡ no_lane → IsLogOf tree log
+      → IsLogOf next log')
       → log' ≡ turned_log log → AreRunning after.is_honest after.bytes new → MaySettle new log' after
   pass_may log' may swaps turns turned running =
       let sizes : new.sizes ≡ runs.sizes = swaps.sizes ∙ same_sizes in
       let catalogue : new.catalogue ≡ with_pass_run mid.sizes (made_by_pass mid.pass) None runs.catalogue = next_catalogue swaps in
-      let next : Tree = record may.begun.lanes { catalogue = new.catalogue; lane_a = may.begun.lanes.lane_b; lane_b = [] } in
+      let next : Tree = record may.begun.lanes { catalogue = new.catalogue; lane_a = may.begun.lanes.lane_b; lane_b = no_lane } in
       record {
         running = running;
         long = stays_long runs.sizes new.sizes sizes may.long (pass_leaves).effect;

@@ -169,7 +169,7 @@ step_faulted mid calm failed rises leaves = record {
 -- a whole table has all of its list
 pub table_of : (tree : Tree) (log : LogState) (a : Contents) → a ≡ log.a → IsWhole log.a → IsLogOf tree log → IsTableOf a.entries tree
 table_of tree log a same whole is =
-    sym (ap (λ (t : Contents). t.entries) same ∙ whole_list (replayed tree.lane_a) log.a whole is.a)
+    sym (ap (λ (t : Contents). t.entries) same ∙ whole_list (replayed tree.lane_a.entries) log.a whole is.a)
 
 -- its merge failed, which began over the trees of these components
 pub step_untaken : {a : Contents} {weight : ℕ} {runs begun mid runs' : RunsState} {log log' : LogState} {e : Broken}

@@ -123,7 +123,7 @@ left_standing {d = d} after so_far stands tree honest is over =
 pub more : {most n : ℕ} {lent : Tree → Type 0} {took : Tree → ℕ → Type 0} {is_damage : ℕ → List ℕ → Type 0} {a : Entries} {old mid new : RunsState}
     {before d after : DiskState} → IsTimed d → MergesGoOn a old mid before d
     → ((tree : Tree) → IsTableOf a tree → lent tree) → TellsQuantum lent most took is_damage mid new (Ok n) d after → new.sizes ≡ mid.sizes
-        → new.catalogue ≡ mid.catalogue → due_to_pass new a ≤ due_to_pass mid a → due_to_deep new ≤ due_to_deep mid
+    → new.catalogue ≡ mid.catalogue → due_to_pass new a ≤ due_to_pass mid a → due_to_deep new ≤ due_to_deep mid
     → MergesGoOn a old new before after
 more {most} {n} {after = after} timed so_far lends told sizes catalogue pass deep = record {
   running = told.running;
@@ -158,18 +158,18 @@ pub took_less : {most : ℕ} {lent : Tree → Type 0} {took : Tree → ℕ → T
     {result : Result ℕ Broken} (weight first left : ℕ) → IsTimed d → MergesGoOn a old mid before d → CallsSoFar old.sizes first left before d →
     left ≢ 0 → first ≤ weight → QuantumFits old.sizes
     → ((tree : Tree) → IsTableOf a tree → lent tree) → TellsQuantum lent most took is_damage mid new inner d after → most ≤ mid.sizes.quantum / 4 + 3
-        → inner ≡ Err e → IsErrAnd result
+    → inner ≡ Err e → IsErrAnd result
     (λ (x : Broken). x ≡ e) → TakesAll a weight old new result before after
 took_less {most} {old = old} {mid} {before = before} {d} {after} weight first left timed so_far calls some within fits lends told few was failed
     = record {
-  keeps = left_standing after so_far told.stands;
-  ends = λ tree honest is over. ends_then was failed
-      (λ other. let got = told.lists tree (honest_still so_far.effect honest) (so_far.stands tree honest is over)
+      keeps = left_standing after so_far told.stands;
+      ends = λ tree honest is over. ends_then was failed
+          (λ other. let got = told.lists tree (honest_still so_far.effect honest) (so_far.stands tree honest is over)
           (lends tree is) other in (got.0, got.1));
-  goes_on = on_failed _ (is_err failed);
-  effect =
-      affects_counted (calls_failed old.sizes weight first left most before d after calls some told.effect.calls
-      (quantum_few old.sizes mid.sizes most so_far.sizes fits few).1 within)
-      (goes_then timed so_far told.effect);
-  faults = told_then so_far.calm was failed told.faults;
-}
+      goes_on = on_failed _ (is_err failed);
+      effect =
+          affects_counted (calls_failed old.sizes weight first left most before d after calls some told.effect.calls
+          (quantum_few old.sizes mid.sizes most so_far.sizes fits few).1 within)
+          (goes_then timed so_far told.effect);
+      faults = told_then so_far.calm was failed told.faults;
+    }

@@ -9,6 +9,7 @@ use Rattle.blsm_model.specs.Geometry.{c1_mark, capacity, file_length, high_mark}
 use Rattle.blsm_model.specs.Lanes.{AreRoles}
 use Rattle.blsm_model.specs.declared.key.Key.{Key}
 use Rattle.blsm_model.specs.declared.row.Value.{Value}
+use Rattle.gated_log.specs.Lane.{no_lane}
 use Rattle.catalog_swap.specs.declared.catalog.Catalog.{Catalog}
 use Rattle.catalog_swap.specs.declared.catalog.Progress.{Progress}
 use Rattle.page_file.specs.declared.file.Broken.{Broken}
@@ -66,7 +67,7 @@ due_to_deep runs = (made_by_deep runs.deep).weight + left_for_deep runs.deep
 
 -- the table has all of the tree's list of table A
 abbrev pub IsTableOf : Entries → Tree → Type 0
-IsTableOf a tree = replayed tree.lane_a ≡ a
+IsTableOf a tree = replayed tree.lane_a.entries ≡ a
 
 -- Merges went on by quanta, each of which went well: over each tree that stood, in each image of each moment. Neither's run weighs more, with
 -- what is left for it, than it did.
@@ -172,4 +173,4 @@ pub record IsSettled (runs : RunsState) (log : LogState) : Type 0 where
   pub b : log.b.entries ≡ []
   pub end_a : end_of_a log ≡ 0
   pub end_b : end_of_b log ≡ 0
-  pub lanes : (tree : Tree) → IsLogOf tree log → (tree.lane_a ≡ []) × (tree.lane_b ≡ [])
+  pub lanes : (tree : Tree) → IsLogOf tree log → (tree.lane_a ≡ no_lane) × (tree.lane_b ≡ no_lane)

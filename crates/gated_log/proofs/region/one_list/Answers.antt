@@ -5,7 +5,7 @@ pub returns-clause-same : goal.returns-clause-same
 returns-clause-same c = one_list
 
 pub returns-clause-next : goal.returns-clause-next
-returns-clause-next c = λ sizes lane es rest e file has front. next_entry sizes lane es rest e file has front
+returns-clause-next c = next_entry
 
 pub returns-clause-not_damaged : goal.returns-clause-not_damaged
-returns-clause-not_damaged c = λ sizes lane entries file has damaged. not_damaged sizes lane entries damaged.0 file has damaged.1
+returns-clause-not_damaged c = λ sizes n lane file has damaged. not_damaged sizes n lane damaged.0 file has damaged.1

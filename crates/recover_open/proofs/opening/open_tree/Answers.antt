@@ -91,7 +91,7 @@ stands g c = λ honest.
     let holds = c.in_ok-found.ensures.holds honest in
     let over =
     subst (λ (file : List ℕ). (holds : HoldsFound f file) → IfOk c.settle_found.result
-        (λ begun. StandsEmpty begun.runs holds.tree (g.D.Disk.state c.settle_found.new.disk)))
+    (λ begun. StandsEmpty begun.runs holds.tree (g.D.Disk.state c.settle_found.new.disk)))
     (c.read_synced.ensures.same honest) (λ now. (told g c honest now).stands) in
     stands_as c.settle_found.result f f.catalogue.version _ _ holds c.in_ok-found.ensures.found.head.version c.settle_found.ensures.ready
     (over holds)

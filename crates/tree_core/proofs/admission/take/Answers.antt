@@ -200,7 +200,7 @@ returns-in-Ok-clause-lists g c = λ opening m honest stands runs may fits met.
           c.in-Ok.ensures.is_of)
           (at_write (λ (k : Key) (r : Rec). (tree : Tree) → IsTrue last.is_honest → IsLogOf tree begun.log → StandOver begun.runs tree last
           → StandOver c.write.new.self.runs (appended (goes_ahead k begun) (k, r) tree) after) key c.args.key.now rec c.args.rec.now
-              c.requires.spelled.key_is c.requires.spelled.rec_is
+          c.requires.spelled.key_is c.requires.spelled.rec_is
           (λ tree here of_log over. (c.in-Ok.ensures.becomes tree here of_log over).1)),
       done_leaves opening old m before begins settled mid has c.args.seat c.args.op.now (written_by c.args.op.now) takes ready begun last then after appends,
     )

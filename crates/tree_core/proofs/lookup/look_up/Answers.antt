@@ -42,7 +42,7 @@ none_is (Some other) is = cc
 -- an answer that was found is what was told
 told_is : (found : Lookup) (key : Key) (held : Held) (before after : DiskState) (rec : Option Rec) → IsFound found → reply_to_get found ≡ answer_to_get (settled rec) → held.book.stopped ≡ None → after.faults ≡ before.faults
     → (IsTrue before.is_honest → AreToldBy held.runs.sizes key before.bytes (from_newest held.log.a.floor key held.runs) (newest_in key held) rec)
-        → FindsBecause found key held before after
+    → FindsBecause found key held before after
 told_is (lookup.Is value) key held before after rec is_found is ran same told = (ran, same, λ honest. (rec, told honest, value_is value (settled rec) is))
 told_is lookup.Absent key held before after rec is_found is ran same told = (ran, same, λ honest. (rec, told honest, none_is (settled rec) is))
 told_is lookup.Fault key held before after rec is_found is ran same told = absurd is_found
@@ -64,10 +64,10 @@ returns-in-Ok-clause-cause g c =
     told_is c.answer.result c.args.key.now held before (g.D.Disk.state c.find.new.disk) c.find.new.found c.answer.ensures.is_found c.answer.ensures.reply (sym c.in_default.ensures)
     (c.in-Ok.ensures.reads.stands (no_fault c.in-Ok.field-0))
     (λ honest. subst (λ (f : Option Key). AreToldBy held.runs.sizes key before.bytes (from_newest f key held.runs)
-        (newest_in key held) c.find.new.found)
+    (newest_in key held) c.find.new.found)
     (c.floor-floor.ensures.floor ∙ ap (λ (t : Contents). t.floor) c.a.ensures)
     (subst (λ (n : Option Rec). AreToldBy held.runs.sizes key before.bytes (from_newest c.floor-floor.result.now key held.runs) n c.find.new.found)
-        c.get-found.ensures
+    c.get-found.ensures
     (c.in-Ok.ensures.told honest)))
 
 pub returns-in-Err-Damaged-clause-cause : goal.returns-in-Err-Damaged-clause-cause
@@ -80,10 +80,10 @@ returns-in-Err-Damaged-clause-cause g c =
     (damaged_is c.in-Err-Damaged.page c.args.key.now held before after (sym c.in_default.ensures)
     (c.in-Err-Damaged.ensures.reads.stands (λ same. cc (same, c.in-Err-Damaged.field-0-is)))
     (λ honest. subst (λ (f : Option Key). IsDamageBelow held.runs.sizes key before.bytes (from_newest f key held.runs)
-        (newest_in key held) c.in-Err-Damaged.page)
+    (newest_in key held) c.in-Err-Damaged.page)
     (c.floor-floor.ensures.floor ∙ ap (λ (t : Contents). t.floor) c.a.ensures)
     (subst (λ (n : Option Rec). IsDamageBelow held.runs.sizes key before.bytes
-        (from_newest c.floor-floor.result.now key held.runs) n c.in-Err-Damaged.page) c.get-found.ensures
+    (from_newest c.floor-floor.result.now key held.runs) n c.in-Err-Damaged.page) c.get-found.ensures
     (c.in-Err-Damaged.ensures.damaged c.in-Err-Damaged.page (cc c.in-Err-Damaged.field-0-is) honest))))
 
 pub returns-in-Ok-clause-value : goal.returns-in-Ok-clause-value
@@ -92,16 +92,16 @@ returns-in-Ok-clause-value g c = λ tree honest holds catalogue guided dropped r
     let key = c.args.key.now in
     let below = λ (f : Option Key).
     over_any (first_record f key tree) (over_any (record_of_key key (entries_of tree.c1x))
-        (record_of_key key (entries_of tree.c2))) in
+    (record_of_key key (entries_of tree.c2))) in
     let is = c.floor-floor.ensures.floor ∙ ap (λ (t : Contents). t.floor) c.a.ensures in
     let found = same_record c.find.new.found (over_any c.get-found.result (below c.floor-floor.result.now))
     (c.in-Ok.ensures.lists tree honest holds catalogue guided
     (subst (λ (f : Option Key). IsFloorOf f held.runs tree (g.D.Disk.state c.args.disk.now).bytes) (sym is) dropped)
-        (no_fault c.in-Ok.field-0)) in
+    (no_fault c.in-Ok.field-0)) in
     c.answer.ensures.reply
     ∙ ap (λ (r : Option Rec). answer_to_get (settled r))
     (found ∙ ap (λ (n : Option Rec). over_any n (below c.floor-floor.result.now)) c.get-found.ensures
-        ∙ ap (λ (f : Option Key). over_any (newest_in key held) (below f)) is)
+    ∙ ap (λ (f : Option Key). over_any (newest_in key held) (below f)) is)
 
 pub returns-in-Err-Damaged-clause-value : goal.returns-in-Err-Damaged-clause-value
 returns-in-Err-Damaged-clause-value g c = λ tree honest holds catalogue guided dropped runs not.

@@ -49,8 +49,8 @@ returns-in-SwapPass-clause-lists g c = λ tree honest over ahead.
       x.0,
       subst (λ (ch : Choice). LeavesMoved (move_of ch) c.no_quantum-in-SwapPass.result old new tree x.0 before after) (sym c.in-SwapPass.is)
           (swap_left c.swap_pass.result c.no_quantum-in-SwapPass.result pacing.SwapPass old new tree x.0 before after
-              c.no_quantum-in-SwapPass.ensures x.1 x.2 (on_pair c.swap_pass.result (IsPassSwapped (is_run_full old) tree x.0)
-              (TurnsLog old.log new.log) x.1 c.swap_pass.ensures.turns)),
+          c.no_quantum-in-SwapPass.ensures x.1 x.2 (on_pair c.swap_pass.result (IsPassSwapped (is_run_full old) tree x.0)
+          (TurnsLog old.log new.log) x.1 c.swap_pass.ensures.turns)),
     )
 
 pub returns-in-SwapPass-clause-moves : goal.returns-in-SwapPass-clause-moves

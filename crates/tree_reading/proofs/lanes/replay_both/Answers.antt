@@ -39,9 +39,11 @@ returns-in_err-end_b-clause-damaged g c = λ honest n is.
     let room = c.room_for-room.result - c.weight.result in
     let damage = lane_damage sizes _ room c.replay_lane-2.new.table.entries mid.is_honest mid.bytes n (named_by c.from_residual-in_err-end_b.ensures.1 is) c.in_err-end_b.ensures.tells in
     let honest' : IsTrue mid.is_honest = c.replay_lane.ensures.effect.effect.goes_on.is_honest ∙ honest in
-    in_b damage.0 told.0 (told.2 honest) (subst (λ k. StaysWithin k told.0) c.room_for-room.ensures.room told.1.within)
-    (subst (λ (b : List ℕ). IsDamagedLane sizes n (room_for_b sizes (catalogue_weight c.args.head.now.catalogue) told.0) b) (only_reads_same c.replay_lane.ensures.effect honest)
-    (subst₂ (λ lane r. IsDamagedLane sizes lane r mid.bytes) (sym damage.0) (room_b g (goal.at.returns-in_err-end_b-clause-damaged g c).After-replay_lane-2 told.0 told.1.table_is) (damage.1 honest')))
+    in_b damage.0 told.0 (told.2 honest) (subst (λ k. StaysWithin k told.0.entries) c.room_for-room.ensures.room told.1.within)
+    (subst (λ (b : List ℕ). IsDamagedLane sizes n (room_for_b sizes (catalogue_weight c.args.head.now.catalogue) told.0.entries) b)
+    (only_reads_same c.replay_lane.ensures.effect honest)
+    (subst₂ (λ lane r. IsDamagedLane sizes lane r mid.bytes) (sym damage.0)
+    (room_b g (goal.at.returns-in_err-end_b-clause-damaged g c).After-replay_lane-2 told.0.entries told.1.table_is) (damage.1 honest')))
 
 pub returns-in_err-end_b-clause-faults : goal.returns-in_err-end_b-clause-faults
 returns-in_err-end_b-clause-faults g c =
@@ -62,7 +64,7 @@ returns-clause-replayed g c =
       lane_b = two.0;
       a_is = subst (λ k. IsReplayed sizes k one.0 c.replay_lane.new.table.entries c.in_ok-end_a.end_a) c.room_for-room.ensures.room one.1;
       b_is = subst (λ k. IsReplayed sizes k two.0 c.replay_lane-2.new.table.entries c.in_ok-end_b.end_b)
-          (room_b g (goal.at.returns-clause-replayed g c).After-replay_lane-2 one.0 one.1.table_is) two.1;
+          (room_b g (goal.at.returns-clause-replayed g c).After-replay_lane-2 one.0.entries one.1.table_is) two.1;
       has_a = one.2;
       has_b = λ honest. subst (λ (b : List ℕ). HasEntries sizes (b_of c.args.head.now.catalogue.lanes) two.0 b) (only_reads_same effect honest) (two.2 (effect.effect.goes_on.is_honest ∙ honest));
     }

@@ -46,9 +46,9 @@ take_pass-requires-clause-fits g c = begun_fits c.weight_of_a.result c.args.runs
 pub returns-in_err-quanta-clause-step : goal.returns-in_err-quanta-clause-step
 returns-in_err-quanta-clause-step g c =
     step_untaken c.in_err-quanta.was c.from_residual.ensures.1 c.a-a.ensures c.requires.may.begun.whole_a
-        (ap (λ (r : RunsState). r.sizes) c.begin_pass.ensures.begun)
+    (ap (λ (r : RunsState). r.sizes) c.begin_pass.ensures.begun)
     (λ tree over. begun_over c.weight_of_a.result c.args.runs.now c.begin_pass.new.self tree
-        (g.D.Disk.state c.args.disk.now) c.begin_pass.ensures.begun c.begin_pass.ensures.lists over)
+    (g.D.Disk.state c.args.disk.now) c.begin_pass.ensures.begun c.begin_pass.ensures.lists over)
     c.take_pass.ensures.takes
     (omega (
       arith,

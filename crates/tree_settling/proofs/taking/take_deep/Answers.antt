@@ -43,7 +43,7 @@ loop-runs-preserved g c =
       pass = c.deep_quantum.ensures.others.pass ∙ c.loop-runs.invariant.pass;
       goes_on =
           more (g.met.D.Disk.timed c.loop-runs.disk) c.loop-runs.invariant.goes_on
-              (λ tree is. tt) c.in_ok-deep_quantum.ensures.told c.deep_quantum.ensures.others.sizes c.deep_quantum.ensures.others.catalogue
+          (λ tree is. tt) c.in_ok-deep_quantum.ensures.told c.deep_quantum.ensures.others.sizes c.deep_quantum.ensures.others.catalogue
           (rested (λ (o : Option SnowState). (made_by_pass o).weight + left_for_pass o c.args.a.now.entries) c.deep_quantum.ensures.others.pass) took.0;
       calls =
           calls_more c.args.runs.now.sizes (left_for_deep c.args.runs.now.deep) (left_for_deep c.loop-runs.runs.deep) (left_for_deep c.deep_quantum.new.self.deep) c.in_ok-deep_quantum.field-0 (c.loop-runs.runs.sizes.quantum / 4 + 3) c.loop-runs.runs.sizes.quantum (g.D.Disk.state c.args.disk.now) (g.D.Disk.state c.loop-runs.disk) (g.D.Disk.state c.deep_quantum.new.disk)
@@ -73,7 +73,7 @@ returns-in_err-deep_quantum-clause-takes g c =
     (g.met.D.Disk.timed c.loop-runs.disk) inv.goes_on inv.calls
     (still_left c.is_deep_done.result (left_for_deep c.loop-runs.runs.deep) c.loop-runs-test.true c.is_deep_done.ensures inv.runs) (omega arith)
     c.requires.running.in_order.geometry.quantum (λ tree is. tt) c.deep_quantum.ensures.told
-        (omega arith) c.in_err-deep_quantum.was c.from_residual.ensures.1
+    (omega arith) c.in_err-deep_quantum.was c.from_residual.ensures.1
 
 pub returns-clause-takes : goal.returns-clause-takes
 returns-clause-takes g c = took_all c.loop-runs.quanta (left_for_deep c.args.runs.now.deep) (left_for_deep c.args.runs.now.deep)

@@ -28,7 +28,7 @@ returns-in-Ok-clause-told g c =
     let held = c.args.self.now in
     let next = c.pass_quantum.new.self in
     subst (λ (t : Contents). TellsQuantum (HasAllAhead held.runs.pass t.entries) (held.runs.sizes.quantum / 7 + 2)
-        (λ tree n. PassTook held.runs.sizes.quantum held.runs.pass next.pass (replayed tree.lane_a)
+    (λ tree n. PassTook held.runs.sizes.quantum held.runs.pass next.pass (replayed tree.lane_a.entries)
     (entries_of tree.c1) n)
     (PassMeetsDamage next.sizes next.pass) held.runs next (Ok c.in-Ok.taken) (g.D.Disk.state c.args.disk.now) (g.D.Disk.state c.pass_quantum.new.disk)) c.a.ensures c.in-Ok.ensures.told
 
@@ -55,7 +55,7 @@ returns-in-Err-clause-told g c =
     let held = c.args.self.now in
     let next = c.pass_quantum.new.self in
     subst (λ (t : Contents). TellsQuantum (HasAllAhead held.runs.pass t.entries) (held.runs.sizes.quantum / 7 + 2)
-        (λ tree n. PassTook held.runs.sizes.quantum held.runs.pass next.pass (replayed tree.lane_a)
+    (λ tree n. PassTook held.runs.sizes.quantum held.runs.pass next.pass (replayed tree.lane_a.entries)
     (entries_of tree.c1) n)
     (PassMeetsDamage next.sizes next.pass) held.runs next (Err c.in-Err.broken) (g.D.Disk.state c.args.disk.now) (g.D.Disk.state c.pass_quantum.new.disk)) c.a.ensures c.in-Err.ensures.told
 

@@ -18,7 +18,7 @@ returns-in_err-rotated-clause-lists g c = λ tree honest over ahead.
     let new = g.D.Disk.state c.swap_pass.new.disk in
     let p = err_from_is_err_and c.from_residual.result c.from_residual.ensures.1 in
     let left = c.in_err-rotated.ensures.lists tree honest over (subst (λ (t : Contents). HasAllAhead held.runs.pass t.entries tree)
-        (sym c.a.ensures) ahead) in
+    (sym c.a.ensures) ahead) in
     (left.0, left.1, subst (λ (b : Bool). LeavesSwapped held.runs c.swap_pass.new.self tree left.0 b old new) (sym (ap is_ok p.1)) left.2)
 
 pub returns-in_err-rotated-clause-effect : goal.returns-in_err-rotated-clause-effect

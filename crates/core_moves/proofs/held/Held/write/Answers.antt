@@ -69,7 +69,7 @@ returns-clause-becomes g c = λ tree honest is_of over.
     let are = joined c.goes_ahead-ahead.result held tree c.args.key.now c.args.rec.now c.requires.one
     (sym c.goes_ahead-ahead.ensures) effect honest over.are_of then.reads in
     subst (λ (b : Bool). Becomes held.runs.sizes tree (appended b entry tree) true old new × StandOver held.runs (appended b entry tree) new)
-        c.goes_ahead-ahead.ensures (
+    c.goes_ahead-ahead.ensures (
       becomes,
       record { stands = then; are_of = are },
     )

@@ -6,9 +6,10 @@ use Rattle.gated_log.proofs.AppendLemmas.{entry_write, write_inside, write_ends,
 use Rattle.gated_log.proofs.lanes.Lanes.append.Goals as goal
 
 pub returns-in_err-write_gated-clause-appends : goal.returns-in_err-write_gated-clause-appends
-returns-in_err-write_gated-clause-appends g c = λ entries honest is_end.
+returns-in_err-write_gated-clause-appends g c = λ before honest is_end.
     let write = entry_write c.args.lane c.self.view_is c.place_in_file-at.ensures.place c.put_entry-length.ensures.text c.requires.fits c.put_entry-length.ensures.entry in
-    leaves_appended write entries is_end (g.met.D.Disk.timed c.write_gated.new.disk) honest (omega (arith, c.requires.length (g.met.D.Disk.honest_tells c.args.disk.now honest), write_ends c.requires.lane write))
+    leaves_appended write before is_end (g.met.D.Disk.timed c.write_gated.new.disk) honest
+    (omega (arith, c.requires.length (g.met.D.Disk.honest_tells c.args.disk.now honest), write_ends c.requires.lane write))
     (c.write_gated.ensures.gated honest) c.write_gated.ensures.effect (λ done. let wrong : false ≡ true = subst (λ r. IsTrue (is_ok r)) (err_from_is_err_and c.from_residual.result c.from_residual.ensures.1).1 done in cc)
 
 pub returns-in_err-write_gated-clause-effect : goal.returns-in_err-write_gated-clause-effect
@@ -17,9 +18,10 @@ returns-in_err-write_gated-clause-effect g c =
     affects_wider (write_inside write) (write_ends c.requires.lane write) (omega arith) c.write_gated.ensures.effect
 
 pub returns-clause-appends : goal.returns-clause-appends
-returns-clause-appends g c = λ entries honest is_end.
+returns-clause-appends g c = λ before honest is_end.
     let write = entry_write c.args.lane c.self.view_is c.place_in_file-at.ensures.place c.put_entry-length.ensures.text c.requires.fits c.put_entry-length.ensures.entry in
-    leaves_appended write entries is_end (g.met.D.Disk.timed c.write_gated.new.disk) honest (omega (arith, c.requires.length (g.met.D.Disk.honest_tells c.args.disk.now honest), write_ends c.requires.lane write))
+    leaves_appended write before is_end (g.met.D.Disk.timed c.write_gated.new.disk) honest
+    (omega (arith, c.requires.length (g.met.D.Disk.honest_tells c.args.disk.now honest), write_ends c.requires.lane write))
     (c.write_gated.ensures.gated honest) c.write_gated.ensures.effect (λ done. c.in_ok-write_gated.ensures.written)
 
 pub returns-clause-effect : goal.returns-clause-effect

@@ -21,7 +21,7 @@ returns-clause-list g c = λ space filter fences pages all c1 honest same pass.
     let here = subst (λ (s : SnowState). above s.at all ≡ above s.at a) (sym c.self.view_is) same in
     let done = subst (λ (s : SnowState). left_to_take (progress_of_pass s a) ≡ 0) (sym c.self.view_is) c.requires.done in
     subst (λ (s : SnowState). IfOk c.finish.result (λ run. (list : HasList c.args.geo.now run (folded_over all c1)
-        (g.D.Disk.state c.finish.new.disk).bytes)
+    (g.D.Disk.state c.finish.new.disk).bytes)
     × ((n : ℕ) → Contains (numbers_of list.pages) n → HasRole space s.writer.role n) × Guide filter fences list.pages)) c.self.view_is
     (c.finish.ensures.list false space None a filter fences [] pages all c1 honest done (lent_merge c.self.inside.merge all all c1 a here old))
 

@@ -28,14 +28,17 @@ returns-clause-pass g c = λ pages all c1 honest same pass other.
     let after = (g.D.Disk.state c.quantum.new.disk).bytes in
     let new = c.quantum.new.self in
     let old = subst (λ (s : SnowState). IsPass sizes d.bytes c.args.space.now s c.args.filter.now c.args.fences.now pages all c1)
-        (sym c.self.view_is) pass in
+    (sym c.self.view_is) pass in
     let here = subst (λ (s : SnowState). above s.at all ≡ above s.at a) (sym c.self.view_is) same in
     let went = c.quantum.ensures.lists [] pages all c1 honest (lent_merge c.self.inside.merge all all c1 a here old) other in
     let merging = subst (λ (t : Entries). IsMerging false sizes after c.quantum.new.space new None t c.quantum.new.filter c.quantum.new.fences []
-        pages all c1)
-        c.quantum.ensures.same_table went.2 in
-    (went.0, went.1, lent_merge new a all c1 all refl merging,
-    subst (λ (s : SnowState). IsQuantum sizes.quantum s.at new.at all c1 went.0) c.self.view_is went.3)
+    pages all c1)
+    c.quantum.ensures.same_table went.2 in (
+      went.0,
+      went.1,
+      lent_merge new a all c1 all refl merging,
+      subst (λ (s : SnowState). IsQuantum sizes.quantum s.at new.at all c1 went.0) c.self.view_is went.3,
+    )
 
 pub returns-clause-covers : goal.returns-clause-covers
 returns-clause-covers g c = λ covers.

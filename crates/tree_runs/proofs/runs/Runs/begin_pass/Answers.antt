@@ -53,7 +53,7 @@ returns-clause-running c = λ honest file running.
 pub returns-clause-lists : goal.returns-clause-lists
 returns-clause-lists c = λ tree file is.
     let runs = c.args.self.now in
-    let list = replayed tree.lane_a in
+    let list = replayed tree.lane_a.entries in
     let are = c.requires.runs in
     let inside = c.self.inside in
     let guides = c.begin_snow.new.guides.items in
@@ -74,7 +74,7 @@ returns-clause-lists c = λ tree file is.
       c2 = is.c2;
       pass = subst (λ (s : SnowState). IsPassOver runs.sizes file runs.space (guide_at guides runs.tags.pass) (Some s) list tree.c1) starts
           (subst (λ (t : ℕ). IsPassOver runs.sizes file runs.space (guide_at guides t) (Some c.begin_snow.result) list tree.c1) tagged
-          (c.begin_snow.ensures.pass runs.sizes file runs.space list tree.c1 (sorted_replayed tree.lane_a)
+          (c.begin_snow.ensures.pass runs.sizes file runs.space list tree.c1 (sorted_replayed tree.lane_a.entries)
           (subst (λ (k : Component). ReadsAs runs.sizes k tree.c1 file) c1 is.holds.c1)
           (elsewhere runs.space runs.tags.c1 inside.pass tree.c1 are.one_tag (λ same. are.tags.c1_pass (same ∙ tagged)) is.c1)));
       deep = subst (λ (g : GuideState). IsDeepOver runs.sizes file runs.space g runs.deep tree.c1x tree.c2) (sym (others runs.tags.deep (λ is. are.tags.pass_deep (sym is)))) is.deep;

@@ -105,7 +105,7 @@ returns-clause-told g c =
       lists = λ tree honest stand lent other.
           let stands = deep_stands runs after (guides_after g arm) c.saturating_add-self-inside.result (guide_after g arm) c.in-Some.deep next
           c.quantum-taken.result old new (deep_is g arm) are c.pages-pages.ensures.shape (writes g arm)
-              (quantum_is g arm) timed tree honest stand other in
+          (quantum_is g arm) timed tree honest stand other in
           (stands.0, stands.1, subst (λ (r : RunsState). StandOver r tree new) (sym is_new) stands.2, stands.3);
       running =
           subst (λ (r : RunsState). OnOk c.quantum-taken.result (AreRunning new.is_honest new.bytes r)) (sym is_new)

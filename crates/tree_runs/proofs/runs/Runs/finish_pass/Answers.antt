@@ -39,15 +39,15 @@ returns-clause-list g c = λ all c1 honest ahead over.
     let merge = subst (λ (o : Option SnowState). IsPassOver now.sizes old.bytes now.space (guide_at now.guides now.tags.pass) o all c1) is over in
     let same = subst (λ (o : Option SnowState). above (cursor_of_pass o) all ≡ above (cursor_of_pass o) c.args.a.now.entries) is ahead in
     let here = subst (λ (s : RunsState). IsPass s.sizes old.bytes now.space c.in-Some.snow (filter_of now now.tags.pass)
-        (fences_of_tag now now.tags.pass) (numbers_of c1) all (entries_of c1))
+    (fences_of_tag now now.tags.pass) (numbers_of c1) all (entries_of c1))
     (sym c.self.view_is) merge in
     subst (λ (s : RunsState). IfOk c.finish.result (λ k. (x : HasList s.sizes k (folded_over all (entries_of c1)) new.bytes)
-        × AreTagged now.space now.tags.pass x.pages × Guide (filter_of now now.tags.pass) (fences_of_tag now now.tags.pass) x.pages)) c.self.view_is
+    × AreTagged now.space now.tags.pass x.pages × Guide (filter_of now now.tags.pass) (fences_of_tag now now.tags.pass) x.pages)) c.self.view_is
     (subst (λ (r : ℕ). IfOk c.finish.result (λ k. (x : HasList c.self.inside.geometry k (folded_over all (entries_of c1)) new.bytes)
-        × ((n : ℕ) → Contains (numbers_of x.pages) n → HasRole now.space r n)
-        × Guide (filter_of now now.tags.pass) (fences_of_tag now now.tags.pass) x.pages)) role
+    × ((n : ℕ) → Contains (numbers_of x.pages) n → HasRole now.space r n)
+    × Guide (filter_of now now.tags.pass) (fences_of_tag now now.tags.pass) x.pages)) role
     (c.finish.ensures.list now.space (filter_of now now.tags.pass) (fences_of_tag now now.tags.pass) (numbers_of c1) all
-        (entries_of c1) honest same here))
+    (entries_of c1) honest same here))
 
 pub returns-clause-writes : goal.returns-clause-writes
 returns-clause-writes g c =

@@ -42,10 +42,10 @@ returns-clause-lists c = λ tree run file holds c1 made guided guided_run over.
     let second = gone_too at.After-release-2 in
     let was = subst (λ (s : RunsState). AreRuns s × HoldsTree s.sizes (with_components c.args.next tree.c1 [] run tree) file × AreTagged s.space s.tags.c1 tree.c1 × AreTagged s.space s.tags.deep run
     × IsGuidedBy (guide_at s.guides s.tags.c1) tree.c1 × IsGuidedBy (guide_at s.guides s.tags.deep) run
-        × IsPassOver s.sizes file s.space (guide_at s.guides s.tags.pass) s.pass (replayed tree.lane_a) tree.c1)
+    × IsPassOver s.sizes file s.space (guide_at s.guides s.tags.pass) s.pass (replayed tree.lane_a.entries) tree.c1)
     (sym c.self.view_is) (c.requires.runs, holds, c1, made, guided, guided_run, over) in
     let tags = was.0.tags in
-    let still = pass_over_still (guide_at inside.guides.items inside.pass) inside.merges.value.pass (replayed tree.lane_a) tree.c1
+    let still = pass_over_still (guide_at inside.guides.items inside.pass) inside.merges.value.pass (replayed tree.lane_a.entries) tree.c1
     (keeps_two {sizes = inside.geometry} {honest = true} file inside.pass first second (λ i. tags.c1x_pass (sym i)) (λ i. tags.c2_pass (sym i)))
     (pages_two inside.c1 first second tags.c1_c1x tags.c1_c2) was.0.pass_tag was.2 was.6 in
     record {
@@ -55,7 +55,7 @@ returns-clause-lists c = λ tree run file holds c1 made guided guided_run over.
       c1x = λ n has. absurd (omega (arith, has.1));
       c2 = λ n has. has_still second inside.deep n (λ i. tags.c2_deep (sym i)) (has_still first inside.deep n (λ i. tags.c1x_deep (sym i)) (was.3 n has));
       pass = subst (λ (m : Merges). IsPassOver inside.geometry file c.release-2.new.self (guide_at inside.guides.items inside.pass) m.pass
-          (replayed tree.lane_a) tree.c1) (sym c.deref_mut-merges.ensures.value) still;
+          (replayed tree.lane_a.entries) tree.c1) (sym c.deref_mut-merges.ensures.value) still;
       deep = refl;
       guided = record { c1 = was.4; c1x = λ some. absurd (some refl); c2 = was.5 };
       output = refl;

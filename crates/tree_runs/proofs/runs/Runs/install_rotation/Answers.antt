@@ -26,9 +26,9 @@ returns-clause-lists c = λ tree file holds c1 c2 guided_c1 guided_c2.
       c1x = was.2;
       c2 = was.3;
       pass = subst (λ (m : Merges). IsPassOver inside.geometry file inside.space (guide_at c.begin_deep.new.guides.items inside.pass) m.pass
-          (replayed tree.lane_a) []) (sym c.deref_mut-merges.ensures.value)
+          (replayed tree.lane_a.entries) []) (sym c.deref_mut-merges.ensures.value)
           (subst (λ (snow : _). IsPassOver inside.geometry file inside.space (guide_at c.begin_deep.new.guides.items inside.pass) snow
-              (replayed tree.lane_a) []) (sym was.6) tt);
+          (replayed tree.lane_a.entries) []) (sym was.6) tt);
       deep = c.begin_deep.ensures.merge inside.geometry file inside.space tree.c1 tree.c2 was.1.c1x (elsewhere inside.space inside.c1 inside.deep tree.c1 are.one_tag are.tags.c1_deep was.2)
           was.1.c2 (elsewhere inside.space inside.c2 inside.deep tree.c2 are.one_tag are.tags.c2_deep was.3);
       guided = record {

@@ -115,12 +115,12 @@ returns-clause-lists g c = λ tree honest over.
     let done = committed g (goal.at.returns-clause-lists g c).After-commit_next tree honest over in
     let next_tree = with_components c.after_deep-next.result tree.c1 [] done.list.pages tree in
     let stands = done.becomes.stands (ap is_ok c.in_ok-commit_next.was) in
-    let pass = pass_over_still (guide_at now.guides now.tags.pass) now.pass (replayed tree.lane_a) tree.c1
+    let pass = pass_over_still (guide_at now.guides now.tags.pass) now.pass (replayed tree.lane_a.entries) tree.c1
     (swap_keeps true now now.tags.deep now.tags.pass (λ told. honest) are c.requires.roles (λ is. are.tags.pass_deep (sym is)) (effect g (goal.at.returns-clause-lists g c).After-commit_next))
     (swap_pages now now.tags.deep now.tags.c1 are c.requires.roles (λ is. are.tags.c1_deep (sym is))) are.pass_tag over.are_of.c1 over.are_of.pass in
     let found = subst (λ (s : RunsState). HoldsTree s.sizes next_tree new.bytes × AreTagged s.space s.tags.c1 tree.c1 × AreTagged s.space s.tags.deep done.list.pages
     × IsGuidedBy (guide_at s.guides s.tags.c1) tree.c1 × IsGuidedBy (guide_at s.guides s.tags.deep) done.list.pages
-        × IsPassOver s.sizes new.bytes s.space (guide_at s.guides s.tags.pass) s.pass (replayed tree.lane_a) tree.c1)
+    × IsPassOver s.sizes new.bytes s.space (guide_at s.guides s.tags.pass) s.pass (replayed tree.lane_a.entries) tree.c1)
     (sym c.finish_deep.ensures.same) (stands.reads, over.are_of.c1, done.tagged, over.are_of.guided.c1, λ some. done.guided, pass) in (
       next_tree,
       done.swapped,

@@ -34,7 +34,7 @@ returns-in_err-made-clause-lists g c = λ tree honest over ahead.
     let are = c.requires.running.in_order in
     let stands = stands_behind_pass now are over c.finish_pass.ensures.writes.effect honest (g.met.D.Disk.timed c.finish_pass.new.disk) in
     let p = err_from_is_err_and c.from_residual.result c.from_residual.ensures.1 in
-    let out = folded_over (replayed tree.lane_a) (entries_of tree.c1) in
+    let out = folded_over (replayed tree.lane_a.entries) (entries_of tree.c1) in
     let full = is_full now.sizes (made_by_pass now.pass) in (
       pass_tree full (next_version tree.catalogue) (one_page out) [] tree,
       pass_swapped full tree (next_version tree.catalogue) (one_page out) [] (one_page_entries out) refl,
@@ -72,14 +72,14 @@ effect_beside g c =
 committed : (g : _) (c : After-commit_next g) (b : Bool) → is_full c.args.self.now.sizes (made_by_pass c.args.self.now.pass) ≡ b → (tree : Tree) → IsTrue (g.D.Disk.state c.args.disk.now).is_honest
     → StandOver c.args.self.now tree (g.D.Disk.state c.args.disk.now) → HasAllAhead c.args.self.now.pass c.args.a.now.entries tree
     → PassCommitted c.args.self.now tree b c.in_ok-made.made c.after_pass-next.result (is_ok c.commit_next.result) (g.D.Disk.state c.args.disk.now)
-        (g.D.Disk.state c.finish_pass.new.disk) (g.D.Disk.state c.commit_next.new.disk)
+    (g.D.Disk.state c.finish_pass.new.disk) (g.D.Disk.state c.commit_next.new.disk)
 committed g c b full tree honest over ahead =
     let now = c.args.self.now in
     let finished : IsFinished now tree now.tags.pass (g.D.Disk.state c.args.disk.now) (g.D.Disk.state c.finish_pass.new.disk) =
     record { end = file_length now.sizes; running = c.requires.running; over = over; few = c.requires.version; effect = c.finish_pass.ensures.writes.effect; honest = honest; timed = g.met.D.Disk.timed c.finish_pass.new.disk; stands = stands_behind_pass now c.requires.running.in_order over c.finish_pass.ensures.writes.effect honest (g.met.D.Disk.timed c.finish_pass.new.disk) } in
     let switches = subst (λ (s : RunsState). Switches s.sizes s.catalogue c.after_pass-next.result c.commit_next.result (g.D.Disk.state c.finish_pass.new.disk) (g.D.Disk.state c.commit_next.new.disk)) (c.self.view_is ∙ c.finish_pass.ensures.same) (record { becomes = c.commit_next.ensures.becomes }) in
     let next_is = subst (λ (s : RunsState). c.after_pass-next.result ≡ with_pass_run s.sizes c.in_ok-made.made (progress_of s.catalogue s.deep) s.catalogue) c.finish_pass.ensures.same c.after_pass-next.ensures.next in
-    let list = c.in_ok-made.ensures.list (replayed tree.lane_a) tree.c1 honest ahead over.are_of.pass in
+    let list = c.in_ok-made.ensures.list (replayed tree.lane_a.entries) tree.c1 honest ahead over.are_of.pass in
     pass_becomes now tree c.in_ok-made.made c.after_pass-next.result b full (λ heavy. c.requires.way (full ∙ heavy)) c.requires.roles finished c.in_ok-made.ensures.component list.0 list.1 list.2 next_is switches
 
 -- ---- the commit failed
@@ -88,10 +88,13 @@ pub returns-in_err-commit_next-clause-lists : goal.returns-in_err-commit_next-cl
 returns-in_err-commit_next-clause-lists g c = λ tree honest over ahead.
     let now = c.args.self.now in
     let done = committed g (goal.at.returns-in_err-commit_next-clause-lists g c).After-commit_next
-        (is_full now.sizes (made_by_pass now.pass)) refl tree honest over ahead in
-    let p = err_from_is_err_and c.from_residual-in_err-commit_next.result c.from_residual-in_err-commit_next.ensures.1 in
-    (_, done.swapped, leaves_swapped now c.finish_pass.new.self tree _ done.first done.becomes
-        (λ well. absurd (false≢true (sym (ap is_ok p.1) ∙ well))))
+    (is_full now.sizes (made_by_pass now.pass)) refl tree honest over ahead in
+    let p = err_from_is_err_and c.from_residual-in_err-commit_next.result c.from_residual-in_err-commit_next.ensures.1 in (
+      _,
+      done.swapped,
+      leaves_swapped now c.finish_pass.new.self tree _ done.first done.becomes
+          (λ well. absurd (false≢true (sym (ap is_ok p.1) ∙ well))),
+    )
 
 pub returns-in_err-commit_next-clause-effect : goal.returns-in_err-commit_next-clause-effect
 returns-in_err-commit_next-clause-effect g c = effect_beside g (goal.at.returns-in_err-commit_next-clause-effect g c).After-commit_next
