@@ -88,23 +88,22 @@ impl Tree {
         is_component(rt, &self.c1);
         is_component(rt, &self.c1x);
         is_component(rt, &self.c2);
-        let [c1, c1x, c2] = ROLES;
-        Hold::build(
+        let hold = Hold::build(
             alloc,
-            3,
             &key(rt, low),
             &key(rt, high),
             &self.a,
             &self.b,
+            &no_component(),
+            &None,
             &self.c1,
             &self.c1x,
             &self.c2,
-            space,
-            Role::new(c1),
-            Role::new(c1x),
-            Role::new(c2),
         )
-        .expect(rt, "memory")
+        .expect(rt, "memory");
+        let [c1, c1x, c2] = ROLES;
+        space.pin(3, Role::new(c1), Role::new(c1x), Role::new(c2));
+        hold
     }
 }
 
@@ -297,6 +296,50 @@ fn pages_one_after_the_other(rt: HostRuntime) {
         (b"d", 12, b""),
     ];
     gives(&rt, &mut store, &mut hold, 32, &rows);
+}
+
+// The long entries' page as a front: it names page 4 as the next one, which isn't the front's.
+fn make_front(rt: &impl Abort, alloc: Global, store: &mut Store) -> Component {
+    let back = [(key(rt, b"b"), Rec::added(11))];
+    let open = store.write(rt, &[(4, back.as_slice())]);
+    let entries = page_of(rt, alloc, b'a');
+    let whole = store.write(rt, &[(7, entries.as_slice()), (4, back.as_slice())]);
+    assert!(rt; whole.entries >= open.entries && whole.weight >= open.weight);
+    Component {
+        first: 7,
+        pages: 1,
+        entries: whole.entries - open.entries,
+        weight: whole.weight - open.weight,
+    }
+}
+
+#[test]
+fn a_front_and_what_is_behind_it(rt: HostRuntime) {
+    let mut store = Store::blank(&rt, rt.alloc());
+    let front = make_front(&rt, rt.alloc(), &mut store);
+    // The first of C1's entries isn't above the released key.
+    let behind = [named(&rt, &[b'a', 7], 99, b""), named(&rt, b"b", 1, b"")];
+    let c1 = store.write(&rt, &[(5, behind.as_slice())]);
+    is_component(&rt, &front);
+    is_component(&rt, &c1);
+    let none = table_of(&rt, rt.alloc(), &[]);
+    let mut hold = Hold::build(
+        rt.alloc(),
+        &key(&rt, &[b'a', 7]),
+        &key(&rt, b"z"),
+        &none,
+        &none,
+        &front,
+        &Some(key(&rt, &[b'a', 8])),
+        &c1,
+        &no_component(),
+        &no_component(),
+    )
+    .expect(&rt, "memory");
+    gives(&rt, &mut store, &mut hold, 1, &[(&[b'a', 7], 7, &TEXT)]);
+    let rest: [Written; 2] = [(&[b'a', 8], 8, &TEXT), (b"b", 1, b"")];
+    gives(&rt, &mut store, &mut hold, 32, &rest);
+    gives(&rt, &mut store, &mut hold, 32, &[]);
 }
 
 // How many records of two-byte keys a table of the default size has room for: each weighs 15 of its 65,536 bytes.

@@ -107,7 +107,7 @@ in_part_on old new here part (inr same) goes was =
 pub input_kept : (sizes : Sizes) (old new : List ℕ) (space after : SpaceState) (role : ℕ) (at : Option Key) (cursor : CursorState) (pages : List ℕ) (entries : Entries)
     → IsSameOutside (role_region sizes space role) old new → TakesPages role space after → IsInput sizes old space role at cursor pages entries → IsInput sizes new after role at cursor pages entries
 input_kept sizes old new space after role at cursor pages entries same takes input =
-    let now = ahead_kept sizes cursor input.rest old new input.ahead (same_pages sizes (numbers_of input.ahead.coming) old new (same_wider elsewhere same)) in
+    let now = ahead_kept None sizes cursor input.rest old new input.ahead (same_pages sizes (numbers_of input.ahead.coming) old new (same_wider elsewhere same)) in
     let back = λ (n : ℕ) (has : Contains (numbers_of now.0.coming) n). subst (λ (ps : List RunPage). Contains (numbers_of ps) n) now.1 has in
     record {
       sorted = input.sorted;

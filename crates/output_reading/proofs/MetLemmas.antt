@@ -482,7 +482,7 @@ goes_at sizes run entries cursor given file next here small g none two rise go =
             (from_last None given here (subst (λ (l : Entries). AreRising (l ++ here)) are
             (rise_front (entries_of g.pages ++ here) go.front.0 (subst AreRising go.front.1 rise))));
         numbers = record {
-          follows = (λ _. two, λ _. refl);
+          follows = (λ _. inl two, λ _. refl);
           few = omega (arith, before.few, this.few, g.entries_is, g.pages_is, long, small);
           light = omega (arith, before.light, this.light, g.weight_is, g.pages_is, weighs, small);
           all = λ last. absurd (omega (arith, last, two));

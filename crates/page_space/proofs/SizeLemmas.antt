@@ -1,7 +1,7 @@
 -- How many pages a set has.
 use Rattle.std.proofs.lemmas.Bool.Decides.{nat_tests}
 use Rattle.std.proofs.lemmas.Grind.{common_steps}
-use Rattle.std.proofs.Common.{◌≡◌, ℕ, zero, suc, ◌+◌, ◌<◌, ◌≤◌, ◌||◌, Bool, true, cond, [], ◌∷◌, length, arith}
+use Rattle.std.proofs.Common.{◌≡◌, ℕ, zero, suc, ◌+◌, ◌<◌, ◌≤◌, ◌||◌, Bool, true, false, cond, [], ◌∷◌, length, refl, arith}
 use Rattle.std.proofs.lemmas.List.Sums.{sum_by-cons}
 use Rattle.page_space.specs.PageSet.{Members, IsIn, size, with_page, union}
 
@@ -25,3 +25,22 @@ pub size-with_le : (set : Members) (page : ℕ) → size (with_page page set) �
 size-with_le [] page = omega arith
 size-with_le (x ∷ xs) zero = omega (arith, size-cons x xs, size-cons true xs)
 size-with_le (x ∷ xs) (suc page) = omega (arith, size-with_le xs page, size-cons x xs, size-cons x (with_page page xs))
+
+-- ---- a set twice
+
+or_twice : (a b : Bool) → (a || (a || b)) ≡ (a || b)
+or_twice true b = refl
+or_twice false b = refl
+
+or_same : (a : Bool) → (a || a) ≡ a
+or_same true = refl
+or_same false = refl
+
+union_same : (xs : Members) → union xs xs ≡ xs
+union_same [] = refl
+union_same (x ∷ xs) = λ i. or_same x i ∷ union_same xs i
+
+pub union_twice : (xs ys : Members) → union xs (union xs ys) ≡ union xs ys
+union_twice [] ys = refl
+union_twice (x ∷ xs) [] = union_same (x ∷ xs)
+union_twice (x ∷ xs) (y ∷ ys) = λ i. or_twice x y i ∷ union_twice xs ys i

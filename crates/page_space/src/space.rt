@@ -127,6 +127,21 @@ impl Space {
         self.in_use_below = 0;
     }
 
+    /// Pins for a seat just the pages that have one of two tags now, as `pin` does of three.
+    pub fn pin_two(&mut self, seat: u32, one: Role, other: Role)
+        requires { seat < CALLERS }
+        ensures this { pins_of self.new seat ≡ union (pages_with self.old one) (pages_with self.old other) }
+        ensures others { KeepsOtherPins seat self.old self.new }
+        ensures roles { self.new.roles ≡ self.old.roles }
+        ensures pages { self.new.pages ≡ self.old.pages }
+        ensures shape { IsSpace self.new }
+        ensures pinned { (page : ℕ) → IsPinnedBy self.new seat page ↔ (HasRole self.old one page ⊎ HasRole self.old other page) }
+        ensures freed { (page : ℕ) → IsFree self.new page → (IsFree self.old page ⊎ IsPinnedBy self.old seat page) }
+        ensures size { pin_size self.new seat ≤ role_size self.old one + role_size self.old other }
+    {
+        self.pin(seat, one, one, other);
+    }
+
     /// Pins one page more for a seat, whatever tags the page has.
     pub fn pin_page(&mut self, seat: u32, page: u32)
         requires seat { seat < CALLERS }

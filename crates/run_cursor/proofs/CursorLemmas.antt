@@ -1,8 +1,9 @@
 -- What a cursor keeps as it goes on.
 use Rattle.std.proofs.lemmas.Bool.Decides.{nat_tests}
 use Rattle.std.proofs.lemmas.Grind.{common_steps}
-use Rattle.std.proofs.Common.{◌≡◌, ◌≢◌, ◌↔◌, Bool, true, false, ℕ, zero, suc, ◌+◌, ◌-◌, ◌*◌, ◌<◌, ◌≤◌, List, [], ◌∷◌, ◌++◌, length, take, drop, Option, Some, None, refl, ap, sym, subst, ◌∙◌, append_assoc, length-append, arith}
-use Rattle.std.specs.Prelude.{replicate, IsTrue, IsSome}
+use Rattle.std.proofs.Common.{◌≡◌, ◌≢◌, ◌↔◌, ◌⊎◌, inl, inr, ⊎_elim, Bool, true, false, ℕ, zero, suc, ◌+◌, ◌-◌, ◌*◌, ◌<◌, ◌≤◌, List, [], ◌∷◌, ◌++◌, length, take, drop, Option, Some, None, refl, ap, sym, subst, ◌∙◌, append_assoc, length-append, arith}
+use Rattle.std.specs.Prelude.{replicate, IsTrue, IsSome, is_some}
+use Rattle.std.proofs.lemmas.Bool.{false≢true}
 use Rattle.std.specs.List.{between, AllByRecursion}
 use Rattle.std.specs.List.Sorted.{IsStrictlySortedBy}
 use Rattle.std.specs.Ordering.{is_lt}
@@ -29,43 +30,54 @@ use Rattle.page_file.specs.Page.{most_used, page_number, used_by, page_head, IsP
 use Rattle.page_file.specs.declared.file.Broken.{Broken}
 use Rattle.page_file.specs.declared.file.Broken.TheVariants.{Fault, Damaged}
 use Rattle.page_file.specs.File.{page_at}
-use Rattle.page_file.specs.Component.{RunPage, numbers_of, entries_of, first_number, AreChained, HasList}
+use Rattle.page_file.specs.Component.{RunPage, numbers_of, entries_of, first_number, AreChained, HasList, ReadsOn}
 use Rattle.record_delta.specs.Entries.{entries_weight, Entries}
 use Rattle.page_file.proofs.EntryLemmas.{few_entries, entry_same}
 use Rattle.page_file.proofs.PageLemmas.{spelled, length-page_head, page_same, entry_at}
 use Rattle.page_file.proofs.ComponentLemmas.{weight_join, weight_is_length}
 use Rattle.entry_codec.proofs.SpellingLemmas.{length-spelling}
-use Rattle.run_cursor.specs.Cursor.{CursorState, seen, IsKept, started, from_head, IsCursor, AreInNumber, PageGoesOn, GoesOnAt, turned, IsStepped, Rises, HasAhead, AreAmong, IsAdvanced, IsDamageAt}
+use Rattle.run_cursor.specs.Cursor.{CursorState, seen, IsKept, begun, started, started_front, from_head, IsCursor, AreInNumber, PageGoesOn, GoesOnAt}
+use Rattle.run_cursor.specs.Cursor.{turned, IsStepped, Rises, HasAhead, HasAheadTo, HasFront, AreAmong, IsAdvancedTo, IsDamageAt}
 
 pub weights-cons : (e : Key × Rec) (es : List (Key × Rec)) → entries_weight (e ∷ es) ≡ weight e.0 e.1 + entries_weight es
 weights-cons e es = sum_by-cons (λ (f : Key × Rec). weight f.0 f.1) e es
 
 -- ---- the start
 
-pub started_ahead : (sizes : Sizes) (run : Component) (entries : List (Key × Rec)) (file : List ℕ) → (list : HasList sizes run entries file) → (ahead : HasAhead sizes (started run) entries file) × (ahead.coming ≡ list.pages)
-started_ahead sizes run entries file has =
-    let reads = has.reads in (
-      record {
-        here = [];
-        coming = has.pages;
-        each = All-nil IsPageEntry;
-        behind_is = refl;
-        first_is = reads.first_is;
-        chained = reads.chained;
-        rest_is = sym has.entries_are;
-        rise = subst AreRising has.entries_are reads.rise;
-        pages_is = reads.pages_is;
-        entries_is = ap (length {A = Key × Rec}) (sym has.entries_are) ∙ reads.entries_is;
-        weight_is = ap entries_weight (sym has.entries_are) ∙ reads.weight_is;
-      },
-      refl,
-    )
+begun_ahead : (end : Option ℕ) (sizes : Sizes) (run : Component) (entries : Entries) (file : List ℕ) (pages : List RunPage)
+    → ReadsOn sizes run pages end file → entries_of pages ≡ entries
+    → (ahead : HasAheadTo end sizes (begun (is_some end) run) entries file) × (ahead.coming ≡ pages)
+begun_ahead end sizes run entries file pages reads is = (
+  record {
+    front_is = refl;
+    here = [];
+    coming = pages;
+    each = All-nil IsPageEntry;
+    behind_is = refl;
+    first_is = reads.first_is;
+    chained = reads.chained;
+    rest_is = sym is;
+    rise = subst AreRising is reads.rise;
+    pages_is = reads.pages_is;
+    entries_is = ap (length {A = Key × Rec}) (sym is) ∙ reads.entries_is;
+    weight_is = ap entries_weight (sym is) ∙ reads.weight_is;
+  },
+  refl,
+)
+
+pub started_ahead : (sizes : Sizes) (run : Component) (entries : Entries) (file : List ℕ) → (list : HasList sizes run entries file)
+    → (ahead : HasAhead sizes (started run) entries file) × (ahead.coming ≡ list.pages)
+started_ahead sizes run entries file has = begun_ahead None sizes run entries file has.pages has.reads has.entries_are
+
+pub front_ahead : (sizes : Sizes) (run : Component) (end : ℕ) (entries : Entries) (file : List ℕ) → (list : HasFront sizes run end entries file)
+    → (ahead : HasAheadTo (Some end) sizes (started_front run) entries file) × (ahead.coming ≡ list.pages)
+front_ahead sizes run end entries file has = begun_ahead (Some end) sizes run entries file has.pages has.reads has.entries_are
 
 -- a cursor with no entries behind its head, at the end or before the first page
-pub bare_cursor : (behind : List ℕ) (next pages entries weight : ℕ) → behind ≡ [] → (pages ≡ 0 → (entries ≡ 0) × (weight ≡ 0))
-    → IsCursor (record { head = None; behind = behind; next = next; pages = pages; entries = entries; weight = weight })
+pub bare_cursor : (behind : List ℕ) (next pages entries weight : ℕ) (is_front : Bool) → behind ≡ [] → (pages ≡ 0 → (entries ≡ 0) × (weight ≡ 0))
+    → IsCursor (record { head = None; behind = behind; next = next; pages = pages; entries = entries; weight = weight; is_front = is_front })
 unfolding IsStrictlySortedBy
-bare_cursor behind next pages entries weight empty none =
+bare_cursor behind next pages entries weight is_front empty none =
     record {
       here = [];
       each = All-nil IsPageEntry;
@@ -179,20 +191,20 @@ step_bytes page at end entry len len_is (rest, parts) =
 
 -- ---- a step of a cursor's fields
 
-pub record Step (head : Option (Key × Rec)) (page : List ℕ) (at end next pages entries weight_left : ℕ) (now : CursorState) (entry : Key × Rec) (len : ℕ) : Type 0 where
+pub record Step (head : Option (Key × Rec)) (page : List ℕ) (at end next pages entries weight_left : ℕ) (is_front : Bool) (now : CursorState) (entry : Key × Rec) (len : ℕ) : Type 0 where
   pub light : len ≤ weight_left
   pub some : 1 ≤ entries
-  pub kept : IsKept (Some entry) page (at + len) end next pages (entries - 1) (weight_left - len)
-  pub stepped : IsStepped now (seen (Some entry) page (at + len) end next pages (entries - 1) (weight_left - len)) entry
+  pub kept : IsKept (Some entry) page (at + len) end next pages (entries - 1) (weight_left - len) is_front
+  pub stepped : IsStepped now (seen (Some entry) page (at + len) end next pages (entries - 1) (weight_left - len) is_front) entry
   pub rises : Rises now.head (Some entry)
 
-pub step : (head : Option (Key × Rec)) (page : List ℕ) (at end next pages entries weight_left : ℕ) (now : CursorState) (entry : Key × Rec) (len : ℕ) → length page ≡ page_length
-    → IsKept head page at end next pages entries weight_left → seen head page at end next pages entries weight_left ≡ now
+pub step : (head : Option (Key × Rec)) (page : List ℕ) (at end next pages entries weight_left : ℕ) (is_front : Bool) (now : CursorState) (entry : Key × Rec) (len : ℕ) → length page ≡ page_length
+    → IsKept head page at end next pages entries weight_left is_front → seen head page at end next pages entries weight_left is_front ≡ now
     → IsPageEntry entry → (rest : List ℕ) × (now.behind ≡ entry_bytes entry ++ rest) → len ≡ weight entry.0 entry.1
-    → Step head page at end next pages entries weight_left now entry len
-step head page at end next pages entries weight_left now entry len long (order, inside, cursor) is right (rest, parts) len_is =
-    let old : CursorState = seen head page at end next pages entries weight_left in
-    let new : CursorState = seen (Some entry) page (at + len) end next pages (entries - 1) (weight_left - len) in
+    → Step head page at end next pages entries weight_left is_front now entry len
+step head page at end next pages entries weight_left is_front now entry len long (order, inside, cursor) is right (rest, parts) len_is =
+    let old : CursorState = seen head page at end next pages entries weight_left is_front in
+    let new : CursorState = seen (Some entry) page (at + len) end next pages (entries - 1) (weight_left - len) is_front in
     let here : (rest : List ℕ) × (between at end page ≡ entry_bytes entry ++ rest) = (rest, ap (λ (s : CursorState). s.behind) is ∙ parts) in
     let fits : StepFits at end len entries weight_left = step_fits page at end old entry len (omega (arith, long, inside)) order cursor refl right here len_is in
     let some = fits.some in
@@ -203,6 +215,7 @@ step head page at end next pages entries weight_left now entry len long (order, 
       behind_is = step_bytes page at end entry len len_is here;
       next_is = refl;
       pages_is = refl;
+      front_is = refl;
       entries_is = omega (arith, some);
       weight_is = omega (arith, light, len_is);
     } in
@@ -216,34 +229,34 @@ step head page at end next pages entries weight_left now entry len long (order, 
     }
 
 -- the same where the head was read from the page
-pub record StepOver (new : Option (Key × Rec)) (page : List ℕ) (at end next pages entries weight_left : ℕ) (now : CursorState) (len : ℕ) : Type 0 where
+pub record StepOver (new : Option (Key × Rec)) (page : List ℕ) (at end next pages entries weight_left : ℕ) (is_front : Bool) (now : CursorState) (len : ℕ) : Type 0 where
   pub light : len ≤ weight_left
   pub some : 1 ≤ entries
-  pub kept : IsKept new page (at + len) end next pages (entries - 1) (weight_left - len)
-  pub stepped : (entry : Key × Rec) × IsStepped now (seen new page (at + len) end next pages (entries - 1) (weight_left - len)) entry
+  pub kept : IsKept new page (at + len) end next pages (entries - 1) (weight_left - len) is_front
+  pub stepped : (entry : Key × Rec) × IsStepped now (seen new page (at + len) end next pages (entries - 1) (weight_left - len) is_front) entry
   pub rises : Rises now.head new
 
 -- the entry that stands at the front of what is behind the head
-pub at_front : (head : Option (Key × Rec)) (page : List ℕ) (at end next pages entries weight_left : ℕ) (now : CursorState)
-    → IsKept head page at end next pages entries weight_left → seen head page at end next pages entries weight_left ≡ now → 0 < length now.behind
+pub at_front : (head : Option (Key × Rec)) (page : List ℕ) (at end next pages entries weight_left : ℕ) (is_front : Bool) (now : CursorState)
+    → IsKept head page at end next pages entries weight_left is_front → seen head page at end next pages entries weight_left is_front ≡ now → 0 < length now.behind
     → (key : Key) × (rec : Rec) × BeginsWith (between at end page) key rec
-at_front head page at end next pages entries weight_left now kept is some =
+at_front head page at end next pages entries weight_left is_front now kept is some =
     let cursor = kept.2 in
     let first = first_of_bytes _ cursor.here cursor.each cursor.behind_is (subst (λ (s : CursorState). 0 < length s.behind) (sym is) some) in
     (first.entry.0, first.entry.1, begins _ cursor.here first)
 
-pub step_over : (head new : Option (Key × Rec)) (page : List ℕ) (at end next pages entries weight_left : ℕ) (now : CursorState) (len : ℕ) → length page ≡ page_length
-    → IsKept head page at end next pages entries weight_left → seen head page at end next pages entries weight_left ≡ now
+pub step_over : (head new : Option (Key × Rec)) (page : List ℕ) (at end next pages entries weight_left : ℕ) (is_front : Bool) (now : CursorState) (len : ℕ) → length page ≡ page_length
+    → IsKept head page at end next pages entries weight_left is_front → seen head page at end next pages entries weight_left is_front ≡ now
     → (entry : Key × Rec) × (new ≡ Some entry) × BeginsWith (between at end page) entry.0 entry.1 × (len ≡ weight entry.0 entry.1)
-    → StepOver new page at end next pages entries weight_left now len
-step_over head new page at end next pages entries weight_left now len long kept is (entry, new_is, begin, len_is) =
-    let one = step head page at end next pages entries weight_left now entry len long kept is begin.entry
+    → StepOver new page at end next pages entries weight_left is_front now len
+step_over head new page at end next pages entries weight_left is_front now len long kept is (entry, new_is, begin, len_is) =
+    let one = step head page at end next pages entries weight_left is_front now entry len long kept is begin.entry
     (begin.rest, ap (λ (s : CursorState). s.behind) (sym is) ∙ begin.parts) len_is in
     record {
       light = one.light;
       some = one.some;
-      kept = subst (λ (h : Option (Key × Rec)). IsKept h page (at + len) end next pages (entries - 1) (weight_left - len)) (sym new_is) one.kept;
-      stepped = (entry, subst (λ (h : Option (Key × Rec)). IsStepped now (seen h page (at + len) end next pages (entries - 1) (weight_left - len)) entry) (sym new_is) one.stepped);
+      kept = subst (λ (h : Option (Key × Rec)). IsKept h page (at + len) end next pages (entries - 1) (weight_left - len) is_front) (sym new_is) one.kept;
+      stepped = (entry, subst (λ (h : Option (Key × Rec)). IsStepped now (seen h page (at + len) end next pages (entries - 1) (weight_left - len) is_front) entry) (sym new_is) one.stepped);
       rises = subst (λ (h : Option (Key × Rec)). Rises now.head h) (sym new_is) one.rises;
     }
 
@@ -316,10 +329,10 @@ pub numbers_of_page : (cursor : CursorState) (next : Option ℕ) (entries : Entr
 numbers_of_page cursor next entries read count used h1 = grind (arith, common_steps, nat_tests, weight_is_length)
 
 -- the fields at the front of a page
-pub taken_is : (head : Option (Key × Rec)) (page was : List ℕ) (at end number pages entries weight_left used next_number : ℕ) (now : CursorState) (all : ℕ) (next : Option ℕ) (es : Entries)
-    → seen head was at end number pages entries weight_left ≡ now → IsPageOf all next es page → used ≡ used_by es → next_number ≡ page_number next
-    → seen head page 8 (8 + used) next_number (pages - 1) entries weight_left ≡ turned next es now
-taken_is head page was at end number pages entries weight_left used next_number now all next es is of used_is number_is =
+pub taken_is : (head : Option (Key × Rec)) (page was : List ℕ) (at end number pages entries weight_left used next_number : ℕ) (is_front : Bool) (now : CursorState) (all : ℕ) (next : Option ℕ) (es : Entries)
+    → seen head was at end number pages entries weight_left is_front ≡ now → IsPageOf all next es page → used ≡ used_by es → next_number ≡ page_number next
+    → seen head page 8 (8 + used) next_number (pages - 1) entries weight_left is_front ≡ turned next es now
+taken_is head page was at end number pages entries weight_left used next_number is_front now all next es is of used_is number_is =
     λ i. record {
       head = (is i).head;
       behind = (ap (λ n. between 8 (8 + n) page) used_is ∙ on_page all next es page of) i;
@@ -327,32 +340,33 @@ taken_is head page was at end number pages entries weight_left used next_number 
       pages = (is i).pages - 1;
       entries = (is i).entries;
       weight = (is i).weight;
+      is_front = (is i).is_front;
     }
 
-pub taken_kept : (head : Option (Key × Rec)) (page was : List ℕ) (at end number pages entries weight_left used next_number : ℕ) (now : CursorState) (all : ℕ) (next : Option ℕ) (es : Entries)
-    → seen head was at end number pages entries weight_left ≡ now → IsPageOf all next es page → used ≡ used_by es → next_number ≡ page_number next → 0 < now.pages → PageGoesOn now next es
-    → IsKept head page 8 (8 + used) next_number (pages - 1) entries weight_left
-taken_kept head page was at end number pages entries weight_left used next_number now all next es is of used_is number_is more goes =
+pub taken_kept : (head : Option (Key × Rec)) (page was : List ℕ) (at end number pages entries weight_left used next_number : ℕ) (is_front : Bool) (now : CursorState) (all : ℕ) (next : Option ℕ) (es : Entries)
+    → seen head was at end number pages entries weight_left is_front ≡ now → IsPageOf all next es page → used ≡ used_by es → next_number ≡ page_number next → 0 < now.pages → PageGoesOn now next es
+    → IsKept head page 8 (8 + used) next_number (pages - 1) entries weight_left is_front
+taken_kept head page was at end number pages entries weight_left used next_number is_front now all next es is of used_is number_is more goes =
     let fits = of.content.head.fits in (
       omega arith,
       omega (arith, fits, used_is),
-      subst IsCursor (sym (taken_is head page was at end number pages entries weight_left used next_number now all next es is of used_is number_is)) (turned_cursor now all next es page more of goes),
+      subst IsCursor (sym (taken_is head page was at end number pages entries weight_left used next_number is_front now all next es is of used_is number_is)) (turned_cursor now all next es page more of goes),
     )
 
 -- another page in the place of one of which nothing is left
-pub reread : (head : Option (Key × Rec)) (page was : List ℕ) (at end next pages entries weight_left : ℕ) → length was ≡ page_length → IsKept head was
-    at end next pages entries weight_left
-    → between at end was ≡ [] → seen head page at end next pages entries weight_left ≡ seen head was at end next pages entries weight_left
-reread head page was at end next pages entries weight_left long (order, inside, cursor) none =
+pub reread : (head : Option (Key × Rec)) (page was : List ℕ) (at end next pages entries weight_left : ℕ) (is_front : Bool) → length was ≡ page_length → IsKept head was
+    at end next pages entries weight_left is_front
+    → between at end was ≡ [] → seen head page at end next pages entries weight_left is_front ≡ seen head was at end next pages entries weight_left is_front
+reread head page was at end next pages entries weight_left is_front long (order, inside, cursor) none =
     let same : at ≡ end = omega (arith, order, inside, long, ap (length {A = ℕ}) none, length-between was at end (omega (arith, inside, long))) in
-    ap (λ (l : List ℕ). record { head = head; behind = l; next = next; pages = pages; entries = entries; weight = weight_left })
+    ap (λ (l : List ℕ). record { head = head; behind = l; next = next; pages = pages; entries = entries; weight = weight_left; is_front = is_front })
     (ap (λ n. between at n page) (sym same) ∙ between_none page at ∙ sym none)
 
-pub reread_kept : (head : Option (Key × Rec)) (page was : List ℕ) (at end next pages entries weight_left : ℕ) → length was ≡ page_length → IsKept
-    head was at end next pages entries weight_left
-    → between at end was ≡ [] → IsKept head page at end next pages entries weight_left
-reread_kept head page was at end next pages entries weight_left long kept none =
-    (kept.0, kept.1, subst IsCursor (sym (reread head page was at end next pages entries weight_left long kept none)) kept.2)
+pub reread_kept : (head : Option (Key × Rec)) (page was : List ℕ) (at end next pages entries weight_left : ℕ) (is_front : Bool) → length was ≡ page_length → IsKept
+    head was at end next pages entries weight_left is_front
+    → between at end was ≡ [] → IsKept head page at end next pages entries weight_left is_front
+reread_kept head page was at end next pages entries weight_left is_front long kept none =
+    (kept.0, kept.1, subst IsCursor (sym (reread head page was at end next pages entries weight_left is_front long kept none)) kept.2)
 
 -- ---- the next page
 
@@ -370,13 +384,13 @@ none_in_none [] empty = refl
 none_in_none (e ∷ es) empty =
     absurd (omega (arith, ap (length {A = ℕ}) empty, length-append (entry_bytes e) (entries_bytes es), length-spelling e.0 e.1))
 
-pub stepped_ahead : (sizes : Sizes) (old new : CursorState) (head : Key × Rec) (rest : List (Key × Rec)) (file : List ℕ) → (a : HasAhead sizes old rest file) → IsStepped old new head
-    → IsAdvanced sizes new (numbers_of a.coming) rest file
-stepped_ahead sizes old new head [] file a stepped =
+pub stepped_ahead : (end : Option ℕ) (sizes : Sizes) (old new : CursorState) (head : Key × Rec) (rest : Entries) (file : List ℕ)
+    → (a : HasAheadTo end sizes old rest file) → IsStepped old new head → IsAdvancedTo end sizes new (numbers_of a.coming) rest file
+stepped_ahead end sizes old new head [] file a stepped =
     let first = same_first a.here head new.behind a.each stepped.right (sym a.behind_is ∙ stepped.behind_is) in
     let none : [] ≡ head ∷ (first.more ++ entries_of a.coming) = a.rest_is ∙ ap (λ (l : List (Key × Rec)). l ++ entries_of a.coming) first.here_is in
     absurd (cc)
-stepped_ahead sizes old new head (e ∷ es) file a stepped =
+stepped_ahead end sizes old new head (e ∷ es) file a stepped =
     let first = same_first a.here head new.behind a.each stepped.right (sym a.behind_is ∙ stepped.behind_is) in
     let whole : e ∷ es ≡ head ∷ (first.more ++ entries_of a.coming) =
     a.rest_is ∙ ap (λ (l : List (Key × Rec)). l ++ entries_of a.coming) first.here_is in
@@ -387,6 +401,7 @@ stepped_ahead sizes old new head (e ∷ es) file a stepped =
     let weighs = a.weight_is in (
       stepped.head_is ∙ ap Some one,
       record {
+        front_is = stepped.front_is ∙ a.front_is;
         here = first.more;
         coming = a.coming;
         each = All-tail IsPageEntry head first.more (subst (λ (l : List (Key × Rec)). AreEntries l) first.here_is a.each);
@@ -406,12 +421,13 @@ stepped_ahead sizes old new head (e ∷ es) file a stepped =
 no_pages : (coming : List RunPage) → length coming ≡ 0 → coming ≡ []
 no_pages coming h1 = grind (arith, common_steps, nat_tests)
 
-pub ended_ahead : (sizes : Sizes) (old : CursorState) (rest : List (Key × Rec)) (file : List ℕ) → (a : HasAhead sizes old rest file) → old.behind ≡ [] → old.pages ≡ 0
-    → IsAdvanced sizes (record old { head = None }) (numbers_of a.coming) rest file
+pub ended_ahead : (end : Option ℕ) (sizes : Sizes) (old : CursorState) (rest : Entries) (file : List ℕ) → (a : HasAheadTo end sizes old rest file)
+    → old.behind ≡ [] → old.pages ≡ 0 → IsAdvancedTo end sizes (record old { head = None }) (numbers_of a.coming) rest file
 unfolding IsStrictlySortedBy
-ended_ahead sizes old [] file a none last = (
+ended_ahead end sizes old [] file a none last = (
   refl,
   record {
+    front_is = a.front_is;
     here = a.here;
     coming = a.coming;
     each = a.each;
@@ -426,7 +442,7 @@ ended_ahead sizes old [] file a none last = (
   },
   λ n has. has,
 )
-ended_ahead sizes old (e ∷ es) file a none last =
+ended_ahead end sizes old (e ∷ es) file a none last =
     let here : a.here ≡ [] = none_in_none a.here (sym none ∙ a.behind_is) in
     let coming : a.coming ≡ [] = no_pages a.coming (a.pages_is ∙ last) in
     let empty : e ∷ es ≡ [] = a.rest_is ∙ λ i. (here i) ++ entries_of (coming i) in
@@ -446,17 +462,20 @@ rise_head : (head : Option (Key × Rec)) (es fs : Entries) → AreRising (from_h
 rise_head None es fs rise = rise_front es fs rise
 rise_head (Some h) es fs rise = rise_front (h ∷ es) fs rise
 
--- whether there is a next page, by how many there are
-follows : (ps : List RunPage) (pages : ℕ) → suc (length ps) ≡ pages → IsSome (first_number ps None) ↔ (1 < pages)
-follows ps pages h1 = grind (arith, common_steps, nat_tests)
+-- whether there is a next page, by how many there are, and whether one comes behind them
+follows : (ps : List RunPage) (end : Option ℕ) (pages : ℕ) → suc (length ps) ≡ pages
+    → IsSome (first_number ps end) ↔ ((1 < pages) ⊎ IsTrue (is_some end))
+follows [] None pages is = (λ some. absurd (false≢true some), ⊎_elim (λ more. absurd (omega (arith, more, is))) (λ some. absurd (false≢true some)))
+follows [] (Some n) pages is = (λ some. inr refl, λ more. refl)
+follows (p ∷ ps) end pages is = (λ some. inl (omega (arith, is)), λ more. refl)
 
 -- pages that are chained fill all but the last of them
-chained_full : (sizes : Sizes) (file : List ℕ) (ps : List RunPage) → AreChained sizes ps None file → least_full * (length ps - 1) ≤ entries_weight (entries_of ps)
-chained_full sizes file [] chained = omega arith
-chained_full sizes file (p ∷ []) chained = omega arith
-chained_full sizes file (p ∷ q ∷ ps) chained =
+chained_full : (end : Option ℕ) (sizes : Sizes) (file : List ℕ) (ps : List RunPage) → AreChained sizes ps end file → least_full * (length ps - 1) ≤ entries_weight (entries_of ps)
+chained_full end sizes file [] chained = omega arith
+chained_full end sizes file (p ∷ []) chained = omega arith
+chained_full end sizes file (p ∷ q ∷ ps) chained =
     let full = chained.1.content.head.full refl in
-    omega (arith, full, weight_is_length p.entries, weight_join p.entries (entries_of (q ∷ ps)), chained_full sizes file (q ∷ ps) chained.2)
+    omega (arith, full, weight_is_length p.entries, weight_join p.entries (entries_of (q ∷ ps)), chained_full end sizes file (q ∷ ps) chained.2)
 
 -- so has what is left behind a page that was taken, and before it
 pub left_enough : (old : CursorState) (next : Option ℕ) (entries : Entries) → AreInNumber old next (length entries) (entries_weight entries)
@@ -466,22 +485,26 @@ left_enough old next entries numbers full more = by old.pages refl
     by : (n : ℕ) → old.pages ≡ n → least_full * (old.pages - 1) ≤ old.weight
     by zero is = absurd (omega (arith, more, is))
     by (suc zero) is = omega (arith, is)
-    by (suc (suc n)) is = omega (arith, is, numbers.enough (numbers.follows.1 (omega (arith, is))), full (omega (arith, is)))
+    by (suc (suc n)) is = omega (arith, is, numbers.enough (numbers.follows.1 (inl (omega (arith, is)))), full (omega (arith, is)))
 
 -- a cursor at a page's end, with pages ahead: its next page goes on, and has the first of what is ahead
-pub record OnNext (sizes : Sizes) (old : CursorState) (rest : List (Key × Rec)) (coming : List RunPage) (file : List ℕ) : Type 0 where
+pub record OnNext (end : Option ℕ) (sizes : Sizes) (old : CursorState) (rest : Entries) (coming : List RunPage) (file : List ℕ) : Type 0 where
   pub next : Option ℕ
   pub entries : Entries
   pub at : GoesOnAt sizes old next entries file
-  pub ahead : HasAhead sizes (turned next entries old) rest file
+  pub ahead : HasAheadTo end sizes (turned next entries old) rest file
   pub among : AreAmong ahead.coming (numbers_of coming)
 
-on_next : (sizes : Sizes) (old : CursorState) (rest : List (Key × Rec)) (file : List ℕ) (coming : List RunPage) → page_number (first_number coming None) ≡ old.next → AreChained sizes coming None file
+on_next : (end : Option ℕ) (sizes : Sizes) (old : CursorState) (rest : Entries) (file : List ℕ) (coming : List RunPage)
+    → old.is_front ≡ is_some end → page_number (first_number coming end) ≡ old.next → AreChained sizes coming end file
     → rest ≡ entries_of coming → AreRising (from_head old.head rest) → length coming ≡ old.pages → length rest ≡ old.entries → entries_weight rest ≡ old.weight → 0 < old.pages
-    → OnNext sizes old rest coming file
-on_next sizes old rest file [] first chained rest_is rise pages_is entries_is weight_is more = absurd (omega (arith, pages_is, more))
-on_next sizes old rest file (p ∷ ps) first chained rest_is rise pages_is entries_is weight_is more =
-    let next = first_number ps None in
+    → OnNext end sizes old rest coming file
+on_next end sizes old rest file [] front first chained rest_is rise pages_is entries_is weight_is more = absurd (omega (arith, pages_is, more))
+on_next end sizes old rest file (p ∷ ps) front first chained rest_is rise pages_is entries_is weight_is more =
+    let next = first_number ps end in
+    let goes_on = follows ps end old.pages pages_is in
+    let as_front : IsSome next ↔ ((1 < old.pages) ⊎ IsTrue old.is_front) =
+    subst (λ (b : Bool). IsSome next ↔ ((1 < old.pages) ⊎ IsTrue b)) (sym front) goes_on in
     let count : length rest ≡ length p.entries + length (entries_of ps) = ap (length {A = Key × Rec}) rest_is ∙ length-append p.entries (entries_of ps) in
     let weighs : entries_weight rest ≡ entries_weight p.entries + entries_weight (entries_of ps) = ap entries_weight rest_is ∙ weight_join p.entries (entries_of ps) in
     let valid : IsPageOf (page_count sizes) next p.entries (page_at sizes old.next file) = subst (λ n. IsPageOf (page_count sizes) next p.entries (page_at sizes n file)) first chained.1 in
@@ -491,7 +514,7 @@ on_next sizes old rest file (p ∷ ps) first chained rest_is rise pages_is entri
       omega (arith, weight_is, weighs, ap entries_weight (last one)),
     ) in
     let enough : IsSome next → entries_weight p.entries + least_full * (old.pages - 2) ≤ old.weight =
-    λ some. omega (arith, chained_full sizes file ps chained.2, pages_is, weight_is, weighs) in
+    λ some. omega (arith, chained_full end sizes file ps chained.2, pages_is, weight_is, weighs) in
     record {
       next = next;
       entries = p.entries;
@@ -500,10 +523,11 @@ on_next sizes old rest file (p ∷ ps) first chained rest_is rise pages_is entri
         valid = valid;
         goes_on = record {
           rise = rise_head old.head p.entries (entries_of ps) (subst (λ (l : Entries). AreRising (from_head old.head l)) rest_is rise);
-          numbers = record { follows = follows ps old.pages pages_is; few = omega (arith, entries_is, count); light = omega (arith, weight_is, weighs); all = all; enough = enough };
+          numbers = record { follows = as_front; few = omega (arith, entries_is, count); light = omega (arith, weight_is, weighs); all = all; enough = enough };
         };
       };
       ahead = record {
+        front_is = front;
         here = p.entries;
         coming = ps;
         each = chained.1.content.each;
@@ -519,28 +543,34 @@ on_next sizes old rest file (p ∷ ps) first chained rest_is rise pages_is entri
       among = λ n has. Contains-append_right (p.number ∷ []) (numbers_of ps) n has;
     }
 
-pub ahead_on_next : (sizes : Sizes) (old : CursorState) (rest : List (Key × Rec)) (file : List ℕ) → (a : HasAhead sizes old rest file) → old.behind ≡ [] → 0 < old.pages → OnNext sizes old rest a.coming file
-ahead_on_next sizes old rest file a h1 h2 = grind (arith, common_steps, nat_tests, none_in_none, on_next)
+pub ahead_on_next : (end : Option ℕ) (sizes : Sizes) (old : CursorState) (rest : Entries) (file : List ℕ) → (a : HasAheadTo end sizes old rest file)
+    → old.behind ≡ [] → 0 < old.pages → OnNext end sizes old rest a.coming file
+ahead_on_next end sizes old rest file a none more =
+    let here : a.here ≡ [] = none_in_none a.here (sym none ∙ a.behind_is) in
+    let all : rest ≡ entries_of a.coming = a.rest_is ∙ ap (λ (l : Entries). l ++ entries_of a.coming) here in
+    on_next end sizes old rest file a.coming a.front_is a.first_is a.chained all a.rise a.pages_is a.entries_is a.weight_is more
 
 -- what is ahead, on pages among these
-abbrev pub AheadAmong : Sizes → CursorState → List (Key × Rec) → List ℕ → List ℕ → Type 0
-AheadAmong sizes cursor rest pages file = (after : HasAhead sizes cursor rest file) × AreAmong after.coming pages
+abbrev pub AheadAmong : Option ℕ → Sizes → CursorState → Entries → List ℕ → List ℕ → Type 0
+AheadAmong end sizes cursor rest pages file = (after : HasAheadTo end sizes cursor rest file) × AreAmong after.coming pages
 
 -- the page that was turned to is that one
-pub turned_ahead : (sizes : Sizes) (old : CursorState) (rest : List (Key × Rec)) (file : List ℕ) (next : Option ℕ) (entries : Entries) → page_count sizes ≤ no_page → (a : HasAhead sizes old rest file)
-    → old.behind ≡ [] → 0 < old.pages → GoesOnAt sizes old next entries file → AheadAmong sizes (turned next entries old) rest (numbers_of a.coming) file
-turned_ahead sizes old rest file next entries few a none more at =
-    let on = ahead_on_next sizes old rest file a none more in
+pub turned_ahead : (end : Option ℕ) (sizes : Sizes) (old : CursorState) (rest : Entries) (file : List ℕ) (next : Option ℕ) (entries : Entries)
+    → page_count sizes ≤ no_page → (a : HasAheadTo end sizes old rest file)
+    → old.behind ≡ [] → 0 < old.pages → GoesOnAt sizes old next entries file → AheadAmong end sizes (turned next entries old) rest (numbers_of a.coming) file
+turned_ahead end sizes old rest file next entries few a none more at =
+    let on = ahead_on_next end sizes old rest file a none more in
     let same = page_same (page_count sizes) on.next next on.entries entries (page_at sizes old.next file) few on.at.valid at.valid in
-    subst (λ (o : Option ℕ). AheadAmong sizes (turned o entries old) rest (numbers_of a.coming) file) same.0
-    (subst (λ (es : Entries). AheadAmong sizes (turned on.next es old) rest (numbers_of a.coming) file) same.1 (on.ahead, on.among))
+    subst (λ (o : Option ℕ). AheadAmong end sizes (turned o entries old) rest (numbers_of a.coming) file) same.0
+    (subst (λ (es : Entries). AheadAmong end sizes (turned on.next es old) rest (numbers_of a.coming) file) same.1 (on.ahead, on.among))
 
 -- no damage is where entries are ahead
-pub not_broken : (sizes : Sizes) (old : CursorState) (rest : List (Key × Rec)) (file : List ℕ) (broken : Broken) → HasAhead sizes old rest file → old.behind ≡ [] → 0 < old.pages → broken ≢ Fault
+pub not_broken : (end : Option ℕ) (sizes : Sizes) (old : CursorState) (rest : Entries) (file : List ℕ) (broken : Broken)
+    → HasAheadTo end sizes old rest file → old.behind ≡ [] → 0 < old.pages → broken ≢ Fault
     → ((n : ℕ) → broken ≡ Damaged n → IsDamageAt sizes old n file) → ⊥
-not_broken sizes old rest file Fault a none more other shown = other refl
-not_broken sizes old rest file (Damaged n) a none more other shown =
-    let on = ahead_on_next sizes old rest file a none more in
+not_broken end sizes old rest file Fault a none more other shown = other refl
+not_broken end sizes old rest file (Damaged n) a none more other shown =
+    let on = ahead_on_next end sizes old rest file a none more in
     (shown n refl).damaged on.next on.entries on.at
 
 -- ---- the end
@@ -549,15 +579,15 @@ not_broken sizes old rest file (Damaged n) a none more other shown =
 pub through : (page : List ℕ) (at end : ℕ) → at ≤ end → end ≤ at → between at end page ≡ []
 through page at end order past = let same : at ≡ end = omega (arith, order, past) in ap (λ n. between at n page) (sym same) ∙ between_none page at
 
-pub record Ended (page : List ℕ) (at end next pages entries weight_left : ℕ) : Type 0 where
+pub record Ended (page : List ℕ) (at end next pages entries weight_left : ℕ) (is_front : Bool) : Type 0 where
   pub none_left : between at end page ≡ []
   pub no_entries : entries ≡ 0
   pub no_weight : weight_left ≡ 0
-  pub kept : IsKept None page at end next pages entries weight_left
+  pub kept : IsKept None page at end next pages entries weight_left is_front
 
-pub ended : (head : Option (Key × Rec)) (page : List ℕ) (at end next pages entries weight_left : ℕ) → IsKept head page at end next pages entries weight_left → end ≤ at → pages ≡ 0
-    → Ended page at end next pages entries weight_left
-ended head page at end next pages entries weight_left (order, inside, cursor) past last =
+pub ended : (head : Option (Key × Rec)) (page : List ℕ) (at end next pages entries weight_left : ℕ) (is_front : Bool) → IsKept head page at end next pages entries weight_left is_front → end ≤ at → pages ≡ 0
+    → Ended page at end next pages entries weight_left is_front
+ended head page at end next pages entries weight_left is_front (order, inside, cursor) past last =
     let none = through page at end order past in
     let here : cursor.here ≡ [] = none_in_none cursor.here (sym none ∙ cursor.behind_is) in
     let whole = cursor.all last in
@@ -567,5 +597,5 @@ ended head page at end next pages entries weight_left (order, inside, cursor) pa
       none_left = none;
       no_entries = no_entries;
       no_weight = no_weight;
-      kept = (order, inside, bare_cursor (between at end page) next pages entries weight_left none (λ pages_none. (no_entries, no_weight)));
+      kept = (order, inside, bare_cursor (between at end page) next pages entries weight_left is_front none (λ pages_none. (no_entries, no_weight)));
     }

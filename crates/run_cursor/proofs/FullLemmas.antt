@@ -1,17 +1,17 @@
 -- What the pages that a cursor has read weigh.
 use Rattle.std.proofs.lemmas.Bool.Decides.{nat_tests}
 use Rattle.std.proofs.lemmas.Grind.{common_steps}
-use Rattle.std.proofs.Common.{◌≡◌, ◌∙◌, ℕ, ◌+◌, ◌<◌, ◌≤◌, [], length, ap, sym, length-append, arith}
+use Rattle.std.proofs.Common.{◌≡◌, ◌∙◌, Bool, ℕ, ◌+◌, ◌<◌, ◌≤◌, [], length, ap, sym, length-append, arith}
 use Rattle.blsm_model.specs.Format.{least_full}
 use Rattle.blsm_model.specs.declared.component.Component.{Component}
 use Rattle.blsm_model.specs.declared.key.Key.{Key}
 use Rattle.record_delta.specs.declared.record.Rec.{Rec}
 use Rattle.page_file.specs.Entry.{entry_bytes}
 use Rattle.entry_codec.proofs.SpellingLemmas.{length-spelling}
-use Rattle.run_cursor.specs.Cursor.{CursorState, IsStepped, AreFull, PartGoesOn, started}
+use Rattle.run_cursor.specs.Cursor.{CursorState, IsStepped, AreFull, PartGoesOn, begun}
 
-pub full_start : (run : Component) → AreFull run (started run)
-full_start run = record { within = omega arith; more = λ some. omega arith; last = λ none. omega (arith, none) }
+pub full_start : (is_front : Bool) (run : Component) → AreFull run (begun is_front run)
+full_start is_front run = record { within = omega arith; more = λ some. omega arith; last = λ none. omega (arith, none) }
 
 pub full_step : (run : Component) (old new : CursorState) (head : Key × Rec) → AreFull run old → IsStepped old new head → AreFull run new
 full_step run old new head h1 h2 = grind (arith, common_steps, nat_tests, length-append, length-spelling)

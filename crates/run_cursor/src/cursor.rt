@@ -1,5 +1,5 @@
 //! A cursor over a component.
-ghost use Rattle.std.specs.Prelude.{◌≡◌, ◌≢◌, ◌↔◌, ◌+◌, ◌-◌, ◌*◌, ◌<◌, ◌≤◌, ◌++◌, [], ℕ, List, Option, Ok, Err, length, IsTrue, IsErr, OnOk, Some, IfSome, IfNone, option_map};
+ghost use Rattle.std.specs.Prelude.{◌≡◌, ◌≢◌, ◌↔◌, ◌+◌, ◌-◌, ◌*◌, ◌<◌, ◌≤◌, ◌++◌, [], ℕ, Bool, true, List, Option, Ok, Err, length, IsTrue, IsErr, OnOk, Some, IfSome, IfNone, option_map};
 ghost use Rattle.blsm_model.specs.declared.component.Component.{Component};
 ghost use Rattle.blsm_model.specs.declared.key.Key.{Key};
 ghost use Rattle.blsm_model.specs.Sizes.{Sizes};
@@ -16,8 +16,9 @@ ghost use Rattle.page_file.specs.Page.{IsPageOf, most_used};
 ghost use Rattle.blsm_model.specs.Components.{empty_component};
 ghost use Rattle.page_file.specs.File.{Reads};
 ghost use Rattle.page_file.specs.Component.{numbers_of, HasList};
-ghost use Rattle.run_cursor.specs.Cursor.{started, from_head, HasAhead, IsAdvanced, AreInNumber, PageGoesOn, GoesOnAt, IsStepped, IsDamageAt, Rises, AreFull, PartGoesOn, turned};
-ghost use Rattle.run_cursor.specs.Given.{HasGiven, HasGivenMore};
+ghost use Rattle.run_cursor.specs.Cursor.{begun, started, started_front, from_head, HasAhead, HasAheadTo, HasFront, IsAdvancedTo, AreInNumber};
+ghost use Rattle.run_cursor.specs.Cursor.{PageGoesOn, GoesOnAt, IsStepped, IsDamageAt, Rises, AreFull, PartGoesOn, turned};
+ghost use Rattle.run_cursor.specs.Given.{HasGiven, HasGivenOf, HasGivenMoreOf};
 ghost use Rattle.run_cursor.specs.Part.{BeginsNext};
 
 use blsm_model::{Component, Geometry, Key};
@@ -42,6 +43,8 @@ pub struct Cursor {
     pages: u32,
     entries: u64,
     weight: u64,
+    // Whether the last of the pages names one more.
+    is_front: bool,
 }
 
 impl Model for Cursor {
@@ -49,9 +52,9 @@ impl Model for Cursor {
 
     ghost Value = { CursorState };
 
-    ghost view = { λ c. seen c.head c.page c.at c.end c.next c.pages c.entries c.weight };
+    ghost view = { λ c. seen c.head c.page c.at c.end c.next c.pages c.entries c.weight c.is_front };
 
-    ghost invariant = { λ c. IsKept c.head c.page c.at c.end c.next c.pages c.entries c.weight };
+    ghost invariant = { λ c. IsKept c.head c.page c.at c.end c.next c.pages c.entries c.weight c.is_front };
 }
 
 // Makes a head of the entry that begins at a place of a page, and gives its length. Where there was a head, its room is taken.
@@ -91,6 +94,27 @@ impl Cursor {
         ensures given { (sizes : Sizes) (file : List ℕ) → HasGiven sizes run.now result [] file }
         ensures full { AreFull run.now result }
     {
+        Cursor::begin(run, false)
+    }
+
+    /// A cursor before the first entry of a front: the finished pages of a run that is still written, of which the last one names a page more. It
+    /// ends behind that last one, and calls no device here.
+    pub fn start_front(front: &Component) -> Cursor
+        requires { front.now.pages ≡ 0 → front.now ≡ empty_component }
+        ensures start { result ≡ started_front front.now }
+        ensures list { (sizes : Sizes) (end : ℕ) (entries : Entries) (file : List ℕ) → (list : HasFront sizes front.now end entries file)
+            → (ahead : HasAheadTo (Some end) sizes result entries file) × (ahead.coming ≡ list.pages) }
+        ensures given { (sizes : Sizes) (file : List ℕ) → HasGivenOf true sizes front.now result [] file }
+        ensures full { AreFull front.now result }
+    {
+        Cursor::begin(front, true)
+    }
+
+    // A cursor before the first entry.
+    fn begin(run: &Component, is_front: bool) -> Cursor
+        requires { run.now.pages ≡ 0 → run.now ≡ empty_component }
+        ensures { result ≡ begun is_front run.now }
+    {
         Cursor {
             head: None,
             page: [0; PAGE_LEN],
@@ -100,7 +124,27 @@ impl Cursor {
             pages: run.pages,
             entries: run.entries,
             weight: run.weight,
+            is_front,
         }
+    }
+
+    /// Goes before the first entry of a component, whatever it was over. It calls no device, and moves no page.
+    pub fn restart(&mut self, run: &Component)
+        requires { run.now.pages ≡ 0 → run.now ≡ empty_component }
+        ensures start { self.new ≡ started run.now }
+        ensures list { (sizes : Sizes) (entries : Entries) (file : List ℕ) → (list : HasList sizes run.now entries file)
+            → (ahead : HasAhead sizes self.new entries file) × (ahead.coming ≡ list.pages) }
+        ensures given { (sizes : Sizes) (file : List ℕ) → HasGiven sizes run.now self.new [] file }
+        ensures full { AreFull run.now self.new }
+    {
+        self.head = None;
+        self.at = 0;
+        self.end = 0;
+        self.next = run.first;
+        self.pages = run.pages;
+        self.entries = run.entries;
+        self.weight = run.weight;
+        self.is_front = false;
     }
 
     /// How many entries come after the head, by the component's number; before the first `advance` all of them.
@@ -142,13 +186,17 @@ impl Cursor {
     }
 
     /// The component from the page on that `advance` reads next, as a component of its own, where it reads one then. A cursor that is
-    /// started over it stands where this one stands: it has the same entries ahead, on the same pages. It calls no device.
+    /// started over it, as over a front where it is one's, stands where this one stands: it has the same entries ahead, on the same pages. It calls
+    /// no device.
     pub fn from_here(&self) -> Option<Component>
         ensures part { IfSome result (BeginsNext self.now) }
         ensures none { IfNone result (self.now.behind ≡ [] → self.now.pages ≡ 0) }
         // Where the cursor has entries ahead, the part reads as these.
         ensures list { (sizes : Sizes) (rest : Entries) (file : List ℕ) → page_count sizes ≤ no_page → (ahead : HasAhead sizes self.now rest file)
             → IfSome result (λ part. (list : HasList sizes part rest file) × (list.pages ≡ ahead.coming)) }
+        ensures front { (sizes : Sizes) (end : ℕ) (rest : Entries) (file : List ℕ) → page_count sizes ≤ no_page
+            → (ahead : HasAheadTo (Some end) sizes self.now rest file)
+            → IfSome result (λ part. (list : HasFront sizes part end rest file) × (list.pages ≡ ahead.coming)) }
     {
         let first = self.next_page()?;
         Some(Component {
@@ -193,20 +241,24 @@ impl Cursor {
         u64::from(used) + u64::from(LEAST_FULL) * u64::from(self.pages - 2) <= self.weight
     }
 
+    // Whether a page has all that is left.
+    fn is_all(&self, page: &PageHead) -> bool
+        ensures { IsTrue result ↔ ((page.now.count ≡ self.now.entries) × (page.now.used ≡ self.now.weight)) }
+    {
+        u64::from(page.count) == self.entries && u64::from(page.used) == self.weight
+    }
+
     // Whether the numbers of a page are those of the next one.
     fn is_in_number(&self, page: PageHead) -> bool
         requires { 0 < self.now.pages }
         ensures { IsTrue result ↔ AreInNumber self.now page.next page.count page.used }
     {
-        let entries = u64::from(page.count);
-        match page.next {
-            None => {
-                self.pages == 1 && entries == self.entries && u64::from(page.used) == self.weight
-            }
-            Some(_) => {
-                self.pages > 1 && entries <= self.entries && self.leaves_enough(page.used)
-            }
+        if self.pages == 1 {
+            return page.next.is_some() == self.is_front && self.is_all(&page);
         }
+        page.next.is_some()
+            && u64::from(page.count) <= self.entries
+            && self.leaves_enough(page.used)
     }
 
     // Whether a valid page goes on behind the head.
@@ -255,7 +307,7 @@ impl Cursor {
     /// reads the next one, with one call of the disk; it takes no memory. After an `Err` the cursor is where it was.
     ///
     /// `Damaged` names the page that was to be read next: it is answered exactly where that isn't a valid page of the store, has a next
-    /// page though it is the last one by the component's number or none though it isn't, has a first key that isn't above the
+    /// page though it is the last one by the component's number or none though it isn't (of a front each page has one), has a first key that isn't above the
     /// head's, or has more entries or weight than are left by the component's numbers, or, as the last page, fewer, or leaves too
     /// little weight to fill the pages behind it but the last. A page that is met again is such a one, since its keys don't rise.
     /// `Fault` comes only where the disk's count of faults rose.
@@ -266,13 +318,14 @@ impl Cursor {
 
         // Where these entries come after the head, the cursor goes on to the first of them, and has the others ahead, on pages among those
         // that it had ahead.
-        ensures list { (rest : Entries) → IsTrue (D.state disk.old).tells_bytes → (before : HasAhead geo.now self.old rest (D.state disk.new).bytes)
-            → result ≢ Err Broken.Fault → (result ≡ Ok tt) × IsAdvanced geo.now self.new (numbers_of before.coming) rest (D.state disk.new).bytes }
+        ensures list { (end : Option ℕ) (rest : Entries) → IsTrue (D.state disk.old).tells_bytes
+            → (before : HasAheadTo end geo.now self.old rest (D.state disk.new).bytes)
+            → result ≢ Err Broken.Fault → (result ≡ Ok tt) × IsAdvancedTo end geo.now self.new (numbers_of before.coming) rest (D.state disk.new).bytes }
 
-        // Where the component begins with the entries that were given so far, it begins with one more; at the end it reads as them.
-        ensures given { (run : Component) (given : Entries) → IsTrue (D.state disk.old).tells_bytes
-            → HasGiven geo.now run self.old given (D.state disk.new).bytes
-            → OnOk result (HasGivenMore geo.now run self.new self.new.head given (D.state disk.new).bytes) }
+        // Where the component, or the front, begins with the entries that were given so far, it begins with one more; at the end it reads as them.
+        ensures given { (is_front : Bool) (run : Component) (given : Entries) → IsTrue (D.state disk.old).tells_bytes
+            → HasGivenOf is_front geo.now run self.old given (D.state disk.new).bytes
+            → OnOk result (HasGivenMoreOf is_front geo.now run self.new self.new.head given (D.state disk.new).bytes) }
 
         // What is damaged, the page's bytes show.
         ensures damaged { (n : ℕ) → result ≡ Err (Broken.Damaged n) → IsTrue (D.state disk.old).tells_bytes

@@ -1,5 +1,5 @@
 -- What a cursor has left above a key, while it goes on.
-use Rattle.std.proofs.Common.{◌≡◌, ◌≢◌, ◌∙◌, ◌⊎◌, ℕ, ◌+◌, ◌<◌, ◌≤◌, true, false, List, [], ◌∷◌, length, Option, Some, None, IfSome, IfNone, Result, Ok, Err, inl, inr, refl, ap, sym, subst, arith}
+use Rattle.std.proofs.Common.{◌≡◌, ◌≢◌, ◌∙◌, ◌⊎◌, ℕ, ◌+◌, ◌<◌, ◌≤◌, Bool, true, false, List, [], ◌∷◌, length, Option, Some, None, IfSome, IfNone, Result, Ok, Err, inl, inr, refl, ap, sym, subst, arith}
 use Rattle.std.proofs.lemmas.Grind.{common_steps}
 use Rattle.std.proofs.lemmas.Bool.Decides.{nat_tests}
 use Rattle.std.proofs.lemmas.Cmp.{nat_list_cmp_total}
@@ -8,7 +8,8 @@ use Rattle.std.proofs.lemmas.Result.{err_from_is_err_and}
 use Rattle.std.specs.List.{IsDistinct}
 use Rattle.std.specs.List.Sorted.{IsStrictlySortedBy}
 use Rattle.blsm_model.specs.declared.component.Component.{Component}
-use Rattle.blsm_model.specs.Components.{empty_component}
+use Rattle.blsm_model.specs.Components.{empty_component, no_page}
+use Rattle.std.proofs.lemmas.Bool.{false≢true}
 use Rattle.blsm_model.specs.declared.key.Key.{Key}
 use Rattle.blsm_model.specs.Sizes.{Sizes}
 use Rattle.disk_trait.specs.Disk.{DiskState}
@@ -23,7 +24,8 @@ use Rattle.page_file.specs.declared.file.Broken.{Broken}
 use Rattle.page_file.specs.declared.file.Broken.TheVariants.{Fault}
 use Rattle.page_file.specs.Component.{RunPage, numbers_of, HasList}
 use Rattle.run_cursor.specs.declared.walk.Walk.{Walk}
-use Rattle.run_cursor.specs.Cursor.{CursorState, from_head, HasAhead, IsAdvanced, AreAmong}
+use Rattle.run_cursor.specs.Cursor.{CursorState, from_head, HasAhead, HasAheadTo, HasFront, IsAdvancedTo, AreAmong}
+use Rattle.run_cursor.specs.Given.{EndsAs, HasListOf, pages_listed}
 use Rattle.run_cursor.specs.Part.{IsNextPart}
 use Rattle.run_cursor.specs.Walk.{IsWalk}
 use Rattle.merge_ends.specs.Input.{head_above, key_of}
@@ -63,26 +65,36 @@ left_behind : (at : Option Key) (head : Option (Key × Rec)) (rest entries : Ent
 left_behind at head rest entries stale is = grind (arith, common_steps, nat_tests)
 
 -- the part in which the next entry stands has left what the one before had
-pub part_left : {sizes : Sizes} {file : List ℕ} {at : Option Key} {walk : Walk} {part : Component} {entries : Entries} {pages : List ℕ} → head_above at walk.cursor.head ≡ false
-    → (has : HasLeft sizes at walk entries pages file) → ((list : HasList sizes part has.rest file) × (list.pages ≡ has.ahead.coming)) ⊎ (part ≡ walk.here) → HasPart sizes at part entries pages file
-part_left {sizes} {file} {at} {walk} {part} {entries} {pages} stale has is = by is
+abbrev pub Listed : Bool → Sizes → Component → Entries → List RunPage → List ℕ → Type 0
+Listed is_front sizes part rest coming file =
+    (list : HasListOf is_front sizes part rest file) × (pages_listed is_front sizes part rest file list ≡ coming)
+
+pub part_left : {is_front : Bool} {sizes : Sizes} {file : List ℕ} {at : Option Key} {walk : Walk} {part : Component} {entries : Entries} {pages : List ℕ}
+    → head_above at walk.cursor.head ≡ false → (has : HasLeft is_front sizes at walk entries pages file)
+    → Listed is_front sizes part has.rest has.ahead.coming file ⊎ (part ≡ walk.here) → HasPart is_front sizes at part entries pages file
+part_left {is_front} {sizes} {file} {at} {walk} {part} {entries} {pages} stale has is = by is
   where
-    by : ((list : HasList sizes part has.rest file) × (list.pages ≡ has.ahead.coming)) ⊎ (part ≡ walk.here) → HasPart sizes at part entries pages file
+    by : Listed is_front sizes part has.rest has.ahead.coming file ⊎ (part ≡ walk.here) → HasPart is_front sizes at part entries pages file
     by (inl begins) = record {
       of_part = has.rest;
       list = begins.0;
       left_is = left_behind at walk.cursor.head has.rest entries stale has.left_is;
       among = subst (λ (ps : List RunPage). AreAmong ps pages) (sym begins.1) has.among;
     }
-    by (inr same) = subst (λ (p : Component). HasPart sizes at p entries pages file) (sym same) has.part
+    by (inr same) = subst (λ (p : Component). HasPart is_front sizes at p entries pages file) (sym same) has.part
 
-left_on : (sizes : Sizes) (file : List ℕ) (at : Option Key) (old new : Walk) (entries : Entries) (pages : List ℕ) → head_above at old.cursor.head ≡ false
-    → (has : HasLeft sizes at old entries pages file) → IsAdvanced sizes new.cursor (numbers_of has.ahead.coming) has.rest file → HasPart sizes at new.here entries pages file
-    → HasLeft sizes at new entries pages file
-left_on sizes file at old new entries pages stale has advanced part = by has.rest (left_behind at old.cursor.head has.rest entries stale has.left_is) advanced
+left_on : (is_front : Bool) (sizes : Sizes) (file : List ℕ) (at : Option Key) (old new : Walk) (entries : Entries) (pages : List ℕ)
+    → head_above at old.cursor.head ≡ false → (has : HasLeft is_front sizes at old entries pages file)
+    → IsAdvancedTo has.end sizes new.cursor (numbers_of has.ahead.coming) has.rest file → HasPart is_front sizes at new.here entries pages file
+    → HasLeft is_front sizes at new entries pages file
+left_on is_front sizes file at old new entries pages stale has advanced part =
+    by has.rest (left_behind at old.cursor.head has.rest entries stale has.left_is) advanced
   where
-    by : (rest : Entries) → above at rest ≡ above at entries → IsAdvanced sizes new.cursor (numbers_of has.ahead.coming) rest file → HasLeft sizes at new entries pages file
+    by : (rest : Entries) → above at rest ≡ above at entries → IsAdvancedTo has.end sizes new.cursor (numbers_of has.ahead.coming) rest file
+        → HasLeft is_front sizes at new entries pages file
     by [] left_is on = record {
+      end = has.end;
+      ends = has.ends;
       rest = [];
       ahead = on.1;
       left_is = ap (λ (h : Option (Key × Rec)). above at (from_head h [])) on.0 ∙ left_is;
@@ -90,6 +102,8 @@ left_on sizes file at old new entries pages stale has advanced part = by has.res
       part = part;
     }
     by (e ∷ es) left_is on = record {
+      end = has.end;
+      ends = has.ends;
       rest = es;
       ahead = on.1;
       left_is = ap (λ (h : Option (Key × Rec)). above at (from_head h es)) on.0 ∙ left_is;
@@ -98,21 +112,41 @@ left_on sizes file at old new entries pages stale has advanced part = by has.res
     }
 
 -- by what calls of `next_part` and `advance` say of lists
-pub advance_left : {result : Result (Unit {0}) Broken} {sizes : Sizes} {file bytes : List ℕ} {at : Option Key} {old new : Walk} {entries : Entries} {pages : List ℕ} → bytes ≡ file
-    → head_above at old.cursor.head ≡ false → HasLeft sizes at old entries pages file
+pub advance_left : {result : Result (Unit {0}) Broken} {is_front : Bool} {sizes : Sizes} {file bytes : List ℕ} {at : Option Key} {old new : Walk}
+    {entries : Entries} {pages : List ℕ} → bytes ≡ file
+    → head_above at old.cursor.head ≡ false → HasLeft is_front sizes at old entries pages file
     → ((rest : Entries) (ahead : HasAhead sizes old.cursor rest file) → ((list : HasList sizes new.here rest file) × (list.pages ≡ ahead.coming)) ⊎ (new.here ≡ old.here))
-    → ((rest : Entries) (before : HasAhead sizes old.cursor rest bytes) → result ≢ Err Fault → (result ≡ Ok tt) × IsAdvanced sizes new.cursor (numbers_of before.coming) rest bytes)
-    → result ≢ Err Fault → (result ≡ Ok tt) × HasLeft sizes at new entries pages file
-advance_left {sizes = sizes} {file} {bytes} {at} {old} {new} {entries} {pages} same stale has part list other =
-    let here = subst (λ (b : List ℕ). HasLeft sizes at old entries pages b) (sym same) has in
-    let advanced = list here.rest here.ahead other in
-    let next = subst (λ (b : List ℕ). HasPart sizes at new.here entries pages b) (sym same) (part_left {walk = old} stale has (part has.rest has.ahead)) in
-    (advanced.0, subst (λ (b : List ℕ). HasLeft sizes at new entries pages b) same (left_on sizes bytes at old new entries pages stale here advanced.1 next))
+    → ((end : ℕ) (rest : Entries) (ahead : HasAheadTo (Some end) sizes old.cursor rest file)
+    → ((list : HasFront sizes new.here end rest file) × (list.pages ≡ ahead.coming)) ⊎ (new.here ≡ old.here))
+    → ((end : Option ℕ) (rest : Entries) (before : HasAheadTo end sizes old.cursor rest bytes) → result ≢ Err Fault
+    → (result ≡ Ok tt) × IsAdvancedTo end sizes new.cursor (numbers_of before.coming) rest bytes)
+    → result ≢ Err Fault → (result ≡ Ok tt) × HasLeft is_front sizes at new entries pages file
+advance_left {is_front = is_front} {sizes} {file} {bytes} {at} {old} {new} {entries} {pages} same stale has part part_of_front list other =
+    let here = subst (λ (b : List ℕ). HasLeft is_front sizes at old entries pages b) (sym same) has in
+    let advanced = list here.end here.rest here.ahead other in
+    let next = subst (λ (b : List ℕ). HasPart is_front sizes at new.here entries pages b) (sym same)
+    (part_left {is_front = is_front} {walk = old} stale has (listed is_front has.end has.ends has.ahead)) in (
+      advanced.0,
+      subst (λ (b : List ℕ). HasLeft is_front sizes at new entries pages b) same
+          (left_on is_front sizes bytes at old new entries pages stale here advanced.1 next),
+    )
+  where
+    listed : (kind : Bool) (end : Option ℕ) → EndsAs kind end → (ahead : HasAheadTo end sizes old.cursor has.rest file)
+        → Listed kind sizes new.here has.rest ahead.coming file ⊎ (new.here ≡ old.here)
+    listed false None ends ahead = part has.rest ahead
+    listed false (Some end) ends ahead = absurd (let no : ◌≡◌ {A = Option ℕ} (Some end) None = ends in cc)
+    listed true None ends ahead = absurd (false≢true ends)
+    listed true (Some end) ends ahead = by (part_of_front end has.rest ahead)
+      where
+        by : ((list : HasFront sizes new.here end has.rest file) × (list.pages ≡ ahead.coming)) ⊎ (new.here ≡ old.here)
+            → Listed true sizes new.here has.rest ahead.coming file ⊎ (new.here ≡ old.here)
+        by (inl begins) = inl ((end, begins.0), begins.1)
+        by (inr same) = inr same
 
 -- a cursor that is at an entry above the key, or at the end, is at the first of what it has left
-pub head_first : (sizes : Sizes) (file : List ℕ) (at : Option Key) (walk : Walk) (entries : Entries) (pages : List ℕ) → HasLeft sizes at walk entries pages file
-    → (head_above at walk.cursor.head ≡ true) ⊎ ((walk.cursor.head ≡ None) × (walk.cursor.entries ≡ 0)) → walk.cursor.head ≡ first_of (above at entries)
-head_first sizes file at walk entries pages h1 h2 = grind (arith, common_steps, nat_tests)
+pub head_first : (is_front : Bool) (sizes : Sizes) (file : List ℕ) (at : Option Key) (walk : Walk) (entries : Entries) (pages : List ℕ)
+    → HasLeft is_front sizes at walk entries pages file → (head_above at walk.cursor.head ≡ true) ⊎ ((walk.cursor.head ≡ None) × (walk.cursor.entries ≡ 0)) → walk.cursor.head ≡ first_of (above at entries)
+head_first is_front sizes file at walk entries pages h1 h2 = grind (arith, common_steps, nat_tests)
 
 -- at the end nothing is ahead
 none_reads : (sizes : Sizes) (file : List ℕ) → (list : HasList sizes empty_component [] file) × (list.pages ≡ [])
@@ -126,46 +160,67 @@ none_reads sizes file = (
   refl,
 )
 
-pub left_ended : {sizes : Sizes} {file : List ℕ} {at : Option Key} {old new : Walk} {entries : Entries} {pages : List ℕ} → new.cursor ≡ old.cursor → new.here ≡ empty_component → old.cursor.head ≡ None
-    → old.cursor.entries ≡ 0 → HasLeft sizes at old entries pages file → HasLeft sizes at new entries pages file
-left_ended {sizes} {file} {at} {old} {new} {entries} {pages} cursor here none no_entries has = subst (λ (w : Walk). HasLeft sizes at w entries pages file) is at_end
+none_front : (sizes : Sizes) (file : List ℕ) → HasFront sizes empty_component no_page [] file
+unfolding IsStrictlySortedBy IsDistinct
+none_front sizes file = record {
+  pages = [];
+  reads = record { first_is = refl; chained = tt; rise = tt; apart = tt; pages_is = refl; entries_is = refl; weight_is = refl };
+  entries_are = refl;
+}
+
+pub none_listed : (is_front : Bool) (sizes : Sizes) (file : List ℕ) → Listed is_front sizes empty_component [] [] file
+unfolding none_front
+none_listed false sizes file = none_reads sizes file
+none_listed true sizes file = ((no_page, none_front sizes file), refl)
+
+pub left_ended : {is_front : Bool} {sizes : Sizes} {file : List ℕ} {at : Option Key} {old new : Walk} {entries : Entries} {pages : List ℕ}
+    → new.cursor ≡ old.cursor → new.here ≡ empty_component → old.cursor.head ≡ None
+    → old.cursor.entries ≡ 0 → HasLeft is_front sizes at old entries pages file → HasLeft is_front sizes at new entries pages file
+left_ended {is_front} {sizes} {file} {at} {old} {new} {entries} {pages} cursor here none no_entries has =
+    subst (λ (w : Walk). HasLeft is_front sizes at w entries pages file) is at_end
   where
     is : ◌≡◌ {A = Walk} (record { cursor = old.cursor; here = empty_component }) new
     is = λ i. record { cursor = sym cursor i; here = sym here i }
 
-    at_end : HasLeft sizes at (record { cursor = old.cursor; here = empty_component }) entries pages file
+    at_end : HasLeft is_front sizes at (record { cursor = old.cursor; here = empty_component }) entries pages file
     at_end = record {
+      end = has.end;
+      ends = has.ends;
       rest = has.rest;
       ahead = has.ahead;
       left_is = has.left_is;
       among = has.among;
       part = record {
         of_part = [];
-        list = (none_reads sizes file).0;
-        left_is = sym (first_none (above at entries) (sym (head_first sizes file at old entries pages has (inr (none, no_entries))) ∙ none));
-        among = subst (λ (ps : List RunPage). AreAmong ps pages) (sym (none_reads sizes file).1) (λ n in_none. absurd (omega (arith, in_none.1)));
+        list = (none_listed is_front sizes file).0;
+        left_is = sym (first_none (above at entries) (sym (head_first is_front sizes file at old entries pages has (inr (none, no_entries))) ∙ none));
+        among = subst (λ (ps : List RunPage). AreAmong ps pages) (sym (none_listed is_front sizes file).1)
+            (λ n in_none. absurd (omega (arith, in_none.1)));
       };
     }
 
 -- ---- above another key
 
-pub part_further : (sizes : Sizes) (file : List ℕ) (at : Option Key) (key : Key) (part : Component) (entries : Entries) (pages : List ℕ) → is_above at key ≡ true
-    → HasPart sizes at part entries pages file → HasPart sizes (Some key) part entries pages file
-part_further sizes file at key part entries pages key_above has = record {
+pub part_further : (is_front : Bool) (sizes : Sizes) (file : List ℕ) (at : Option Key) (key : Key) (part : Component) (entries : Entries)
+    (pages : List ℕ) → is_above at key ≡ true
+    → HasPart is_front sizes at part entries pages file → HasPart is_front sizes (Some key) part entries pages file
+part_further is_front sizes file at key part entries pages key_above has = record {
   of_part = has.of_part;
   list = has.list;
   left_is = above_further at key has.of_part key_above ∙ ap (above (Some key)) has.left_is ∙ sym (above_further at key entries key_above);
   among = has.among;
 }
 
-pub left_further : (sizes : Sizes) (file : List ℕ) (at : Option Key) (key : Key) (walk : Walk) (entries : Entries) (pages : List ℕ) → is_above at key ≡ true
-    → HasLeft sizes at walk entries pages file → HasLeft sizes (Some key) walk entries pages file
-left_further sizes file at key walk entries pages key_above has = record {
+pub left_further : (is_front : Bool) (sizes : Sizes) (file : List ℕ) (at : Option Key) (key : Key) (walk : Walk) (entries : Entries) (pages : List ℕ)
+    → is_above at key ≡ true → HasLeft is_front sizes at walk entries pages file → HasLeft is_front sizes (Some key) walk entries pages file
+left_further is_front sizes file at key walk entries pages key_above has = record {
+  end = has.end;
+  ends = has.ends;
   rest = has.rest;
   ahead = has.ahead;
   left_is = above_further at key (from_head walk.cursor.head has.rest) key_above ∙ ap (above (Some key)) has.left_is ∙ sym (above_further at key entries key_above);
   among = has.among;
-  part = part_further sizes file at key walk.here entries pages key_above has.part;
+  part = part_further is_front sizes file at key walk.here entries pages key_above has.part;
 }
 
 -- ---- pages ahead

@@ -6,3 +6,5 @@ pub mod RowLemmas
 pub mod RangeLemmas
 pub mod StayLemmas
 pub mod RestLemmas
+pub mod SpliceLemmas
+pub mod SeekLemmas

@@ -3,7 +3,7 @@ use Rattle.std.proofs.lemmas.Bool.Decides.{nat_tests}
 use Rattle.std.proofs.lemmas.Grind.{common_steps}
 use Rattle.std.specs.Prelude.{◌≢◌, ⊤, Option, Some, None, Result, Ok, slice_index_or, [], take, drop}
 use Rattle.std.specs.List.{Contains}
-use Rattle.std.proofs.Common.{◌≡◌, ◌∙◌, ◌+◌, ◌≤◌, ◌++◌, ℕ, List, ap, sym, subst, inl, inr, ⊎_elim, arith}
+use Rattle.std.proofs.Common.{◌≡◌, ◌∙◌, ◌+◌, ◌≤◌, ◌++◌, ℕ, List, refl, ap, sym, subst, inl, inr, ⊎_elim, arith}
 use Rattle.std.proofs.lemmas.Bool.{cases_eq}
 use Rattle.std.proofs.lemmas.List.Elements.{Contains-append_left, Contains-append_right}
 use Rattle.disk_trait.specs.Region.{IsWithin as IsInside, IsSameOutside, outside, span}
@@ -15,26 +15,62 @@ use Rattle.page_space.specs.Space.{SpaceState, HasRole, IsPinnedBy, IsWithin, Ke
 use Rattle.page_file.specs.declared.file.Broken.{Broken}
 use Rattle.page_file.specs.Component.{RunPage, numbers_of}
 use Rattle.page_file.specs.File.{AreSamePages, page_start, pages_region}
-use Rattle.page_file.proofs.ComponentLemmas.{list_kept}
+use Rattle.page_file.proofs.ComponentLemmas.{chain_kept, list_kept}
+use Rattle.run_cursor.specs.Cursor.{HasFront}
+use Rattle.blsm_model.specs.declared.component.Component.{Component}
+use Rattle.record_delta.specs.Entries.{Entries}
 use Rattle.page_file.proofs.PageLemmas.{before_apart, same_pages}
 use Rattle.run_writer.specs.Writer.{role_region}
 use Rattle.merge_ends.specs.Output.{TakesPages}
 use Rattle.scan_view.specs.Hold.{HoldState, HasRows, pages_held}
 use Rattle.scan_view.specs.Pins.{Pins, IsUnpinned, HasHeld, HasPinned, beside_pins}
 
+front_kept : (sizes : Sizes) (front : Component) (entries : Entries) (old new : List ℕ) (end : ℕ) → (list : HasFront sizes front end entries old)
+    → AreSamePages sizes (numbers_of list.pages) old new → (now : HasFront sizes front end entries new) × (now.pages ≡ list.pages)
+front_kept sizes front entries old new end list same =
+    let reads = list.reads in (
+      record {
+        pages = list.pages;
+        reads = record {
+          first_is = reads.first_is;
+          chained = chain_kept sizes list.pages (Some end) old new same reads.chained;
+          rise = reads.rise;
+          apart = reads.apart;
+          pages_is = reads.pages_is;
+          entries_is = reads.entries_is;
+          weight_is = reads.weight_is;
+        };
+        entries_are = list.entries_are;
+      },
+      refl,
+    )
+
 pub rows_kept : (sizes : Sizes) (hold : HoldState) (rows : List Row) (old new : List ℕ) → (before : HasRows sizes hold rows old)
     → AreSamePages sizes (pages_held before) old new → (now : HasRows sizes hold rows new) × (pages_held now ≡ pages_held before)
 rows_kept sizes hold rows old new before same =
+    let ls = numbers_of before.front.1.pages in
     let ns = numbers_of before.c1.pages in
     let ms = numbers_of before.c1x.pages in
     let ks = numbers_of before.c2.pages in
-    let one = list_kept sizes hold.c1 before.of_c1 old new before.c1 (λ n has. same n (Contains-append_left (ns ++ ms) ks n (Contains-append_left ns ms n has))) in
-    let two = list_kept sizes hold.c1x before.of_c1x old new before.c1x (λ n has. same n (Contains-append_left (ns ++ ms) ks n (Contains-append_right ns ms n has))) in
-    let three = list_kept sizes hold.c2 before.of_c2 old new before.c2 (λ n has. same n (Contains-append_right (ns ++ ms) ks n has)) in (
-      record { of_c1 = before.of_c1; of_c1x = before.of_c1x; of_c2 = before.of_c2; c1 = one.0; c1x = two.0; c2 = three.0; rows_are = before.rows_are },
-      ap (λ (ps : List RunPage). numbers_of ps ++ numbers_of two.0.pages ++ numbers_of three.0.pages) one.1
-          ∙ ap (λ (ps : List RunPage). ns ++ numbers_of ps ++ numbers_of three.0.pages) two.1
-          ∙ ap (λ (ps : List RunPage). ns ++ ms ++ numbers_of ps) three.1,
+    let front = front_kept sizes hold.front before.of_front old new before.front.0 before.front.1
+    (λ n has. same n (Contains-append_left (ls ++ ns ++ ms) ks n (Contains-append_left (ls ++ ns) ms n (Contains-append_left ls ns n has)))) in
+    let one = list_kept sizes hold.c1 before.of_c1 old new before.c1
+    (λ n has. same n (Contains-append_left (ls ++ ns ++ ms) ks n (Contains-append_left (ls ++ ns) ms n (Contains-append_right ls ns n has)))) in
+    let two = list_kept sizes hold.c1x before.of_c1x old new before.c1x
+    (λ n has. same n (Contains-append_left (ls ++ ns ++ ms) ks n (Contains-append_right (ls ++ ns) ms n has))) in
+    let three = list_kept sizes hold.c2 before.of_c2 old new before.c2 (λ n has. same n (Contains-append_right (ls ++ ns ++ ms) ks n has)) in (
+      record {
+        of_front = before.of_front;
+        of_c1 = before.of_c1;
+        of_c1x = before.of_c1x;
+        of_c2 = before.of_c2;
+        front = (before.front.0, front.0);
+        c1 = one.0;
+        c1x = two.0;
+        c2 = three.0;
+        rows_are = before.rows_are;
+      },
+      (λ i. numbers_of (front.1 i) ++ numbers_of (one.1 i) ++ numbers_of (two.1 i) ++ numbers_of (three.1 i)),
     )
 
 -- a hold's rows are read from pages that are pinned, so they stay where nothing else is written

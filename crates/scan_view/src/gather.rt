@@ -1,15 +1,15 @@
 //! Rows that are gathered from a scan.
-ghost use Rattle.std.specs.Prelude.{◌≡◌, ◌≢◌, ◌+◌, ◌<◌, ◌≤◌, ◌++◌, ◌∷◌, [], ℕ, List, Ok, Err, length, take, drop, IsTrue, OnOk};
-ghost use Rattle.blsm_model.specs.declared.component.Component.{Component};
+ghost use Rattle.std.specs.Prelude.{◌≡◌, ◌≢◌, ◌+◌, ◌<◌, ◌≤◌, ◌++◌, ◌∷◌, [], ℕ, List, Option, Ok, Err, length, take, drop, IsTrue, OnOk};
+ghost use Rattle.blsm_model.specs.declared.key.Key.{Key};
 ghost use Rattle.blsm_model.specs.Format.{most_rows};
 ghost use Rattle.blsm_model.specs.Geometry.{file_length};
 ghost use Rattle.blsm_model.specs.Keys.{in_range as in_range_of};
-ghost use Rattle.record_delta.specs.Entries.{Entries, AreSorted, above};
+ghost use Rattle.record_delta.specs.Entries.{AreSorted, above};
 ghost use Rattle.page_file.specs.File.{Reads};
-ghost use Rattle.scan_view.specs.Hold.{AreGiven, rows_of, view_of};
+ghost use Rattle.scan_view.specs.Hold.{AreGiven, rows_of};
 ghost use Rattle.scan_view.specs.Left.{IsFile};
 ghost use Rattle.scan_view.specs.Scan.{IsScan, HaveRead, AreWalks, AreFurther, pages_left};
-ghost use Rattle.scan_view.specs.Told.{Contents, AreTold, IsNeeded, is_before as is_before_end};
+ghost use Rattle.scan_view.specs.Told.{Contents, Sources, AreTold, IsNeeded, hold_over, view_by, is_before as is_before_end};
 
 use crate::RowRoom;
 use crate::scan::Scan;
@@ -64,19 +64,20 @@ pub fn gather<D: Disk>(
     requires few { n ≤ most_rows }
     requires sorted { AreSorted memory.now }
     requires length { IsTrue (D.state disk.old).tells_bytes → length (D.state disk.old).bytes ≡ file_length geo.now }
-    ensures rows { (file : List ℕ) (xs ys zs : Entries) (pages : List ℕ) → IsFile file (D.state disk.old) → IsScan geo.now scan.old xs ys zs pages file
-        → result ≢ Err Broken.Fault
-        → (result ≡ Ok tt) × (rows.new ≡ take n (rows_of low.now high.now (above scan.old.at (view_of memory.now xs ys zs))))
-        × (rows_of low.now high.now (above scan.new.at (view_of memory.now xs ys zs)) ≡ drop n (rows_of low.now high.now (above scan.old.at (view_of memory.now xs ys zs))))
-        × IsScan geo.now scan.new xs ys zs pages file }
+    ensures rows { (file : List ℕ) (released : Option Key) (lists : Contents) (pages : List ℕ) → IsFile file (D.state disk.old)
+        → IsScan geo.now scan.old released lists pages file → result ≢ Err Broken.Fault
+        → (result ≡ Ok tt) × (rows.new ≡ take n (rows_of low.now high.now (above scan.old.at (view_by memory.now released lists))))
+        × (rows_of low.now high.now (above scan.new.at (view_by memory.now released lists))
+        ≡ drop n (rows_of low.now high.now (above scan.old.at (view_by memory.now released lists))))
+        × IsScan geo.now scan.new released lists pages file }
     ensures given { OnOk result (AreGiven n low.now high.now scan.old.at scan.new.at rows.new) }
-    // Whatever the components read as, so it is by what was read of them; and a page is named as damaged only where the next row can't be told without it.
-    ensures told { (file : List ℕ) (c1 c1x c2 : Component) (read : Contents) → IsFile file (D.state disk.old) → HaveRead geo.now c1 c1x c2 scan.old read file
-        → OnOk result (AreTold geo.now n (record { low = low.now; high = high.now; memory = memory.now; c1 = c1; c1x = c1x; c2 = c2; place = scan.old.at }) scan.new.at rows.new file
-        × (now : Contents) × HaveRead geo.now c1 c1x c2 scan.new now file) }
-    ensures damaged { (k : ℕ) (file : List ℕ) (c1 c1x c2 : Component) (read : Contents) → result ≡ Err (Broken.Damaged k) → IsFile file (D.state disk.old)
-        → HaveRead geo.now c1 c1x c2 scan.old read file
-        → IsNeeded geo.now n (record { low = low.now; high = high.now; memory = memory.now; c1 = c1; c1x = c1x; c2 = c2; place = scan.old.at }) k file }
+    // Whatever front and components read as, so it is by what was read of them; and a page is named as damaged only where the next row can't be told
+    // without it.
+    ensures told { (file : List ℕ) (of : Sources) (read : Contents) → IsFile file (D.state disk.old) → HaveRead geo.now of scan.old read file
+        → OnOk result (AreTold geo.now n (hold_over low.now high.now memory.now of scan.old.at) scan.new.at rows.new file
+        × (now : Contents) × HaveRead geo.now of scan.new now file) }
+    ensures damaged { (k : ℕ) (file : List ℕ) (of : Sources) (read : Contents) → result ≡ Err (Broken.Damaged k) → IsFile file (D.state disk.old)
+        → HaveRead geo.now of scan.old read file → IsNeeded geo.now n (hold_over low.now high.now memory.now of scan.old.at) k file }
     ensures walks { AreWalks scan.old → OnOk result (AreFurther scan.old scan.new) }
     ensures one_a_page { OnOk result ((D.state disk.new).clock + pages_left scan.new ≤ (D.state disk.old).clock + pages_left scan.old) }
     ensures reads { Reads (file_length geo.now) (pages_left scan.old) result (D.state disk.old) (D.state disk.new) }

@@ -1,5 +1,5 @@
 //! What holds of holds, while merges and the log write too. The functions do nothing: each stands for the laws that its clauses name.
-ghost use Rattle.std.specs.Prelude.{◌≡◌, ◌≢◌, ◌+◌, ◌≤◌, ℕ, List, Option};
+ghost use Rattle.std.specs.Prelude.{◌≡◌, ◌≢◌, ◌+◌, ◌≤◌, ℕ, Bool, List, Option};
 ghost use Rattle.disk_trait.specs.Region.{IsSameOutside, IsWithin as IsInside, span};
 ghost use Rattle.blsm_model.specs.declared.component.Component.{Component};
 ghost use Rattle.blsm_model.specs.declared.row.Row.{Row};
@@ -37,5 +37,5 @@ pub fn pins_stay()
 
 /// What was read of a component is itself a list that the component may have: what is said of each list that it may have is said of that one too.
 pub fn what_is_read()
-    ensures { (sizes : Sizes) (run : Component) (read : Entries) (file : List ℕ) → Begins sizes run read file → IsFront run read read }
+    ensures { (is_front : Bool) (sizes : Sizes) (run : Component) (read : Entries) (file : List ℕ) → Begins is_front sizes run read file → IsFront run read read }
 {}

@@ -13,6 +13,7 @@ mod records;
 mod row_room;
 mod scan;
 mod seek;
+mod splice;
 
 pub use hold::Hold;
 pub use holds::Holds;

@@ -1,5 +1,6 @@
 -- A walk over a component's pages, entry by entry.
 use Rattle.std.proofs.Common.{◌≡◌, ◌⊎◌, ◌≢◌, ◌↔◌, ℕ, ◌+◌, ◌-◌, ◌*◌, ◌<◌, ◌≤◌, List, [], ◌∷◌, ◌++◌, length, refl, ap, sym, subst, ◌∙◌, arith, inl, inr, ⊎_elim, Bool, true, false, Option, Some, None, Err, append-nil, append_assoc, length-append}
+use Rattle.std.proofs.lemmas.Bool.{false≢true}
 use Rattle.std.proofs.lemmas.Grind.{common_steps}
 use Rattle.std.proofs.lemmas.Bool.Decides.{nat_tests}
 use Rattle.std.specs.Prelude.{nat_eq, IsSome, IfSome, IfNone}
@@ -135,7 +136,10 @@ goes_at sizes run only cursor given file next es g none more within =
       goes_on = record {
         rise = subst (λ (h : Option (Key × Rec)). AreRising (from_head h es)) (sym head) (from_last None given es (subst (λ (l : Entries). AreRising (l ++ es)) are go.rise));
         numbers = record {
-          follows = (λ some. omega (arith, go.follows.0 some, g.pages_is), λ lt. go.follows.1 (omega (arith, lt, g.pages_is)));
+          follows = (
+            λ some. inl (omega (arith, go.follows.0 some, g.pages_is)),
+            ⊎_elim (λ lt. go.follows.1 (omega (arith, lt, g.pages_is))) (λ front. absurd (false≢true (sym g.front_is ∙ front))),
+          );
           few = omega (arith, within.few, g.entries_is, long);
           light = omega (arith, within.light, g.weight_is, weighs);
           enough = λ some. omega (arith, within.enough some, g.pages_is, g.weight_is, weighs);

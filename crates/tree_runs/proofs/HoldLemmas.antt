@@ -1,5 +1,5 @@
 -- What the components and the merges keep when a seat pins other pages.
-use Rattle.std.specs.Prelude.{◌≡◌, ◌≢◌, ℕ, ◌+◌, ◌<◌, ◌≤◌, Bool, List, [], Some, Result, Ok, Err, IfOk, OnOk, OnErr, slice_index_or, refl}
+use Rattle.std.specs.Prelude.{◌≡◌, ◌≢◌, ℕ, ◌+◌, ◌<◌, ◌≤◌, Bool, List, [], Some, slice_index_or}
 use Rattle.std.proofs.lemmas.Grind.{common_steps}
 use Rattle.std.proofs.lemmas.Bool.Decides.{nat_tests}
 use Rattle.std.specs.List.{Contains}
@@ -124,11 +124,10 @@ share_of : (runs : RunsState) → AreRuns runs → runs.catalogue.c1.weight + ru
 share_of runs are live = omega (arith, live, are.c1.filled.full, are.c1x.filled.full, are.c2.filled.full)
 
 -- so a hold of them has
-pub few_held : {E : Type 0} (runs : RunsState) (low high : Key) (b a : Entries) (result : Result HoldState E) → AreRuns runs
+pub few_held : (runs : RunsState) (low high : Key) (b a : Entries) (hold : HoldState) → AreRuns runs
     → runs.catalogue.c1.weight + runs.catalogue.c1x.weight + runs.catalogue.c2.weight ≤ capacity runs.sizes
-    → IfOk result (IsHeldFrom runs low high b a) → IfOk result (λ hold. pages_behind (Some hold) ≤ page_share runs.sizes)
-few_held runs low high b a (Ok hold) are live held = omega (arith, no_more_pages runs low high b a hold held, share_of runs are live)
-few_held runs low high b a (Err error) are live held = tt
+    → IsHeldFrom runs low high b a hold → pages_behind (Some hold) ≤ page_share runs.sizes
+few_held runs low high b a hold are live held = omega (arith, no_more_pages runs low high b a hold held, share_of runs are live)
 
 pub held_repinned : (runs : RunsState) (after : SpaceState) (seat : ℕ) → AreRuns runs → runs.catalogue.c1.weight + runs.catalogue.c1x.weight + runs.catalogue.c2.weight ≤ capacity runs.sizes
     → Pins seat runs.tags.c1 runs.tags.c1x runs.tags.c2 runs.space after → Repinned runs after
@@ -146,23 +145,12 @@ held_repinned runs after seat are live pins = record {
       ];
 }
 
-unchanged : (runs : RunsState) → AreRuns runs → Repinned runs runs.space
-unchanged runs are = record { roles = refl; pages = refl; shape = are.shape; open_unpinned = are.open_unpinned; deep_unpinned = are.deep_unpinned; share = are.within.seats }
-
--- where memory was refused the map is as it was
-pub built_repinned : {T E : Type 0} (runs : RunsState) (after : SpaceState) (seat : ℕ) (result : Result T E) → AreRuns runs
-    → runs.catalogue.c1.weight + runs.catalogue.c1x.weight + runs.catalogue.c2.weight ≤ capacity runs.sizes
-    → OnOk result (Pins seat runs.tags.c1 runs.tags.c1x runs.tags.c2 runs.space after) → OnErr result (after ≡ runs.space) → Repinned runs after
-built_repinned runs after seat (Ok value) are live pins same = held_repinned runs after seat are live pins
-built_repinned runs after seat (Err error) are live pins same = subst (λ (s : SpaceState). Repinned runs s) (sym same) (unchanged runs are)
-
 -- the rows of a hold whose pages are these, which the seat pins
-pub rows_pinned : {E : Type 0} (sizes : Sizes) (pins : List Members) (seat : ℕ) (rows : List Row) (file : List ℕ) (numbers : List ℕ) (result : Result HoldState E)
-    → IfOk result (λ hold. (has : HasRows sizes hold rows file) × (pages_held has ≡ numbers))
-    → OnOk result ((page : ℕ) → Contains numbers page → IsIn (slice_index_or pins seat []) page) → IfOk result (λ hold. HasHeld sizes pins seat (Some hold) (Some rows) file)
-rows_pinned sizes pins seat rows file numbers (Ok hold) has pinned =
+pub rows_pinned : (sizes : Sizes) (pins : List Members) (seat : ℕ) (rows : List Row) (file : List ℕ) (numbers : List ℕ) (hold : HoldState)
+    → (has : HasRows sizes hold rows file) × (pages_held has ≡ numbers)
+    → ((page : ℕ) → Contains numbers page → IsIn (slice_index_or pins seat []) page) → HasHeld sizes pins seat (Some hold) (Some rows) file
+rows_pinned sizes pins seat rows file numbers hold has pinned =
     record { has = has.0; pinned = λ page among. pinned page (subst (λ (ns : List ℕ). Contains ns page) has.1 among) }
-rows_pinned sizes pins seat rows file numbers (Err error) has pinned = tt
 
 -- the pages of a tree's components are pinned
 pub live_pinned : (runs : RunsState) (after : SpaceState) (seat : ℕ) (tree : Tree) (file : List ℕ)

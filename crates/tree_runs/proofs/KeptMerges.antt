@@ -64,7 +64,7 @@ module _ {sizes : Sizes} {region : Region} {old new : List ℕ} {space after : S
       → KeepsPages sizes space after region of_input → AreTagged space of_input pages
       → IsInput sizes old space role at cursor (numbers_of pages) entries → IsInput sizes new after role at cursor (numbers_of pages) entries
   input_still {tag} {of_input} {role} {at} {cursor} {entries} pages keeps role_is stays tagged input =
-      let now = ahead_kept sizes cursor input.rest old new input.ahead same in
+      let now = ahead_kept None sizes cursor input.rest old new input.ahead same in
       let back = λ (n : ℕ) (has : Contains (numbers_of now.0.coming) n). subst (λ (ps : List RunPage). Contains (numbers_of ps) n) now.1 has in
       record {
         sorted = input.sorted;

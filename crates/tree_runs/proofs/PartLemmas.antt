@@ -27,12 +27,6 @@ part_paged {low} {fences} {run} {part} is paged none =
     let same = part_none low fences run part is none in
     same ∙ paged (ap (λ (c : Component). c.pages) (sym same) ∙ none)
 
-pub held_parts : {E : Type 0} (runs : RunsState) (low high : Key) (b a : Entries) (c1 c1x c2 : Component) (result : Result HoldState E)
-    → IsPartFrom low (fences_of_tag runs runs.tags.c1).list runs.catalogue.c1 c1 → IsPartFrom low (fences_of_tag runs runs.tags.c1x).list runs.catalogue.c1x c1x → IsPartFrom low (fences_of_tag runs runs.tags.c2).list runs.catalogue.c2 c2
-    → IfOk result (λ hold. hold ≡ held_from low high b a c1 c1x c2) → IfOk result (IsHeldFrom runs low high b a)
-held_parts runs low high b a c1 c1x c2 (Ok hold) of_c1 of_c1x of_c2 is = record { c1 = c1; c1x = c1x; c2 = c2; of_c1 = of_c1; of_c1x = of_c1x; of_c2 = of_c2; hold_is = is }
-held_parts runs low high b a c1 c1x c2 (Err error) of_c1 of_c1x of_c2 is = tt
-
 -- a hold has no more pages than the components
 pub no_more_pages : (runs : RunsState) (low high : Key) (b a : Entries) (hold : HoldState) → IsHeldFrom runs low high b a hold
     → pages_behind (Some hold) ≤ runs.catalogue.c1.pages + runs.catalogue.c1x.pages + runs.catalogue.c2.pages

@@ -302,4 +302,4 @@ pub record IsHeldFrom (runs : RunsState) (low high : Key) (b a : Entries) (hold 
   pub of_c1 : IsPartFrom low (fences_of_tag runs runs.tags.c1).list runs.catalogue.c1 c1
   pub of_c1x : IsPartFrom low (fences_of_tag runs runs.tags.c1x).list runs.catalogue.c1x c1x
   pub of_c2 : IsPartFrom low (fences_of_tag runs runs.tags.c2).list runs.catalogue.c2 c2
-  pub hold_is : hold ≡ held_from low high b a c1 c1x c2
+  pub hold_is : hold ≡ held_from low high b a empty_component None c1 c1x c2

@@ -16,6 +16,7 @@ ghost use Rattle.tree_runs.specs.Holding.{AreOf, IsHeldFrom, PinsComponents, Rep
 use crate::runs::Runs;
 use blsm_model::{Component, Key};
 use mem_table::Table;
+use page_file::no_component;
 use page_space::Role;
 use refusal::NoMemory;
 use scan_view::Hold;
@@ -56,21 +57,10 @@ impl Runs {
         let c1 = self.part_from(&self.catalogue.c1, self.c1, low);
         let c1x = self.part_from(&self.catalogue.c1x, self.c1x, low);
         let c2 = self.part_from(&self.catalogue.c2, self.c2, low);
-        Hold::build(
-            alloc,
-            seat,
-            low,
-            high,
-            a,
-            b,
-            &c1,
-            &c1x,
-            &c2,
-            &mut self.space,
-            self.c1,
-            self.c1x,
-            self.c2,
-        )
+        let none = no_component();
+        let hold = Hold::build(alloc, low, high, a, b, &none, &None, &c1, &c1x, &c2)?;
+        self.space.pin(seat, self.c1, self.c1x, self.c2);
+        Ok(hold)
     }
 
     // The part of a component, whose pages have this tag, that can have keys from this one on.

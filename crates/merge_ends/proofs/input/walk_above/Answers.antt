@@ -1,4 +1,4 @@
-use Rattle.std.proofs.Common.{◌∙◌, ℕ, List, Err, refl, ap, sym, subst, ⊎_elim}
+use Rattle.std.proofs.Common.{◌∙◌, ℕ, List, None, Err, refl, ap, sym, subst, ⊎_elim}
 use Rattle.std.proofs.lemmas.Result.{err_from_is_err_and}
 use Rattle.disk_trait.proofs.ReadLemmas.{only_reads_same}
 use Rattle.blsm_model.specs.declared.component.Component.{Component}
@@ -14,7 +14,7 @@ returns-in_err-advance-clause-input g c = λ space role pages entries honest inp
     let here = subst (λ (b : List ℕ). IsInput c.args.geo.now b space role c.args.at.now c.args.walk.now.cursor pages entries)
     (sym (only_reads_same c.advance.ensures.reads.effect honest)) input in
     absurd (not_both c.advance.result c.in_err-advance.field-0.0 c.in_err-advance.was
-    (c.advance.ensures.list here.rest (g.met.D.Disk.honest_tells c.args.disk.now honest) here.ahead
+    (c.advance.ensures.list None here.rest (g.met.D.Disk.honest_tells c.args.disk.now honest) here.ahead
     (λ fault. other (p.1 ∙ ap Err (p.2 ∙ fault_is c.advance.result c.in_err-advance.field-0.0 c.in_err-advance.was fault)))).0)
 
 pub returns-clause-input : goal.returns-clause-input
@@ -23,7 +23,7 @@ returns-clause-input g c = λ space role pages entries honest input other.
     let at = c.args.at.now in
     let new = (g.D.Disk.state c.advance.new.disk).bytes in
     let here = subst (λ (b : List ℕ). IsInput sizes b space role at c.args.walk.now.cursor pages entries) (sym (only_reads_same c.advance.ensures.reads.effect honest)) input in
-    let advanced = c.advance.ensures.list here.rest (g.met.D.Disk.honest_tells c.args.disk.now honest) here.ahead (calm_of c.advance.result c.in_ok-advance.was) in
+    let advanced = c.advance.ensures.list None here.rest (g.met.D.Disk.honest_tells c.args.disk.now honest) here.ahead (calm_of c.advance.result c.in_ok-advance.was) in
     (refl, went_on sizes new space role at c.args.walk.now.cursor c.advance.new.self pages entries (sym c.is_above.ensures ∙ c.if-is_above.false) here advanced.1)
 
 pub returns-clause-part : goal.returns-clause-part

@@ -7,7 +7,8 @@ use Rattle.blsm_model.specs.Geometry.{file_length}
 use Rattle.record_delta.specs.declared.record.Rec.{Rec}
 use Rattle.record_delta.specs.Entries.{Entries, AreSorted, above, first_of}
 use Rattle.page_file.specs.File.{Reads}
-use Rattle.scan_view.specs.Hold.{AreGiven, rows_of, view_of}
+use Rattle.scan_view.specs.Hold.{AreGiven, rows_of, splice}
+use Rattle.scan_view.specs.Told.{view_by}
 use Rattle.scan_view.specs.Left.{key_or}
 use Rattle.scan_view.specs.Scan.{AreWalks, AreFurther, pages_left}
 use Rattle.scan_view.proofs.LeftLemmas.{not_failed, failed_as, calm_of, one_value, file_on, key_is_ahead, reads_after, reads_err, reads_ok}
@@ -62,53 +63,53 @@ loop-scan-init g c = record {
   one_a_page = omega arith;
   stands = refl;
   walks = λ walks. (walks, omega arith);
-  list = λ file xs ys zs pages is scan.
-      (scan, sym (ap (λ (l : List Row). l ++ rows_of c.args.low.now c.args.high.now (above c.args.scan.now.at (view_of c.args.memory.now xs ys zs))) c.clear.ensures));
-  read = λ file c1 c1x c2 read is have. (
+  list = λ file released lists pages is scan.
+      (scan, sym (ap (λ (l : List Row). l ++ rows_of c.args.low.now c.args.high.now (above c.args.scan.now.at (view_by c.args.memory.now released lists))) c.clear.ensures));
+  read = λ file of read is have. (
     record { now = read; read = have; onward = λ all fronts. fronts },
-    λ all fronts. sym (ap (λ (l : List Row). l ++ rows_of c.args.low.now c.args.high.now (above c.args.scan.now.at (view_of c.args.memory.now all.c1 all.c1x all.c2))) c.clear.ensures),
+    λ all fronts. sym (ap (λ (l : List Row). l ++ rows_of c.args.low.now c.args.high.now (above c.args.scan.now.at (view_by c.args.memory.now of.released all))) c.clear.ensures),
   );
 }
 
 pub returns-in_err-key-clause-rows : goal.returns-in_err-key-clause-rows
-returns-in_err-key-clause-rows g c = λ file xs ys zs pages is scan other.
+returns-in_err-key-clause-rows g c = λ file released lists pages is scan other.
     let inv = c.loop-scan.invariant in
-    absurd (not_failed c.from_residual.ensures.1 c.in_err-key.was other (λ calm. (c.next.ensures.list file xs ys zs pages (file_on inv.effect is) (inv.list file xs ys zs pages is scan).0 calm).0))
+    absurd (not_failed c.from_residual.ensures.1 c.in_err-key.was other (λ calm. (c.next.ensures.list file released lists pages (file_on inv.effect is) (inv.list file released lists pages is scan).0 calm).0))
 
 pub returns-in_err-key-clause-damaged : goal.returns-in_err-key-clause-damaged
-returns-in_err-key-clause-damaged g c = λ k file run run_x run_2 read damaged is have.
+returns-in_err-key-clause-damaged g c = λ k file of read damaged is have.
     let inv = c.loop-scan.invariant in
-    let now = inv.read file run run_x run_2 read is have in
+    let now = inv.read file of read is have in
     record {
       at = c.loop-scan.scan.at;
       inside = search rules;
       rows = c.loop-scan.rows;
       few = search rules;
       read = now.0.now;
-      begin = scan_begins c.args.geo.now file run run_x run_2 c.loop-scan.scan now.0.now now.0.read;
+      begin = scan_begins c.args.geo.now file of c.loop-scan.scan now.0.now now.0.read;
       first = now.1;
-      damage = c.next.ensures.damaged k file run run_x run_2 now.0.now (failed_as c.from_residual.ensures.1 c.in_err-key.was damaged) (file_on inv.effect is) now.0.read;
+      damage = c.next.ensures.damaged k file of now.0.now (failed_as c.from_residual.ensures.1 c.in_err-key.was damaged) (file_on inv.effect is) now.0.read;
     }
 
 pub returns-in_err-key-clause-reads : goal.returns-in_err-key-clause-reads
 returns-in_err-key-clause-reads g c = reads_err c.from_residual.ensures.1 c.in_err-key.was (reads_on g (goal.at.returns-in_err-key-clause-reads g c).After-next)
 
 pub returns-in_default-clause-rows : goal.returns-in_default-clause-rows
-returns-in_default-clause-rows g c = λ file xs ys zs pages is scan other.
+returns-in_default-clause-rows g c = λ file released lists pages is scan other.
     let inv = c.loop-scan.invariant in
-    let now = inv.list file xs ys zs pages is scan in
-    let came = c.next.ensures.list file xs ys zs pages (file_on inv.effect is) now.0 (calm_of c.next.result _ c.in_ok-key.was) in
+    let now = inv.list file released lists pages is scan in
+    let came = c.next.ensures.list file released lists pages (file_on inv.effect is) now.0 (calm_of c.next.result _ c.in_ok-key.was) in
     let none = one_value c.next.result _ _ came.0 (c.in_ok-key.was ∙ ap Ok c.in_default.is) in
-    let rows = none_left g (goal.at.returns-in_default-clause-rows g c).In_default (view_of c.args.memory.now xs ys zs) now.1 none in
+    let rows = none_left g (goal.at.returns-in_default-clause-rows g c).In_default (view_by c.args.memory.now released lists) now.1 none in
     (refl, rows.0, rows.1, came.1)
 
 pub returns-in_default-clause-told : goal.returns-in_default-clause-told
-returns-in_default-clause-told g c = λ file run run_x run_2 read is have.
+returns-in_default-clause-told g c = λ file of read is have.
     let inv = c.loop-scan.invariant in
-    let was = inv.read file run run_x run_2 read is have in
-    let now = c.in_ok-key.ensures.read file run run_x run_2 was.0.now (file_on inv.effect is) was.0.read in (
+    let was = inv.read file of read is have in
+    let now = c.in_ok-key.ensures.read file of was.0.now (file_on inv.effect is) was.0.read in (
       told_by now.0 (λ all fronts.
-          none_left g (goal.at.returns-in_default-clause-told g c).In_default (view_of c.args.memory.now all.c1 all.c1x all.c2) (was.1 all (now.0.onward all fronts)) (sym (now.1 all fronts) ∙ c.in_default.is)),
+          none_left g (goal.at.returns-in_default-clause-told g c).In_default (view_by c.args.memory.now of.released all) (was.1 all (now.0.onward all fronts)) (sym (now.1 all fronts) ∙ c.in_default.is)),
       now.0.now,
       now.0.read,
     )
@@ -136,46 +137,46 @@ loop-scan-preserved g c =
       one_a_page = omega (arith, inv.one_a_page, c.in_ok-key.ensures.one_a_page);
       stands = reads.stands (calm_of c.next.result _ c.in_ok-key.was);
       walks = further_on g (goal.at.loop-scan-preserved g c).In_ok-key;
-      list = λ file xs ys zs pages is scan.
-          let now = inv.list file xs ys zs pages is scan in
-          let came = c.next.ensures.list file xs ys zs pages (file_on inv.effect is) now.0 (calm_of c.next.result _ c.in_ok-key.was) in
+      list = λ file released lists pages is scan.
+          let now = inv.list file released lists pages is scan in
+          let came = c.next.ensures.list file released lists pages (file_on inv.effect is) now.0 (calm_of c.next.result _ c.in_ok-key.was) in
           let first = one_value c.next.result _ _ came.0 (c.in_ok-key.was ∙ ap Ok c.in-Some.is) in
-          (came.1, rows_on low high old at _ c.loop-scan.rows _ (view_of memory xs ys zs) e (view_sorted memory xs ys zs now.0.sorted_c2) first now.1 c.put_row.ensures at_is);
-      read = λ file run run_x run_2 read is have.
-          let was = inv.read file run run_x run_2 read is have in
-          let now = c.in_ok-key.ensures.read file run run_x run_2 was.0.now (file_on inv.effect is) was.0.read in (
+          (came.1, rows_on low high old at _ c.loop-scan.rows _ (view_by memory released lists) e (view_sorted memory (splice lists.front released lists.c1) lists.c1x lists.c2 now.0.sorted.c2) first now.1 c.put_row.ensures at_is);
+      read = λ file of read is have.
+          let was = inv.read file of read is have in
+          let now = c.in_ok-key.ensures.read file of was.0.now (file_on inv.effect is) was.0.read in (
             record { now = now.0.now; read = now.0.read; onward = λ all fronts. was.0.onward all (now.0.onward all fronts) },
-            λ all fronts. rows_on low high old at _ c.loop-scan.rows _ (view_of memory all.c1 all.c1x all.c2) e (view_sorted memory all.c1 all.c1x all.c2 fronts.c2.sorted) (sym (now.1 all fronts) ∙ c.in-Some.is)
+            λ all fronts. rows_on low high old at _ c.loop-scan.rows _ (view_by memory of.released all) e (view_sorted memory (splice all.front of.released all.c1) all.c1x all.c2 fronts.c2.sorted) (sym (now.1 all fronts) ∙ c.in-Some.is)
                 (was.1 all (now.0.onward all fronts)) c.put_row.ensures at_is,
           );
     }
 
 pub returns-else-is_before-clause-rows : goal.returns-else-is_before-clause-rows
-returns-else-is_before-clause-rows g c = λ file xs ys zs pages is scan other.
-    let now = c.loop-scan.invariant.list file xs ys zs pages is scan in
-    let rows = none_inside g (goal.at.returns-else-is_before-clause-rows g c).Else-is_before (view_of c.args.memory.now xs ys zs) (view_sorted c.args.memory.now xs ys zs now.0.sorted_c2) now.1 in
+returns-else-is_before-clause-rows g c = λ file released lists pages is scan other.
+    let now = c.loop-scan.invariant.list file released lists pages is scan in
+    let rows = none_inside g (goal.at.returns-else-is_before-clause-rows g c).Else-is_before (view_by c.args.memory.now released lists) (view_sorted c.args.memory.now (splice lists.front released lists.c1) lists.c1x lists.c2 now.0.sorted.c2) now.1 in
     (refl, rows.0, rows.1, now.0)
 
 pub returns-else-is_before-clause-told : goal.returns-else-is_before-clause-told
-returns-else-is_before-clause-told g c = λ file run run_x run_2 read is have.
+returns-else-is_before-clause-told g c = λ file of read is have.
     let memory = c.args.memory.now in
-    let now = c.loop-scan.invariant.read file run run_x run_2 read is have in (
+    let now = c.loop-scan.invariant.read file of read is have in (
       told_by now.0 (λ all fronts.
-          none_inside g (goal.at.returns-else-is_before-clause-told g c).Else-is_before (view_of memory all.c1 all.c1x all.c2) (view_sorted memory all.c1 all.c1x all.c2 fronts.c2.sorted) (now.1 all fronts)),
+          none_inside g (goal.at.returns-else-is_before-clause-told g c).Else-is_before (view_by memory of.released all) (view_sorted memory (splice all.front of.released all.c1) all.c1x all.c2 fronts.c2.sorted) (now.1 all fronts)),
       now.0.now,
       now.0.read,
     )
 
 pub returns-after-loop-scan-clause-rows : goal.returns-after-loop-scan-clause-rows
-returns-after-loop-scan-clause-rows g c = λ file xs ys zs pages is scan other.
-    let now = c.loop-scan.invariant.list file xs ys zs pages is scan in
-    let rows = filled g (goal.at.returns-after-loop-scan-clause-rows g c).After-loop-scan (view_of c.args.memory.now xs ys zs) now.1 in
+returns-after-loop-scan-clause-rows g c = λ file released lists pages is scan other.
+    let now = c.loop-scan.invariant.list file released lists pages is scan in
+    let rows = filled g (goal.at.returns-after-loop-scan-clause-rows g c).After-loop-scan (view_by c.args.memory.now released lists) now.1 in
     (refl, rows.0, rows.1, now.0)
 
 pub returns-after-loop-scan-clause-told : goal.returns-after-loop-scan-clause-told
-returns-after-loop-scan-clause-told g c = λ file run run_x run_2 read is have.
-    let now = c.loop-scan.invariant.read file run run_x run_2 read is have in (
-      told_by now.0 (λ all fronts. filled g (goal.at.returns-after-loop-scan-clause-told g c).After-loop-scan (view_of c.args.memory.now all.c1 all.c1x all.c2) (now.1 all fronts)),
+returns-after-loop-scan-clause-told g c = λ file of read is have.
+    let now = c.loop-scan.invariant.read file of read is have in (
+      told_by now.0 (λ all fronts. filled g (goal.at.returns-after-loop-scan-clause-told g c).After-loop-scan (view_by c.args.memory.now of.released all) (now.1 all fronts)),
       now.0.now,
       now.0.read,
     )

@@ -1,4 +1,4 @@
-use Rattle.std.proofs.Common.{◌≡◌, ◌+◌, ◌≤◌, List, ℕ}
+use Rattle.std.proofs.Common.{◌≡◌, ◌+◌, ◌≤◌, List, Bool, ℕ}
 use Rattle.blsm_model.specs.declared.component.Component.{Component}
 use Rattle.blsm_model.specs.Geometry.{file_length}
 use Rattle.record_delta.specs.Entries.{Entries}
@@ -14,8 +14,10 @@ invariant-loop-walk g l = record {
   stands : (g.D.Disk.state l.disk).faults ≡ (g.D.Disk.state l.fn.disk).faults;
   falls : count_left l.at l.walk.cursor ≤ count_left l.at l.fn.walk.cursor;
   walks : IsWalk l.fn.walk → IsWalk l.walk × (l.walk.here.pages ≤ l.fn.walk.here.pages);
-  list : (file : List ℕ) (entries : Entries) (pages : List ℕ) → IsFile file (g.D.Disk.state l.fn.disk) → HasLeft l.geo l.at l.fn.walk entries pages file → HasLeft l.geo l.at l.walk entries pages file;
-  read : (file : List ℕ) (run : Component) (given : Entries) → IsFile file (g.D.Disk.state l.fn.disk) → HasRead l.geo run l.at l.fn.walk given file → HasReadOn l.geo run l.at l.walk given file;
+  list : (is_front : Bool) (file : List ℕ) (entries : Entries) (pages : List ℕ) → IsFile file (g.D.Disk.state l.fn.disk)
+      → HasLeft is_front l.geo l.at l.fn.walk entries pages file → HasLeft is_front l.geo l.at l.walk entries pages file;
+  read : (is_front : Bool) (file : List ℕ) (run : Component) (given : Entries) → IsFile file (g.D.Disk.state l.fn.disk)
+      → HasRead is_front l.geo run l.at l.fn.walk given file → HasReadOn is_front l.geo run l.at l.walk given file;
 }
 
 abbrev pub decreases-loop-walk : goal.decreases-loop-walk

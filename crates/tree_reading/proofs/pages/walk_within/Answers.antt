@@ -1,4 +1,4 @@
-use Rattle.std.proofs.Common.{◌≡◌, ◌∙◌, ◌≤◌, ◌∷◌, ◌++◌, ℕ, List, [], Option, Some, None, Result, Err, IsTrue, refl, ap, sym, subst, arith}
+use Rattle.std.proofs.Common.{◌≡◌, ◌∙◌, ◌≤◌, ◌∷◌, ◌++◌, ℕ, List, [], Option, Some, None, Result, Err, IsTrue, false, refl, ap, sym, subst, arith}
 use mathlib.Core.Path.{subst₂}
 use Rattle.std.proofs.lemmas.Bool.{false≢true}
 use Rattle.disk_trait.proofs.ReadLemmas.{only_reads_start}
@@ -53,7 +53,7 @@ given_on : (g : _) (c : After-head g) (given : Entries) (head : Option (Key × R
 given_on g c given head honest is has =
     let same = still_then c.loop-page.invariant.effect c.advance.ensures.reads.effect honest in
     subst₂ (λ (h : Option (Key × Rec)) (b : List ℕ). HasGivenMore c.args.geo.now c.args.run.now c.advance.new.self h given b) (sym c.head.ensures ∙ is) same.2
-    (c.in_ok-advance.ensures.given c.args.run.now given (g.met.D.Disk.honest_tells c.loop-page.disk same.0)
+    (c.in_ok-advance.ensures.given false c.args.run.now given (g.met.D.Disk.honest_tells c.loop-page.disk same.0)
     (subst (λ (b : List ℕ). HasGiven c.args.geo.now c.args.run.now c.loop-page.cursor given b) (sym same.2) has))
 
 taken_in : (g : _) (c : After-head g) (earlier : List ℕ) (more : Entries) → IsTrue (g.D.Disk.state c.args.disk.now).is_honest → TakesUp earlier c.args.space.now

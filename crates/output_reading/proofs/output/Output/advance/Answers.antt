@@ -1,5 +1,5 @@
 use Rattle.std.specs.Prelude.{IfErr}
-use Rattle.std.proofs.Common.{◌∙◌, ◌≡◌, ◌+◌, ◌<◌, ◌≤◌, ◌≢◌, ℕ, [], List, Result, Err, ap, refl, sym, subst, arith}
+use Rattle.std.proofs.Common.{◌∙◌, ◌≡◌, ◌+◌, ◌<◌, ◌≤◌, ◌≢◌, ℕ, [], List, Result, Err, false, ap, refl, sym, subst, arith}
 use Rattle.blsm_model.specs.Components.{no_page}
 use Rattle.blsm_model.specs.Geometry.{page_count}
 use Rattle.page_file.specs.declared.file.Broken.{Broken}
@@ -44,7 +44,7 @@ returns-clause-met g c = λ run earlier first met honest has.
     let same = still c.advance.ensures.reads.effect honest in
     let entered = c.in_ok-enter.ensures in
     let given = subst (λ (s : CursorState). HasGiven c.args.geo.now (unbounded run) s met file) (sym entered.0) has.has in
-    let more = c.in_ok-advance.ensures.given (unbounded run) met (g.met.D.Disk.honest_tells c.args.disk.now honest)
+    let more = c.in_ok-advance.ensures.given false (unbounded run) met (g.met.D.Disk.honest_tells c.args.disk.now honest)
     (subst (λ (b : List ℕ). HasGiven c.args.geo.now (unbounded run) c.enter.new.self.cursor met b) (sym same.1) given) in
     met_next c.args.geo.now run earlier c.args.role first c.args.space.now c.enter.new.space c.args.self.now c.enter.new.self c.advance.new.self met
     file few has entered.1 entered.0
@@ -61,7 +61,7 @@ returns-clause-given g c = λ run given honest has.
     let before = subst (λ (s : CursorState). HasGiven c.args.geo.now (unbounded run) s given (g.D.Disk.state c.args.disk.now).bytes)
     (sym c.in_ok-enter.ensures.0) has in
     subst (λ (b : List ℕ). HasGivenMore c.args.geo.now (unbounded run) c.advance.new.self c.advance.new.self.head given b) same.1
-    (c.in_ok-advance.ensures.given (unbounded run) given (g.met.D.Disk.honest_tells c.args.disk.now honest)
+    (c.in_ok-advance.ensures.given false (unbounded run) given (g.met.D.Disk.honest_tells c.args.disk.now honest)
     (subst (λ (b : List ℕ). HasGiven c.args.geo.now (unbounded run) c.enter.new.self.cursor given b) (sym same.1) before))
 
 pub returns-clause-onward : goal.returns-clause-onward

@@ -8,7 +8,7 @@ use Rattle.run_cursor.specs.Cursor.{CursorState, seen, IsStepped}
 use Rattle.std.specs.Prelude.{Option}
 use Rattle.blsm_model.specs.declared.key.Key.{Key}
 use Rattle.record_delta.specs.declared.record.Rec.{Rec}
-use Rattle.run_cursor.specs.Given.{HasGiven, HasGivenMore}
+use Rattle.run_cursor.specs.Given.{HasGivenOf, HasGivenMoreOf}
 use Rattle.run_cursor.proofs.GivenLemmas.{given_step, given_on, given_end}
 use Rattle.run_cursor.proofs.CursorLemmas.{AheadAmong, left_enough, stepped_ahead, ended_ahead, ended, through, turned_ahead, not_broken}
 use Rattle.run_cursor.proofs.AheadLemmas.{advanced_wider}
@@ -19,72 +19,72 @@ use Rattle.page_file.proofs.ComponentLemmas.{weight_is_length}
 use Rattle.run_cursor.proofs.cursor.Cursor.advance.Goals as goal
 
 pub returns-then-self-clause-list : goal.returns-then-self-clause-list
-returns-then-self-clause-list g c = λ rest tells ahead other.
+returns-then-self-clause-list g c = λ upto rest tells ahead other.
     let s = c.step.ensures.stepped in
-    (refl, stepped_ahead c.args.geo.now c.args.self.now c.step.new.self s.0 rest _ ahead s.1)
+    (refl, stepped_ahead upto c.args.geo.now c.args.self.now c.step.new.self s.0 rest _ ahead s.1)
 
 pub invariant_of-self : goal.invariant_of-self
 invariant_of-self g c =
     let f = c.self.inside in
-    (ended f.head f.page f.at f.end f.next f.pages f.entries f.weight c.self.invariant c.if-self.false c.if-self-eq0.true).kept
+    (ended f.head f.page f.at f.end f.next f.pages f.entries f.weight f.is_front c.self.invariant c.if-self.false c.if-self-eq0.true).kept
 
 pub returns-then-self-eq0-clause-list : goal.returns-then-self-eq0-clause-list
-returns-then-self-eq0-clause-list g c = λ rest tells ahead other.
+returns-then-self-eq0-clause-list g c = λ upto rest tells ahead other.
     let f = c.self.inside in
-    let old = seen f.head f.page f.at f.end f.next f.pages f.entries f.weight in
-    let end = ended f.head f.page f.at f.end f.next f.pages f.entries f.weight c.self.invariant c.if-self.false c.if-self-eq0.true in
+    let old = seen f.head f.page f.at f.end f.next f.pages f.entries f.weight f.is_front in
+    let end = ended f.head f.page f.at f.end f.next f.pages f.entries f.weight f.is_front c.self.invariant c.if-self.false c.if-self-eq0.true in
     let file = (g.D.Disk.state c.args.disk.now).bytes in
-    let here = subst (λ (s : CursorState). AheadAmong c.args.geo.now s rest (numbers_of ahead.coming) file) (sym c.self.view_is) (ahead, λ n has. has) in
-    (refl, advanced_wider c.args.geo.now _ rest file (numbers_of here.0.coming) (numbers_of ahead.coming) here.1 (ended_ahead c.args.geo.now old rest file here.0 end.none_left c.if-self-eq0.true))
+    let here = subst (λ (s : CursorState). AheadAmong upto c.args.geo.now s rest (numbers_of ahead.coming) file) (sym c.self.view_is) (ahead, λ n has. has) in
+    (refl, advanced_wider upto c.args.geo.now _ rest file (numbers_of here.0.coming) (numbers_of ahead.coming) here.1 (ended_ahead upto c.args.geo.now old rest file here.0 end.none_left c.if-self-eq0.true))
 
 pub returns-then-self-eq0-clause-ended : goal.returns-then-self-eq0-clause-ended
 returns-then-self-eq0-clause-ended g c =
     let f = c.self.inside in
-    let end = ended f.head f.page f.at f.end f.next f.pages f.entries f.weight c.self.invariant c.if-self.false c.if-self-eq0.true in
+    let end = ended f.head f.page f.at f.end f.next f.pages f.entries f.weight f.is_front c.self.invariant c.if-self.false c.if-self-eq0.true in
     (subst (λ (s : CursorState). s.weight ≡ 0) c.self.view_is end.no_weight, end.no_entries, end.no_weight, c.if-self-eq0.true)
 
 pub returns-in_err-turn-clause-list : goal.returns-in_err-turn-clause-list
-returns-in_err-turn-clause-list g c = λ rest tells ahead other.
+returns-in_err-turn-clause-list g c = λ upto rest tells ahead other.
     let f = c.self.inside in
     let none : c.args.self.now.behind ≡ [] = ap (λ (s : CursorState). s.behind) (sym c.self.view_is) ∙ through f.page f.at f.end c.self.invariant.0 c.if-self.false in
     let more : 0 < c.args.self.now.pages = subst (λ (s : CursorState). 0 < s.pages) c.self.view_is (omega (arith, c.if-self-eq0.false)) in
     let p = err_from_is_err_and c.from_residual.result c.from_residual.ensures.1 in
-    absurd (not_broken c.args.geo.now c.args.self.now rest (g.D.Disk.state c.turn.new.disk).bytes c.in_err-turn.field-0.0 ahead none more (λ same. other (p.1 ∙ ap Err (p.2 ∙ same)))
+    absurd (not_broken upto c.args.geo.now c.args.self.now rest (g.D.Disk.state c.turn.new.disk).bytes c.in_err-turn.field-0.0 ahead none more (λ same. other (p.1 ∙ ap Err (p.2 ∙ same)))
     (λ n is. c.turn.ensures.damaged n (c.in_err-turn.was ∙ ap Err is) tells))
 
 pub returns-clause-list : goal.returns-clause-list
-returns-clause-list g c = λ rest tells ahead other.
+returns-clause-list g c = λ upto rest tells ahead other.
     let f = c.self.inside in
     let none : c.args.self.now.behind ≡ [] = ap (λ (s : CursorState). s.behind) (sym c.self.view_is) ∙ through f.page f.at f.end c.self.invariant.0 c.if-self.false in
     let more : 0 < c.args.self.now.pages = subst (λ (s : CursorState). 0 < s.pages) c.self.view_is (omega (arith, c.if-self-eq0.false)) in
     let t = c.in_ok-turn.ensures.turned in
     let s = c.step-2.ensures.stepped in
-    let there = turned_ahead c.args.geo.now c.args.self.now rest (g.D.Disk.state c.turn.new.disk).bytes t.0 t.1 c.turn.ensures.few ahead none more (t.5 tells) in
+    let there = turned_ahead upto c.args.geo.now c.args.self.now rest (g.D.Disk.state c.turn.new.disk).bytes t.0 t.1 c.turn.ensures.few ahead none more (t.5 tells) in
     let file = (g.D.Disk.state c.turn.new.disk).bytes in
-    let here = subst (λ (w : CursorState). AheadAmong c.args.geo.now w rest (numbers_of ahead.coming) file) (sym t.4) there in (
+    let here = subst (λ (w : CursorState). AheadAmong upto c.args.geo.now w rest (numbers_of ahead.coming) file) (sym t.4) there in (
       refl,
-      advanced_wider c.args.geo.now c.step-2.new.self rest file (numbers_of here.0.coming) (numbers_of ahead.coming) here.1
-          (stepped_ahead c.args.geo.now c.turn.new.self c.step-2.new.self s.0 rest file here.0 s.1),
+      advanced_wider upto c.args.geo.now c.step-2.new.self rest file (numbers_of here.0.coming) (numbers_of ahead.coming) here.1
+          (stepped_ahead upto c.args.geo.now c.turn.new.self c.step-2.new.self s.0 rest file here.0 s.1),
     )
 
 pub returns-then-self-clause-given : goal.returns-then-self-clause-given
-returns-then-self-clause-given g c = λ run given tells has.
+returns-then-self-clause-given g c = λ is_front run given tells has.
     let s = c.step.ensures.stepped in
     let file = (g.D.Disk.state c.args.disk.now).bytes in
-    subst (λ (h : Option (Key × Rec)). HasGivenMore c.args.geo.now run c.step.new.self h given file) (sym s.1.head_is)
-    (given_step c.args.geo.now run c.args.self.now c.step.new.self given s.0 file has s.1)
+    subst (λ (h : Option (Key × Rec)). HasGivenMoreOf is_front c.args.geo.now run c.step.new.self h given file) (sym s.1.head_is)
+    (given_step is_front c.args.geo.now run c.args.self.now c.step.new.self given s.0 file has s.1)
 
 pub returns-then-self-eq0-clause-given : goal.returns-then-self-eq0-clause-given
-returns-then-self-eq0-clause-given g c = λ run given tells has.
+returns-then-self-eq0-clause-given g c = λ is_front run given tells has.
     let f = c.self.inside in
     let file = (g.D.Disk.state c.args.disk.now).bytes in
-    let old = seen f.head f.page f.at f.end f.next f.pages f.entries f.weight in
-    let end = ended f.head f.page f.at f.end f.next f.pages f.entries f.weight c.self.invariant c.if-self.false c.if-self-eq0.true in
+    let old = seen f.head f.page f.at f.end f.next f.pages f.entries f.weight f.is_front in
+    let end = ended f.head f.page f.at f.end f.next f.pages f.entries f.weight f.is_front c.self.invariant c.if-self.false c.if-self-eq0.true in
     let few : page_count c.args.geo.now ≤ no_page = omega (arith, c.pages-pages.ensures.pages, c.pages-pages.ensures.bound) in
-    given_end c.args.geo.now run old given file few (subst (λ (s : CursorState). HasGiven c.args.geo.now run s given file) (sym c.self.view_is) has) end.none_left c.if-self-eq0.true end.no_entries end.no_weight
+    given_end few (subst (λ (s : CursorState). HasGivenOf is_front c.args.geo.now run s given file) (sym c.self.view_is) has) end.none_left c.if-self-eq0.true end.no_entries end.no_weight
 
 pub returns-clause-given : goal.returns-clause-given
-returns-clause-given g c = λ run given tells has.
+returns-clause-given g c = λ is_front run given tells has.
     let f = c.self.inside in
     let file = (g.D.Disk.state c.turn.new.disk).bytes in
     let none : c.args.self.now.behind ≡ [] = ap (λ (s : CursorState). s.behind) (sym c.self.view_is) ∙ through f.page f.at f.end c.self.invariant.0 c.if-self.false in
@@ -92,8 +92,8 @@ returns-clause-given g c = λ run given tells has.
     let t = c.in_ok-turn.ensures.turned in
     let s = c.step-2.ensures.stepped in
     let onto = subst (λ (w : CursorState). IsStepped w c.step-2.new.self s.0) t.4 s.1 in
-    subst (λ (h : Option (Key × Rec)). HasGivenMore c.args.geo.now run c.step-2.new.self h given file) (sym s.1.head_is)
-    (given_on c.args.geo.now run c.args.self.now c.step-2.new.self given t.0 t.1 s.0 file c.turn.ensures.few has none more (t.5 tells) onto)
+    subst (λ (h : Option (Key × Rec)). HasGivenMoreOf is_front c.args.geo.now run c.step-2.new.self h given file) (sym s.1.head_is)
+    (given_on is_front c.args.geo.now run c.args.self.now c.step-2.new.self given t.0 t.1 s.0 file c.turn.ensures.few has none more (t.5 tells) onto)
 
 pub returns-then-self-clause-reads : goal.returns-then-self-clause-reads
 returns-then-self-clause-reads g c = record { effect = only_reads_start (g.D.Disk.state c.args.disk.now) (g.met.D.Disk.timed c.args.disk.now); stands = λ other. refl; failed = λ wrong. absurd (cc) }

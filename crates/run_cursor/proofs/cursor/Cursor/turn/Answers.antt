@@ -1,4 +1,4 @@
-use Rattle.std.proofs.Common.{◌≡◌, ◌↔◌, ◌+◌, ◌-◌, ◌<◌, ◌≤◌, ◌∙◌, ℕ, [], Option, length, ap, sym, subst, arith}
+use Rattle.std.proofs.Common.{◌≡◌, ◌↔◌, ◌+◌, ◌-◌, ◌<◌, ◌≤◌, ◌∙◌, ℕ, [], Option, length, inl, ap, sym, subst, arith}
 use Rattle.std.specs.Prelude.{IsTrue}
 use Rattle.std.specs.List.{between}
 use Rattle.blsm_model.specs.Geometry.{page_count}
@@ -18,17 +18,17 @@ none_left : (g : _) (c : After-read_page g) → between c.self.inside.at c.self.
 none_left g c = ap (λ (s : CursorState). s.behind) c.self.view_is ∙ c.requires.none_left
 
 same : (g : _) (c : After-read_page g) → seen c.self.inside.head c.read_page.new.into c.self.inside.at c.self.inside.end c.self.inside.next
-    c.self.inside.pages c.self.inside.entries c.self.inside.weight ≡ c.args.self.now
+    c.self.inside.pages c.self.inside.entries c.self.inside.weight c.self.inside.is_front ≡ c.args.self.now
 same g c =
     let f = c.self.inside in
-    reread f.head c.read_page.new.into f.page f.at f.end f.next f.pages f.entries f.weight c.self.told c.self.invariant (none_left g c) ∙
+    reread f.head c.read_page.new.into f.page f.at f.end f.next f.pages f.entries f.weight f.is_front c.self.told c.self.invariant (none_left g c) ∙
     c.self.view_is
 
 kept : (g : _) (c : After-read_page g) → IsKept c.self.inside.head c.read_page.new.into c.self.inside.at c.self.inside.end c.self.inside.next
-    c.self.inside.pages c.self.inside.entries c.self.inside.weight
+    c.self.inside.pages c.self.inside.entries c.self.inside.weight c.self.inside.is_front
 kept g c =
     let f = c.self.inside in
-    reread_kept f.head c.read_page.new.into f.page f.at f.end f.next f.pages f.entries f.weight c.self.told c.self.invariant (none_left g c)
+    reread_kept f.head c.read_page.new.into f.page f.at f.end f.next f.pages f.entries f.weight f.is_front c.self.told c.self.invariant (none_left g c)
 
 pub returns-in_err-read_page-clause-kept : goal.returns-in_err-read_page-clause-kept
 returns-in_err-read_page-clause-kept g c = λ err. same g (goal.at.returns-in_err-read_page-clause-kept g c).After-read_page
@@ -62,7 +62,7 @@ few_pages : (g : _) (c : After-number_of-self-inside g) → page_count c.args.ge
 few_pages g c = omega (arith, c.pages.ensures.pages, c.pages.ensures.bound)
 
 goes : (g : _) (c : After-number_of-self-inside g) → seen c.self.inside.head c.read_page.new.into c.self.inside.at c.self.inside.end
-    c.self.inside.next c.self.inside.pages c.self.inside.entries c.self.inside.weight ≡ c.args.self.now
+    c.self.inside.next c.self.inside.pages c.self.inside.entries c.self.inside.weight c.self.inside.is_front ≡ c.args.self.now
     → PageGoesOn c.args.self.now (is_page g c).0 (is_page g c).1
 goes g c is =
     let page = is_page g c in
@@ -77,12 +77,12 @@ number_is g c = c.number_of-self-inside.ensures ∙ ap (λ (h : PageHead). page_
 
 is_turned : (g : _) (c : After-number_of-self-inside g)
     → seen c.self.inside.head c.read_page.new.into 8 (8 + c.read-head.result.used) c.number_of-self-inside.result (c.self.inside.pages - 1)
-    c.self.inside.entries c.self.inside.weight ≡ turned (is_page g c).0 (is_page g c).1 c.args.self.now
+    c.self.inside.entries c.self.inside.weight c.self.inside.is_front ≡ turned (is_page g c).0 (is_page g c).1 c.args.self.now
 is_turned g c =
     let f = c.self.inside in
     let page = is_page g c in
     taken_is f.head c.read_page.new.into f.page f.at f.end f.next f.pages f.entries f.weight c.read-head.result.used c.number_of-self-inside.result
-    c.args.self.now _ page.0 page.1
+    f.is_front c.args.self.now _ page.0 page.1
     c.self.view_is page.2 (ap (λ (h : PageHead). h.used) (read_of g c)) (number_is g c)
 
 pub invariant_of-self-3 : goal.invariant_of-self-3
@@ -91,7 +91,7 @@ invariant_of-self-3 g c =
     let f = c.self.inside in
     let page = is_page g b in
     taken_kept f.head c.read_page.new.into f.page f.at f.end f.next f.pages f.entries f.weight c.read-head.result.used c.number_of-self-inside.result
-    c.args.self.now _ page.0 page.1
+    f.is_front c.args.self.now _ page.0 page.1
     c.self.view_is page.2 (ap (λ (h : PageHead). h.used) (read_of g b)) (number_is g b) c.requires.more_pages
     (goes g b (same g (goal.at.invariant_of-self-3 g c).After-read_page))
 
@@ -124,5 +124,6 @@ returns-clause-full g c = λ more.
     let b = (goal.at.returns-clause-full g c).After-number_of-self-inside in
     let page = is_page g b in
     let on = goes g b (same g (goal.at.returns-clause-full g c).After-read_page) in
-    let full = page.2.content.head.full (on.numbers.follows.1 (omega (arith, more, ap (λ (s : CursorState). s.pages) (is_turned g b)))) in
+    let full = page.2.content.head.full
+    (on.numbers.follows.1 (inl (omega (arith, more, ap (λ (s : CursorState). s.pages) (is_turned g b))))) in
     omega (arith, full, ap (λ (s : CursorState). length s.behind) (is_turned g b))

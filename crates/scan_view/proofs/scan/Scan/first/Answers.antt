@@ -4,14 +4,22 @@ use Rattle.record_delta.specs.declared.record.Rec.{Rec}
 use Rattle.record_delta.specs.Entries.{folded_over}
 use Rattle.merge_step.proofs.MergedLemmas.{sorted_folded}
 use Rattle.merge_ends.specs.Input.{key_of}
+use Rattle.scan_view.specs.Hold.{splice}
 use Rattle.scan_view.specs.Left.{IsAheadOf}
+use Rattle.scan_view.proofs.SpliceLemmas.{sorted_splice}
 use Rattle.scan_view.proofs.LeftLemmas.{some_of, first_ahead, from_four, key_is_ahead}
 use Rattle.scan_view.proofs.ScanLemmas.{passes_one}
 use Rattle.scan_view.proofs.scan.Scan.first.Goals as goal
 
 pub returns-clause-first : goal.returns-clause-first
-returns-clause-first c = λ xs ys zs sorted_xs sorted_ys sorted_zs heads.
+returns-clause-first c = λ released lists sorted heads.
     let at = c.args.self.now.at in
+    let xs = splice lists.front released lists.c1 in
+    let ys = lists.c1x in
+    let zs = lists.c2 in
+    let sorted_xs = sorted_splice lists.front released lists.c1 sorted.front sorted.c1 in
+    let sorted_ys = sorted.c1x in
+    let sorted_zs = sorted.c2 in
     let deep = c.least-older.ensures.first at ys zs sorted_ys sorted_zs (c.head.ensures ∙ heads.c1x) (c.head-2.ensures ∙ heads.c2) in
     let sorted_deep = sorted_folded ys zs sorted_zs in
     let older = c.least-older-2.ensures.first at xs (folded_over ys zs) sorted_xs sorted_deep (c.head-3.ensures ∙ heads.c1) deep in
