@@ -168,7 +168,7 @@ impl Lanes {
         requires lane { lane < 3 }
         requires tails { AllByRecursion TailFits pack.now }
         requires light { total_weight pack.now ≤ most_weight }
-        requires fits { end_of self.old lane + cost (entries_of pack.now) + 1 ≤ region_length self.old.sizes }
+        requires fits { end_of self.old lane + (total_weight pack.now + 5) + 1 ≤ region_length self.old.sizes }
         requires length { IsTrue (D.state disk.old).tells_bytes → length (D.state disk.old).bytes ≡ file_length self.old.sizes }
 
         ensures moved { self.new ≡ (if is_ok result then moved self.old lane (cost (entries_of pack.now)) else self.old) }

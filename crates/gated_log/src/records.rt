@@ -59,6 +59,7 @@ pub fn put_pack(pack: &Pack, buffer: &mut [u8; ROOM]) -> usize
     requires light { total_weight pack.now ≤ most_weight }
     ensures text { take result buffer.new ≡ pack_text (entries_of pack.now) ++ 0 ∷ [] }
     ensures len { result ≡ cost (entries_of pack.now) }
+    ensures weight { result ≡ total_weight pack.now + 5 }
     ensures is { IsPackRecord (entries_of pack.now) }
 {
     let head = head_bytes(pack.len() as u8, pack.weight() as u16);

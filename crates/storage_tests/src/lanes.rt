@@ -9,7 +9,7 @@ ghost use Rattle.gated_log.specs.Lane.{Lane, HasEntries, IsDamaged};
 
 use crate::asserts::{assert_same, assert_same_at, assert_that, assert_that_at};
 use crate::samples::{blank, has_bytes, smallest};
-use blsm_model::{Geometry, Key, Text, Value};
+use blsm_model::{Geometry, Key, Op, Pack, Text, Value, Write};
 use disk_mem::MemDisk;
 use disk_trait::Disk;
 use gated_log::{LaneBroken, Lanes, Replay, kept_lanes, place_in_file};
@@ -79,6 +79,29 @@ fn append(
     let room = region_len(geometry) - lanes.end(lane);
     assert!(rt; weight(key, rec) + 2 <= room);
     lanes.append(disk, lane, key, rec).is_ok()
+}
+
+// Appends a batch that fits.
+fn append_batch(
+    rt: &impl Abort,
+    disk: &mut MemDisk,
+    geometry: &Geometry,
+    lanes: &mut Lanes,
+    lane: u8,
+    batch: &Pack,
+) -> bool
+    requires lane { lane < 3 }
+    requires sizes { lanes.old.sizes ≡ geometry.now }
+    requires length { length (told disk.old).bytes ≡ file_length geometry.now }
+    ensures sizes { lanes.new.sizes ≡ geometry.now }
+    ensures length { length (told disk.new).bytes ≡ file_length geometry.now }
+{
+    let room = region_len(geometry) - lanes.end(lane);
+    let weight = batch.weight();
+    assert!(rt; batch.fits());
+    assert!(rt; weight <= Op::MAX_WEIGHT);
+    assert!(rt; weight + 6 <= room);
+    lanes.append_pack(disk, lane, batch).is_ok()
 }
 
 // Appends an entry so many times.
@@ -193,6 +216,66 @@ fn a_put_and_a_del_are_read_back(rt: HostRuntime) {
         *b"\x01\x01\x00\x01\x00\x02\x00\x00\x00\x00\x00\x00\x00\x05ahi\x01\x03\x00\x01\x00\x00\x00\x00\x00\x00\x00\x00\x00\x00a\x00",
     );
     assert_same(&rt, disk.faults(), 0);
+}
+
+// A put, a del and an add of three keys.
+fn three_writes(rt: &impl Abort) -> Pack {
+    let put = Write::Put(
+        key(rt, b"b"),
+        Value {
+            count: 2,
+            text: Text::from_bytes(b"").expect(rt, "a text"),
+        },
+    );
+    let writes = [put, Write::Del(key(rt, b"a")), Write::Add(key(rt, b"c"), 3)];
+    Pack::of(&writes).expect(rt, "a batch")
+}
+
+// They are written to lane 0 as one record.
+fn write_three(rt: &impl Abort, disk: &mut MemDisk, geometry: &Geometry)
+    requires { length (told disk.old).bytes ≡ file_length geometry.now }
+    ensures { length (told disk.new).bytes ≡ file_length geometry.now }
+{
+    let _length = region_len(geometry);
+    let mut lanes = Lanes::resume(geometry, [0, 1, 2], [0, 0, 0]);
+    let batch = three_writes(rt);
+    assert_that(rt, append_batch(rt, disk, geometry, &mut lanes, 0, &batch));
+    assert_same(rt, lanes.end(0), 47);
+}
+
+// They are read back by one call of the disk, and the end by another one.
+fn read_three(rt: &impl Abort, disk: &mut MemDisk, geometry: &Geometry)
+    requires { length (told disk.old).bytes ≡ file_length geometry.now }
+    ensures { length (told disk.new).bytes ≡ file_length geometry.now }
+{
+    let mut replay = Replay::new(geometry, 0);
+    let put = Some((key(rt, b"b"), base(rt, 2, b"")));
+    answers(rt, disk, geometry, &mut replay, Ok(put));
+    assert_same(rt, replay.end(), 47);
+    // Two calls made the disk, four appended, one read the record.
+    assert_that(rt, disk.fail(8).is_ok());
+    let del = Some((key(rt, b"a"), Rec::Tomb));
+    answers(rt, disk, geometry, &mut replay, Ok(del));
+    let add = Some((key(rt, b"c"), Rec::of_write(&Write::Add(key(rt, b"c"), 3))));
+    answers(rt, disk, geometry, &mut replay, Ok(add));
+    answers(rt, disk, geometry, &mut replay, Err(LaneBroken::Fault));
+    answers(rt, disk, geometry, &mut replay, Ok(None));
+    assert_same(rt, replay.end(), 47);
+}
+
+#[test]
+fn a_batch_is_one_record(rt: HostRuntime) {
+    let geometry = smallest(&rt);
+    let mut disk = blank(&rt, rt.alloc(), &geometry, 1_000);
+    write_three(&rt, &mut disk, &geometry);
+    read_three(&rt, &mut disk, &geometry);
+    has_count(&rt, &mut disk, &geometry, 0, Ok(3));
+    has_bytes(
+        &rt,
+        &mut disk,
+        4_096,
+        *b"\x01\x05\x03\x00\x2a\x01\x00\x01\x00\x00\x00\x00\x00\x00\x00\x00\x00\x02b\x03\x00\x01\x00\x00\x00\x00\x00\x00\x00\x00\x00\x00a\x02\x00\x01\x00\x00\x00\x00\x00\x00\x00\x00\x00\x03c\x00",
+    );
 }
 
 // A lane's first bytes, and how many entries it has or what is wrong with it.
@@ -322,6 +405,52 @@ fn append_failing(rt: &impl Abort, alloc: Global, call: u64, outcome: bool, end:
     assert_same_at(rt, done, outcome, call);
     assert_same_at(rt, lanes.end(0), end, call);
     assert_same_at(rt, disk.faults(), faults, call);
+}
+
+// Two dels of one key, one record, and what is no record of theirs.
+fn packed_rows() -> [Row; 6] {
+    let damaged = Err(LaneBroken::Damaged(1));
+    [
+        Row {
+            lane: 1,
+            bytes: b"\x01\x05\x02\x00\x1c\x03\x00\x01\x00\x00\x00\x00\x00\x00\x00\x00\x00\x00a\x03\x00\x01\x00\x00\x00\x00\x00\x00\x00\x00\x00\x00a\x00",
+            outcome: Ok(2),
+        },
+        // A count of one entry, of one too many, and a length of a byte too few and too many.
+        Row {
+            lane: 1,
+            bytes: b"\x01\x05\x01\x00\x0e\x03\x00\x01\x00\x00\x00\x00\x00\x00\x00\x00\x00\x00a\x00",
+            outcome: damaged,
+        },
+        Row {
+            lane: 1,
+            bytes: b"\x01\x05\x03\x00\x1c\x03\x00\x01\x00\x00\x00\x00\x00\x00\x00\x00\x00\x00a\x03\x00\x01\x00\x00\x00\x00\x00\x00\x00\x00\x00\x00a\x00",
+            outcome: damaged,
+        },
+        Row {
+            lane: 1,
+            bytes: b"\x01\x05\x02\x00\x1b\x03\x00\x01\x00\x00\x00\x00\x00\x00\x00\x00\x00\x00a\x03\x00\x01\x00\x00\x00\x00\x00\x00\x00\x00\x00\x00a\x00",
+            outcome: damaged,
+        },
+        Row {
+            lane: 1,
+            bytes: b"\x01\x05\x02\x00\x1d\x03\x00\x01\x00\x00\x00\x00\x00\x00\x00\x00\x00\x00a\x03\x00\x01\x00\x00\x00\x00\x00\x00\x00\x00\x00\x00a\x00",
+            outcome: damaged,
+        },
+        // The last entry is none, so the first isn't given either.
+        Row {
+            lane: 1,
+            bytes: b"\x01\x05\x02\x00\x1c\x03\x00\x01\x00\x00\x00\x00\x00\x00\x00\x00\x00\x00a\x00\x00\x01\x00\x00\x00\x00\x00\x00\x00\x00\x00\x00a\x00",
+            outcome: damaged,
+        },
+    ]
+}
+
+#[test]
+fn a_record_of_several_is_tested_whole(rt: HostRuntime) {
+    for row in &packed_rows() {
+        reads_as(&rt, rt.alloc(), row);
+    }
 }
 
 // The disk fails at one of the four calls of an append, or at none of them.

@@ -1,6 +1,9 @@
-use Rattle.std.proofs.Common.{refl, ◌∙◌, arith}
+use Rattle.std.proofs.Common.{ap, refl, ◌∙◌, arith}
+use Rattle.std.proofs.lemmas.List.{take_all}
 use Rattle.std.specs.Prelude.{◌<◌, length}
-use Rattle.gated_log.proofs.RecordLemmas.{room_for, text_more, weight_more, entries_more}
+use Rattle.record_delta.specs.Entries.{entries_weight}
+use Rattle.gated_log.specs.Records.{entries_of}
+use Rattle.gated_log.proofs.RecordLemmas.{room_for, text_more, weight_more, entries_more, writes_weight}
 use Rattle.gated_log.proofs.records.put_pack.Goals as goal
 
 pub put_write-at-requires-clause-room : goal.put_write-at-requires-clause-room
@@ -23,3 +26,8 @@ bounds-buffer-at c = omega (arith, room_for c.args.pack.now c.places.place)
 
 pub overflow_add-result : goal.overflow_add-result
 overflow_add-result c = omega (arith, room_for c.args.pack.now c.places.place)
+
+pub returns-clause-weight : goal.returns-clause-weight
+returns-clause-weight c =
+    let all = ap (λ writes. entries_weight (entries_of writes)) (take_all c.places.place c.args.pack.now (omega arith)) in
+    omega (arith, all, writes_weight c.args.pack.now)

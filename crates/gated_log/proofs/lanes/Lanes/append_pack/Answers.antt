@@ -7,7 +7,8 @@ use Rattle.gated_log.proofs.lanes.Lanes.append_pack.Goals as goal
 
 pub returns-in_err-write_gated-clause-appends : goal.returns-in_err-write_gated-clause-appends
 returns-in_err-write_gated-clause-appends g c = λ before honest is_end.
-    let write = pack_write c.args.lane c.self.view_is c.place_in_file-at.ensures.place c.put_pack-length.ensures.text c.requires.fits
+    let write = pack_write c.args.lane c.self.view_is c.place_in_file-at.ensures.place c.put_pack-length.ensures.text
+    (omega (arith, c.requires.fits, c.put_pack-length.ensures.len, c.put_pack-length.ensures.weight))
     c.put_pack-length.ensures.is in
     leaves_appended write before is_end (g.met.D.Disk.timed c.write_gated.new.disk) honest
     (omega (arith, c.requires.length (g.met.D.Disk.honest_tells c.args.disk.now honest), write_ends c.requires.lane write))
@@ -16,13 +17,15 @@ returns-in_err-write_gated-clause-appends g c = λ before honest is_end.
 
 pub returns-in_err-write_gated-clause-effect : goal.returns-in_err-write_gated-clause-effect
 returns-in_err-write_gated-clause-effect g c =
-    let write = pack_write c.args.lane c.self.view_is c.place_in_file-at.ensures.place c.put_pack-length.ensures.text c.requires.fits
+    let write = pack_write c.args.lane c.self.view_is c.place_in_file-at.ensures.place c.put_pack-length.ensures.text
+    (omega (arith, c.requires.fits, c.put_pack-length.ensures.len, c.put_pack-length.ensures.weight))
     c.put_pack-length.ensures.is in
     affects_wider (write_inside write) (write_ends c.requires.lane write) (omega arith) c.write_gated.ensures.effect
 
 pub returns-clause-appends : goal.returns-clause-appends
 returns-clause-appends g c = λ before honest is_end.
-    let write = pack_write c.args.lane c.self.view_is c.place_in_file-at.ensures.place c.put_pack-length.ensures.text c.requires.fits
+    let write = pack_write c.args.lane c.self.view_is c.place_in_file-at.ensures.place c.put_pack-length.ensures.text
+    (omega (arith, c.requires.fits, c.put_pack-length.ensures.len, c.put_pack-length.ensures.weight))
     c.put_pack-length.ensures.is in
     leaves_appended write before is_end (g.met.D.Disk.timed c.write_gated.new.disk) honest
     (omega (arith, c.requires.length (g.met.D.Disk.honest_tells c.args.disk.now honest), write_ends c.requires.lane write))
@@ -30,6 +33,7 @@ returns-clause-appends g c = λ before honest is_end.
 
 pub returns-clause-effect : goal.returns-clause-effect
 returns-clause-effect g c =
-    let write = pack_write c.args.lane c.self.view_is c.place_in_file-at.ensures.place c.put_pack-length.ensures.text c.requires.fits
+    let write = pack_write c.args.lane c.self.view_is c.place_in_file-at.ensures.place c.put_pack-length.ensures.text
+    (omega (arith, c.requires.fits, c.put_pack-length.ensures.len, c.put_pack-length.ensures.weight))
     c.put_pack-length.ensures.is in
     affects_wider (write_inside write) (write_ends c.requires.lane write) (omega arith) c.write_gated.ensures.effect
