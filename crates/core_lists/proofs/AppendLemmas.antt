@@ -1,5 +1,5 @@
 -- What the images show of a write that is appended.
-use Rattle.std.proofs.Common.{◌≡◌, ◌∙◌, ℕ, ◌+◌, ◌≤◌, Bool, true, false, cond, ◌&&◌, List, [], ◌∷◌, ◌++◌, flat_map, length, None, ⊎_elim, refl, ap, sym, subst, append-nil, length-append, arith}
+use Rattle.std.proofs.Common.{◌≡◌, ◌∙◌, ℕ, ◌+◌, ◌<◌, ◌≤◌, Bool, true, false, cond, ◌&&◌, List, [], ◌∷◌, ◌++◌, flat_map, length, None, ⊎_elim, refl, ap, sym, subst, append-nil, length-append, arith}
 use Rattle.std.proofs.lemmas.Grind.{common_steps}
 use Rattle.std.proofs.lemmas.Bool.Decides.{nat_tests}
 use Rattle.std.specs.Prelude.{nat_lt}
@@ -7,7 +7,7 @@ use Rattle.std.specs.List.{AllByRecursion}
 use Rattle.std.proofs.lemmas.List.{flat_map_more}
 use Rattle.std.proofs.lemmas.List.Sums.{sum_by_push}
 use Rattle.blsm_model.specs.Sizes.{Sizes}
-use Rattle.blsm_model.specs.Format.{least_weight, most_weight}
+use Rattle.blsm_model.specs.Format.{callers}
 use Rattle.blsm_model.specs.Geometry.{charge_limit}
 use Rattle.blsm_model.specs.Book.{Book}
 use Rattle.blsm_model.specs.declared.key.Key.{Key}
@@ -23,7 +23,7 @@ use Rattle.blsm_model.specs.Rows.{map_of, puts_of}
 use Rattle.blsm_model.specs.Values.{key_of, weight_of}
 use Rattle.record_delta.specs.Records.{record_of}
 use Rattle.record_delta.specs.Entries.{with_record}
-use Rattle.pacing.specs.Pace.{Pace}
+use Rattle.pacing.specs.Pace.{Pace, Written}
 use Rattle.pacing.specs.Kept.{IsPaced}
 use Rattle.pacing.specs.Steps.{Admit, Lands, MayAdmit, after as pacing_after, ready_for as pace_ready_for}
 use Rattle.pacing.specs.Fronts.{Fronts, AreFronts}
@@ -31,7 +31,7 @@ use Rattle.pacing.proofs.Admissions.{ready_kept}
 use Rattle.pacing.proofs.Fronts.{step_fronts}
 use Rattle.tree_machine.specs.Lists.{Lists, memory_weight}
 use Rattle.tree_machine.specs.Machine.{Machine, charge, is_caller}
-use Rattle.tree_machine.specs.Moves.{goes_to_a, with_write, take_write, with_peak, note}
+use Rattle.tree_machine.specs.Moves.{take_write, with_peak, note}
 use Rattle.tree_machine.specs.Steps.{Well, Stepped, replied, admit_fitting, taken_once, ready_for, admit}
 use Rattle.tree_machine.proofs.LookLemmas.{looked_admits, met_well}
 use Rattle.tree_machine.specs.Plays.{has_room, is_between, may_note, is_even, stepped}
@@ -43,7 +43,7 @@ use Rattle.tree_machine.proofs.LightLemmas.{write_is_light}
 use Rattle.tree_machine.proofs.CarryLemmas.{ready_carries}
 use Rattle.paced_tree.specs.Kept.{IsPacedTree}
 use Rattle.paced_tree.specs.Numbers.{pace_of}
-use Rattle.paced_tree.proofs.Terms.{weight_after, IsToldOf}
+use Rattle.paced_tree.proofs.Terms.{weight_after, written_in, IsToldOf}
 use Rattle.paced_tree.proofs.Admissions.{lands_at, writes_once, written_pace}
 use Rattle.paced_tree.proofs.Moves.{ready_pace, ready_told}
 use Rattle.paced_tree.proofs.Paces.{the_pace}
@@ -78,17 +78,18 @@ module _ (opening : List (Key × Value)) (m : Machine) (fronts : Fronts) (seat :
   abbrev ready : Machine
   ready = ready_for w m
 
-  abbrev ahead : Bool
-  ahead = goes_to_a ready.merges.pass (key_of write)
-
   abbrev at_a : Lists
   at_a = record ready.lists { a = with_record (key_of write) (record_of write) ready.lists.a }
 
   abbrev at_b : Lists
   at_b = record ready.lists { b = with_record (key_of write) (record_of write) ready.lists.b }
 
-  abbrev then_weighs : ℕ
-  then_weighs = weight_after ahead (with_write ready.merges.pass (key_of write) (record_of write) ready.lists)
+  abbrev entry : Written
+  entry = written_in ready op write
+
+  -- it goes to table A, or to table B
+  abbrev sent_to : Bool → Written
+  sent_to b = record entry { ahead = b; after = weight_after b (cond b at_a at_b) }
 
   abbrev wrote : Machine
   wrote = note seat op Done (with_peak (take_write seat write ready))
@@ -118,51 +119,59 @@ module _ (opening : List (Key × Value)) (m : Machine) (fronts : Fronts) (seat :
   told : IsToldOf m
   told = record { booked = is.paced.booked; started = is.paced.started }
 
-  may_admit : MayAdmit (pace_of m) seat w (is_del op) ahead then_weighs
+  weighs : w ≡ weight_of write
+  weighs = writes_once op write [] is.writes
+
+  caller : seat < callers
+  caller =
+      let noting = both_hold (is_write op) (may_note seat 0 m) (both_hold (is_write op && may_note seat 0 m) (is_even seat m) is.may).0 in
+      let room = both_hold (is_caller seat && has_room m.book.room seat 0) (is_between seat m) noting.1 in
+      caller_below seat (both_hold (is_caller seat) (has_room m.book.room seat 0) room.0).0
+
+  entry_lands : Lands (pace_ready_for (pace_of m) w) entry
+  entry_lands = lands_at m seat op is.paced.stands.sound (has_way opening m is.paced) is.paced.paced told caller write w weighs
+
+  may_admit : MayAdmit (pace_of m) seat entry
   may_admit =
       let parts = both_hold (is_write op && may_note seat 0 m) (is_even seat m) is.may in
-      let inner = both_hold (is_write op) (may_note seat 0 m) parts.0 in
-      let noting = both_hold (is_caller seat && has_room m.book.room seat 0) (is_between seat m) inner.1 in
-      let weighs = writes_once op write [] is.writes in
       let each = subst (λ (ws : List Write). AllByRecursion FitsFormat ws) is.writes is.fits in
-      let caller = caller_below seat (both_hold (is_caller seat) (has_room m.book.room seat 0) noting.0).0 in
       record {
         caller = caller;
         settled = even_owes m seat parts.1 is.runs;
-        light = subst (λ (n : ℕ). least_weight ≤ n) (sym weighs) each.0.least;
-        heavy = subst (λ (n : ℕ). n ≤ most_weight) (sym weighs) (write_is_light write each.0);
-        room = is.room;
-        lands = lands_at m seat op is.paced.stands.sound (has_way opening m is.paced) is.paced.paced told caller write w weighs;
+        light = each.0.least;
+        heavy = write_is_light write each.0;
+        room = subst (λ (n : ℕ). charge m + n ≤ charge_limit m.gears.sizes (is_del op)) weighs is.room;
+        lands = subst (λ (n : ℕ). Lands (pace_ready_for (pace_of m) n) entry) weighs entry_lands;
       }
 
   writing : is_write op ≡ true
   writing = (both_hold (is_write op) (may_note seat 0 m) (both_hold (is_write op && may_note seat 0 m) (is_even seat m) is.may).0).0
 
-  wrote_pace : pace_of wrote ≡ pacing_after (pace_of m) (Admit seat w (is_del op) ahead then_weighs)
+  wrote_pace : pace_of wrote ≡ pacing_after (pace_of m) (Admit seat entry)
   wrote_pace =
-      let weighs = writes_once op write [] is.writes in
       let paced = subst IsPaced (sym same) (ready_kept (pace_of m) w is.paced.paced) in
-      subst (λ (n : ℕ). pace_of wrote ≡ pacing_after (pace_of m) (Admit seat n (is_del op) ahead then_weighs)) (sym weighs)
-      (sym (the_pace wrote _ (written_pace ready write carries.sound seat op weighs paced (ready_told w m told) may_admit.caller writing)) ∙ ap (λ (p : Pace). pace_with_write p seat (weight_of write) ahead then_weighs) (subst (λ (n : ℕ). pace_of ready ≡ pace_ready_for (pace_of m) n) weighs same))
+      sym (the_pace wrote _ (written_pace ready write carries.sound seat op weighs paced (ready_told w m told) caller writing))
+      ∙ ap (λ (p : Pace). pace_with_write p seat entry) (subst (λ (n : ℕ). pace_of ready ≡ pace_ready_for (pace_of m) n) weighs same)
 
-  then_within : AreFronts (pace_of wrote) (fronts_written ahead then_weighs (fronts_ready (pace_of m) fronts))
-  then_within = subst (λ (p : Pace). AreFronts p (fronts_written ahead then_weighs (fronts_ready (pace_of m) fronts))) (sym wrote_pace) (step_fronts (pace_of m) (Admit seat w (is_del op) ahead then_weighs) fronts is.paced.paced is.within may_admit)
+  then_within : AreFronts (pace_of wrote) (fronts_written entry (fronts_ready (pace_of m) fronts))
+  then_within = subst (λ (p : Pace). AreFronts p (fronts_written entry (fronts_ready (pace_of m) fronts))) (sym wrote_pace)
+      (step_fronts (pace_of m) (Admit seat entry) fronts is.paced.paced is.within may_admit)
 
   lanes : HasFronts tree ready.lists (fronts_ready (pace_of m) fronts)
   lanes = subst (λ (l : Lists). HasFronts tree l (fronts_ready (pace_of m) fronts)) (sym (begun_lists w m)) is.lanes
 
   grown : (b : Bool) → HasFronts (appended b (key_of write, record_of write) tree)
       (cond b at_a at_b)
-      (fronts_written b (weight_after b (cond b at_a at_b)) (fronts_ready (pace_of m) fronts))
-  grown true = fronts_grow true (key_of write) (record_of write) tree ready.lists (fronts_ready (pace_of m) fronts) lanes
-  grown false = fronts_grow false (key_of write) (record_of write) tree ready.lists (fronts_ready (pace_of m) fronts) lanes
+      (fronts_written (sent_to b) (fronts_ready (pace_of m) fronts))
+  grown true = fronts_grow true entry (key_of write) (record_of write) tree ready.lists (fronts_ready (pace_of m) fronts) lanes
+  grown false = fronts_grow false entry (key_of write) (record_of write) tree ready.lists (fronts_ready (pace_of m) fronts) lanes
 
-  then_lanes : HasFronts (with_appended write begun tree) wrote.lists (fronts_written ahead then_weighs (fronts_ready (pace_of m) fronts))
-  then_lanes = subst (λ (b : Bool). HasFronts (appended b (key_of write, record_of write) tree) wrote.lists (fronts_written ahead then_weighs (fronts_ready (pace_of m) fronts)))
-      (same_way ready.merges.pass begun.runs.pass (key_of write) is.holds.pass) (grown ahead)
+  then_lanes : HasFronts (with_appended write begun tree) wrote.lists (fronts_written entry (fronts_ready (pace_of m) fronts))
+  then_lanes = subst (λ (b : Bool). HasFronts (appended b (key_of write, record_of write) tree) wrote.lists (fronts_written entry (fronts_ready (pace_of m) fronts)))
+      (same_way ready begun tree (key_of write) is.holds) (grown entry.ahead)
 
   abbrev then_fronts : Fronts
-  then_fronts = fronts_written ahead then_weighs (fronts_ready (pace_of m) fronts)
+  then_fronts = fronts_written entry (fronts_ready (pace_of m) fronts)
 
   goes_on : (then : Fronts) × GoesOn opening (stepped m step Well).state then (with_appended write begun tree)
   goes_on = (
@@ -179,7 +188,7 @@ module _ (opening : List (Key × Value)) (m : Machine) (fronts : Fronts) (seat :
   wrote_reads file holds =
       subst (λ (b : Book). ReadsAsMap m.gears.sizes (map_of (written opening (b.entries ++ record { seat = seat; op = op; reply = Done } ∷ []))) file) carries.book
       (subst (λ (s : Sizes). ReadsAsMap s (map_of (written opening wrote.book.entries)) file) carries.sizes
-      (standing_reads opening wrote (fronts_written ahead then_weighs (fronts_ready (pace_of m) fronts)) (with_appended write begun tree) file wrote_paced then_within
+      (standing_reads opening wrote then_fronts (with_appended write begun tree) file wrote_paced then_within
       (write_has_lists seat write begun tree ready is.holds) then_lanes (subst (λ (s : Sizes). HoldsTree s (with_appended write begun tree) file) (sym carries.sizes) holds)))
 
   -- and one without it as the map before
@@ -220,14 +229,14 @@ module _ (opening : List (Key × Value)) (m : Machine) (fronts : Fronts) (seat :
   same_components false = refl
 
   -- and the tables weigh no more than before and the write
-  tables_grow : (b : Bool) → Lands (pace_ready_for (pace_of m) w) w b (weight_after b (cond b at_a at_b)) → memory_weight (cond b at_a at_b) ≤ m.counts.peak + w
+  tables_grow : (b : Bool) → Lands (pace_ready_for (pace_of m) w) (sent_to b) → memory_weight (cond b at_a at_b) ≤ m.counts.peak + w
   tables_grow true lands =
-      omega (arith, lands.0, kept.within.within_peak, (ready_counts w m).peak, ap (λ (p : Pace). p.b) same, ap (λ (p : Pace). p.peak) same)
+      omega (arith, lands.0, weighs, kept.within.within_peak, (ready_counts w m).peak, ap (λ (p : Pace). p.b) same, ap (λ (p : Pace). p.peak) same)
   tables_grow false lands =
-      omega (arith, lands.2, kept.within.within_peak, (ready_counts w m).peak, ap (λ (p : Pace). p.a) same, ap (λ (p : Pace). p.peak) same)
+      omega (arith, lands.2, weighs, kept.within.within_peak, (ready_counts w m).peak, ap (λ (p : Pace). p.a) same, ap (λ (p : Pace). p.peak) same)
 
   lanes_grow : lanes_weight (with_appended write begun tree) ≤ m.counts.peak + w
-  lanes_grow = omega (arith, tables_grow ahead may_admit.lands, ap memory_weight (write_has_lists seat write begun tree ready is.holds))
+  lanes_grow = omega (arith, tables_grow entry.ahead entry_lands, ap memory_weight (write_has_lists seat write begun tree ready is.holds))
 
   in_doubt : doubted (history_with seat op FaultUnsure m) ≡ doubted m.book.entries + w
   in_doubt = sum_by_push weight_in_doubt m.book.entries unsure

@@ -20,7 +20,7 @@ use Rattle.core_lists.specs.Shown.{HasFronts}
 use Rattle.std.specs.Prelude.{◌≡◌, List, ℕ, Bool, []}
 use Rattle.blsm_model.specs.declared.key.Key.{Key}
 use Rattle.blsm_model.specs.declared.row.Value.{Value}
-use Rattle.pacing.specs.Pace.{Pace}
+use Rattle.pacing.specs.Pace.{Pace, Written}
 use Rattle.pacing.specs.Fronts.{Fronts, AreFronts}
 use Rattle.tree_machine.specs.Machine.{Machine}
 use Rattle.paced_tree.specs.Kept.{IsPacedTree}
@@ -97,9 +97,11 @@ pub fronts_turn : (tree next : Tree) (lists after : Lists) (fronts : Fronts) →
 fronts_turn tree next lists after fronts lane_a lane_b a b has = grind (arith, common_steps, nat_tests)
 
 -- where an entry is appended
-pub fronts_grow : (ahead : Bool) (key : Key) (rec : Rec) (tree : Tree) (lists : Lists) (fronts : Fronts) → HasFronts tree lists fronts
-    → HasFronts (appended ahead (key, rec) tree) (joined ahead key rec lists) (fronts_written ahead (table_weight ahead (joined ahead key rec lists)) fronts)
-fronts_grow true key rec tree lists fronts has =
+pub fronts_grow : (ahead : Bool) (written : Written) (key : Key) (rec : Rec) (tree : Tree) (lists : Lists) (fronts : Fronts)
+    → HasFronts tree lists fronts
+    → HasFronts (appended ahead (key, rec) tree) (joined ahead key rec lists)
+    (fronts_written (record written { ahead = ahead; after = table_weight ahead (joined ahead key rec lists) }) fronts)
+fronts_grow true written key rec tree lists fronts has =
     record { lane_a = lane_grows tree.lane_a.entries lists.a fronts.lane_a key rec has.lane_a; lane_b = has.lane_b }
-fronts_grow false key rec tree lists fronts has =
+fronts_grow false written key rec tree lists fronts has =
     record { lane_a = has.lane_a; lane_b = lane_grows tree.lane_b.entries lists.b fronts.lane_b key rec has.lane_b }

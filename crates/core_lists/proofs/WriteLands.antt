@@ -1,17 +1,18 @@
 -- A write, and what is done to the book alone, over lists.
-use Rattle.std.specs.Prelude.{is_some}
+use Rattle.std.specs.Prelude.{Some, None, ◌&&◌, ◌||◌, is_some, not}
 use Rattle.std.proofs.lemmas.Grind.{common_steps}
 use Rattle.std.proofs.lemmas.Bool.Decides.{nat_tests}
 use Rattle.std.proofs.Common.{arith}
-use Rattle.std.proofs.Common.{◌≡◌, ◌∙◌, ℕ, ◌+◌, Bool, cond, List, Option, refl, ap, sym, subst}
+use Rattle.std.proofs.Common.{◌≡◌, ◌∙◌, ℕ, ◌+◌, Bool, true, false, cond, List, Option, refl, ap, sym, subst}
 use Rattle.blsm_model.specs.declared.key.Key.{Key}
 use Rattle.blsm_model.specs.declared.op.Write.{Write}
 use Rattle.blsm_model.specs.Values.{key_of, weight_of}
 use Rattle.record_delta.specs.Records.{record_of, weight}
-use Rattle.record_delta.specs.Entries.{is_above}
+use Rattle.record_delta.specs.declared.record.Rec.{Rec}
+use Rattle.record_delta.specs.Entries.{Entries, is_above, record_of_key, with_record}
 use Rattle.gear_sched.specs.Gears.{GearState, entered}
 use Rattle.snow_merge.specs.Pass.{SnowState}
-use Rattle.tree_machine.specs.Lists.{memory_weight}
+use Rattle.tree_machine.specs.Lists.{Lists, memory_weight}
 use Rattle.tree_machine.specs.Merges.{Merge}
 use Rattle.tree_machine.specs.Layers.{IsSound}
 use Rattle.tree_machine.specs.Machine.{Machine, Merges}
@@ -20,6 +21,7 @@ use Rattle.tree_machine.specs.Steps.{count_for_write, work_end, leave}
 use Rattle.tree_machine.proofs.WeightLemmas.{weight_of_record}
 use Rattle.seat_book.specs.State.{BookState, book_of, peaked_in, noted_in, stopped_in, paid_in, turned_in, helped_in, ended_in, left_in}
 use Rattle.tree_file.specs.Tree.{Tree, lists_of}
+use Rattle.tree_file.proofs.ListLemmas.{lists_appended_a, lists_appended_b}
 use Rattle.tree_log.specs.Log.{appended, IsLogOf}
 use Rattle.tree_runs.specs.Runs.{RunsState}
 use Rattle.tree_runs.specs.Holding.{cursor_of_pass, AreOf}
@@ -31,16 +33,46 @@ use Rattle.core_lists.proofs.WeighLemmas.{tables_weigh}
 use Rattle.core_lists.proofs.Terms.{IsAt, turn_noted, helped, BookMoves}
 
 -- the code sends a write where the machine does
-pub same_way : (pass : Option Merge) (snow : Option SnowState) (key : Key) → IsPassAt pass snow → goes_to_a pass key ≡ is_above (cursor_of_pass snow) key
-same_way pass snow key h1 = grind (arith, common_steps, nat_tests)
+pub same_way : (m : Machine) (held : Held) (tree : Tree) (key : Key) → HoldsMachine held tree m
+    → goes_to_a m.merges.pass m.lists.b key ≡ goes_ahead key held
+same_way m held tree key holds = by m.merges.pass held.runs.pass holds.pass
+  where
+    table_b : m.lists.b ≡ held.log.b.entries
+    table_b = ap (λ (l : Lists). l.b) holds.lists ∙ sym holds.of_log.b
+
+    by : (pass : Option Merge) (snow : Option SnowState) → IsPassAt pass snow
+        → goes_to_a pass m.lists.b key
+        ≡ (not (is_some snow) || (is_above (cursor_of_pass snow) key && not (is_some (record_of_key key held.log.b.entries))))
+    by None None at = refl
+    by (Some pass) (Some snow) at =
+        ap (λ (c : Option Key). is_above c key && not (is_some (record_of_key key m.lists.b))) at
+        ∙ ap (λ (b : Entries). is_above snow.at key && not (is_some (record_of_key key b))) table_b
+    by None (Some snow) at = absurd at
+    by (Some pass) None at = absurd at
 
 -- the gears know a pass where one runs
 pub runs_as : (m : Machine) (held : Held) → IsSound m → IsPassAt m.merges.pass held.runs.pass → m.gears.pass ≡ is_some held.runs.pass
 runs_as m held sound comes = grind (arith, common_steps, nat_tests)
 
+abbrev into_a : Key → Rec → Lists → Lists
+into_a key rec lists = record lists { a = with_record key rec lists.a }
+
+abbrev into_b : Key → Rec → Lists → Lists
+into_b key rec lists = record lists { b = with_record key rec lists.b }
+
+-- what goes to a table of the machine's lists is appended to its lane
+joins : (key : Key) (rec : Rec) (tree : Tree) (lists : Lists) (goes b : Bool) → lists ≡ lists_of tree → goes ≡ b
+    → cond goes (into_a key rec lists) (into_b key rec lists) ≡ lists_of (appended b (key, rec) tree)
+joins key rec tree lists goes true are is =
+    ap (λ (b : Bool). cond b (into_a key rec lists) (into_b key rec lists)) is ∙ ap (into_a key rec) are ∙ sym (lists_appended_a (key, rec) tree)
+joins key rec tree lists goes false are is =
+    ap (λ (b : Bool). cond b (into_a key rec lists) (into_b key rec lists)) is ∙ ap (into_b key rec) are ∙ sym (lists_appended_b (key, rec) tree)
+
 pub write_has_lists : (seat : ℕ) (write : Write) (held : Held) (tree : Tree) (m : Machine) → HoldsMachine held tree m
     → (take_write seat write m).lists ≡ lists_of (appended (goes_ahead (key_of write) held) (key_of write, record_of write) tree)
-write_has_lists seat write held tree m holds = grind (arith, common_steps, nat_tests)
+write_has_lists seat write held tree m holds =
+    joins (key_of write) (record_of write) tree m.lists (goes_to_a m.merges.pass m.lists.b (key_of write)) (goes_ahead (key_of write) held)
+    holds.lists (same_way m held tree (key_of write) holds)
 
 -- The write is appended where it goes, is in its table, and counts for the peak.
 pub write_lands : (seat : ℕ) (write : Write) (old new : Held) (tree : Tree) (m : Machine) (file after : List ℕ) → IsAt old tree m file → IsSound m → WritesIn seat (key_of write) (record_of write) old new

@@ -1,2 +1,2 @@
 mod AffectLemmas
-mod WriteLemmas
+pub mod WriteLemmas

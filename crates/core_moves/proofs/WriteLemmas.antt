@@ -1,10 +1,11 @@
 -- A write leaves the merges and the components as they were, and table A has it, or table B.
-use Rattle.std.specs.Prelude.{◌≡◌, ℕ, ◌<◌, Bool, true, false, List, Option, IsTrue}
+use Rattle.std.specs.Prelude.{◌≡◌, ℕ, ◌<◌, Bool, true, false, not, ◌&&◌, ◌||◌, List, Option, Some, None, IsTrue, is_some}
 use Rattle.std.proofs.Common.{refl, sym, subst}
+use Rattle.std.proofs.lemmas.Bool.{and_parts}
 use Rattle.blsm_model.specs.Sizes.{Sizes}
 use Rattle.blsm_model.specs.declared.key.Key.{Key}
 use Rattle.record_delta.specs.declared.record.Rec.{Rec}
-use Rattle.record_delta.specs.Entries.{is_above}
+use Rattle.record_delta.specs.Entries.{is_above, record_of_key}
 use Rattle.disk_trait.specs.Disk.{DiskState}
 use Rattle.disk_trait.specs.Region.{IsWithin}
 use Rattle.disk_trait.proofs.RegionLemmas.{same_wider}
@@ -14,7 +15,8 @@ use Rattle.scan_view.specs.Pins.{beside_pins}
 use Rattle.tree_file.specs.Tree.{Tree, HoldsTree}
 use Rattle.tree_log.specs.Log.{IsAboveFloor, appended, lane_for}
 use Rattle.tree_runs.specs.Runs.{AreRunning}
-use Rattle.tree_runs.specs.Holding.{AreOf}
+use Rattle.snow_merge.specs.Pass.{SnowState}
+use Rattle.tree_runs.specs.Holding.{AreOf, cursor_of_pass}
 use Rattle.tree_runs.specs.Laws.{IsBesideRuns}
 use Rattle.tree_runs.proofs.BesideLemmas.{runs_stay, entries_join, entries_wait}
 use Rattle.core_moves.specs.declared.held.Held.{Held}
@@ -51,12 +53,21 @@ runs_on {end} {most} {old} {new} ahead held one effect running =
     subst (λ (h : Bool). AreRunning h new.bytes held.runs) (sym effect.goes_on.is_honest)
     (runs_stay held.runs old.is_honest old.bytes new.bytes (λ honest. beside ahead held one effect honest) running)
 
+-- what goes to table A the pass hasn't come to
+pub ahead_above : (key : Key) (held : Held) → goes_ahead key held ≡ true → is_above (cursor_of_pass held.runs.pass) key ≡ true
+ahead_above key held is = by held.runs.pass (is_some (record_of_key key held.log.b.entries)) is
+  where
+    by : (pass : Option SnowState) (has : Bool) → (not (is_some pass) || (is_above (cursor_of_pass pass) key && not has)) ≡ true
+        → is_above (cursor_of_pass pass) key ≡ true
+    by None has is = refl
+    by (Some snow) has is = (and_parts (is_above (cursor_of_pass (Some snow)) key) (not has) is).0
+
 -- and over the lists with the entry
 pub joined : {end most : ℕ} {old new : DiskState} (ahead : Bool) (held : Held) (tree : Tree) (key : Key) (rec : Rec) → IsOne held
     → goes_ahead key held ≡ ahead → Affects (lane_region held.log.lanes.sizes (lane_for ahead held.log)) end most old new → IsTrue old.is_honest
     → AreOf held.runs tree old.bytes → HoldsTree held.runs.sizes (appended ahead (key, rec) tree) new.bytes
     → AreOf held.runs (appended ahead (key, rec) tree) new.bytes
 joined {end} {most} {old} {new} true held tree key rec one is effect honest are holds =
-    entries_join held.runs tree old.bytes new.bytes key rec (beside true held one effect honest) is are holds
+    entries_join held.runs tree old.bytes new.bytes key rec (beside true held one effect honest) (ahead_above key held is) are holds
 joined {end} {most} {old} {new} false held tree key rec one is effect honest are holds =
     entries_wait held.runs tree old.bytes new.bytes key rec (beside false held one effect honest) are holds

@@ -1,10 +1,10 @@
 -- What is read off what the core of a tree has in memory. Weights are in bytes.
-use Rattle.std.specs.Prelude.{◌≡◌, ℕ, ◌+◌, ◌≤◌, Bool, not, ◌||◌, ◌==◌, IsTrue, is_some, if◌then◌else◌}
+use Rattle.std.specs.Prelude.{◌≡◌, ℕ, ◌+◌, ◌≤◌, Bool, not, ◌&&◌, ◌||◌, ◌==◌, IsTrue, is_some, if◌then◌else◌}
 use Rattle.blsm_model.specs.Geometry.{high_mark}
 use Rattle.blsm_model.specs.Lanes.{AreRoles}
 use Rattle.blsm_model.specs.declared.key.Key.{Key}
 use Rattle.mem_table.specs.Tables.{IsWhole}
-use Rattle.record_delta.specs.Entries.{AreSorted, is_above}
+use Rattle.record_delta.specs.Entries.{AreSorted, is_above, record_of_key}
 use Rattle.tree_log.specs.Log.{weight_of_tables}
 use Rattle.tree_runs.specs.Runs.{made_by_pass, left_for_pass, left_for_deep}
 use Rattle.tree_runs.specs.Holding.{cursor_of_pass, is_full}
@@ -43,9 +43,11 @@ is_deep_over held = not (is_some held.runs.deep) || (left_for_deep held.runs.dee
 abbrev pub is_run_full : Held → Bool
 is_run_full held = is_full held.runs.sizes (made_by_pass held.runs.pass)
 
--- a write of this key goes to table A: no pass runs, or its cursor hasn't come to the key
+-- A write of this key goes to table A: no pass runs; or its cursor hasn't come to the key, and table B hasn't the key.
 abbrev pub goes_ahead : Key → Held → Bool
-goes_ahead key held = is_above (cursor_of_pass held.runs.pass) key
+goes_ahead key held =
+    not (is_some held.runs.pass)
+    || (is_above (cursor_of_pass held.runs.pass) key && not (is_some (record_of_key key held.log.b.entries)))
 
 -- how much the components weigh, as they were last committed
 abbrev pub components_in : Held → ℕ

@@ -42,11 +42,12 @@ fn spring_after(spring: u64, in_pass: bool, weight: u64) -> u64
 }
 
 impl Held {
-    // Whether a write of this key goes to table A: no pass runs, or it hasn't come to the key.
+    // Whether a write of this key goes to table A: no pass runs; or it hasn't come to the key, and table B hasn't the key.
     fn goes_ahead(&self, key: &Key) -> bool
         ensures { result ≡ goes_ahead key.now self.now }
     {
-        is_above(&self.runs.cursor(), key)
+        !self.runs.in_pass()
+            || (is_above(&self.runs.cursor(), key) && self.log.b().place_of(key).is_none())
     }
 
     /// Appends the caller's write to the log, and takes it: it is in its table, the caller owes for it, and the peak counts it.

@@ -2,7 +2,6 @@
 use Rattle.std.proofs.Common.{◌≡◌, ◌+◌, refl, ap, sym, subst, arith}
 use Rattle.std.proofs.lemmas.Grind.{common_steps}
 use Rattle.std.proofs.lemmas.Bool.Decides.{nat_tests}
-use Rattle.blsm_model.specs.Legal.{is_del}
 use Rattle.disk_trait.specs.Disk.{DiskState}
 use Rattle.record_delta.specs.Records.{weight}
 use Rattle.gear_sched.specs.Gears.{GearState, first_debt, second_debt, plan_for, Owes}
@@ -16,7 +15,6 @@ use Rattle.pacing.proofs.Counts.{pay}
 use Rattle.pacing.proofs.Forgiven.{falls_at}
 use Rattle.pacing.proofs.Payments.{snow_owed, deep_owed}
 use Rattle.paced_tree.proofs.Terms.{no_quantum}
-use Rattle.tree_log.specs.Log.{listed_for, with_entry}
 use Rattle.core_moves.specs.declared.held.Held.{Held}
 use Rattle.core_moves.specs.Held.{goes_ahead, IsDeepDone}
 use Rattle.core_moves.specs.Needs.{IsOn, IsReady}
@@ -33,7 +31,7 @@ use Rattle.blsm_model.specs.declared.key.Key.{Key}
 use Rattle.blsm_model.specs.declared.op.Op.{Op}
 use Rattle.record_delta.specs.declared.record.Rec.{Rec}
 use Rattle.blsm_model.specs.Format.{callers}
-use Rattle.core_pace.proofs.Terms.{IsBetween, CallsFit, KeepsBook, IsWritable}
+use Rattle.core_pace.proofs.Terms.{entry_to, IsBetween, CallsFit, KeepsBook, IsWritable}
 
 -- a step begins between two moves
 pub paced_is_between : (held : Held) (pace : Pace) → IsPacedHeld held pace → IsBetween held pace
@@ -58,21 +56,22 @@ pub admission_fits : (seat : ℕ) (op : Op) (key : Key) (rec : Rec) (old settled
     → IsPacedHeld old pace → MayWrite seat (weight key rec) op old → SettlesDeep old settled → SettlesPass settled ready → IsWritable seat key rec (begun_in (weight key rec) ready)
 admission_fits seat op key rec old settled ready pace k may deep pass = record {
   settled = subst (λ (g : GearState). first_debt g seat + second_debt g seat ≡ 0) between.numbers.gears now.1.settled;
-  fits = writes_fit key rec (begun_in (weight key rec) ready) (ready_for pace (weight key rec)) between.numbers between.one between.told.paced between.ends now.1.has_room may.heavy;
+  fits = writes_fit key rec op (begun_in (weight key rec) ready) (ready_for pace (weight key rec)) between.numbers between.one between.told.paced between.ends now.1.has_room may.heavy;
 }
   where
     between : IsBetween (begun_in (weight key rec) ready) (ready_for pace (weight key rec))
     between = (moves_are_told old settled ready pace (weight key rec) k deep pass).1
 
-    lands : Lands (ready_for pace (weight key rec)) (weight key rec) (goes_ahead key (begun_in (weight key rec) ready))
-        (listed_for (goes_ahead key (begun_in (weight key rec) ready)) (with_entry (goes_ahead key (begun_in (weight key rec) ready)) key rec (begun_in (weight key rec) ready).log))
-    lands = lands_by key rec (begun_in (weight key rec) ready) (ready_for pace (weight key rec)) between.numbers between.one (goes_ahead key (begun_in (weight key rec) ready)) refl
+    lands : Lands (ready_for pace (weight key rec))
+        (entry_to (goes_ahead key (begun_in (weight key rec) ready)) key rec op (begun_in (weight key rec) ready))
+    lands = lands_by key rec op (begun_in (weight key rec) ready) (ready_for pace (weight key rec)) between.numbers between.one
+        (goes_ahead key (begun_in (weight key rec) ready)) refl
 
     now : IsPaced (ready_for pace (weight key rec)) × pacing.IsReady (ready_for pace (weight key rec)) seat (weight key rec)
-    now = pacing_ready pace seat (weight key rec)
-        (listed_for (goes_ahead key (begun_in (weight key rec) ready)) (with_entry (goes_ahead key (begun_in (weight key rec) ready)) key rec (begun_in (weight key rec) ready).log)) (is_del op) (goes_ahead key (begun_in (weight key rec) ready))
-        k.told.paced (may_admit_of seat (weight key rec) op old pace (goes_ahead key (begun_in (weight key rec) ready))
-        (listed_for (goes_ahead key (begun_in (weight key rec) ready)) (with_entry (goes_ahead key (begun_in (weight key rec) ready)) key rec (begun_in (weight key rec) ready).log)) k may lands)
+    now = pacing_ready pace seat (entry_to (goes_ahead key (begun_in (weight key rec) ready)) key rec op (begun_in (weight key rec) ready))
+        k.told.paced
+        (may_admit_of seat op old pace (entry_to (goes_ahead key (begun_in (weight key rec) ready)) key rec op (begun_in (weight key rec) ready))
+        refl k may lands)
 
 -- ---- a payment
 

@@ -20,7 +20,7 @@ use Rattle.pacing.specs.Ends.{AreEnds}
 use Rattle.pacing.proofs.Ends.{ends_as, ends_turned, ends_begun, ends_written}
 use Rattle.tree_log.specs.Log.{LogState, end_of_a, end_of_b}
 use Rattle.std.proofs.lemmas.Bool.{and_parts, not-true}
-use Rattle.pacing.specs.Pace.{Pace, rotations, with_deep_swapped, with_pass_swapped, with_swap_and_rotation, with_rotation, with_pass, with_write, deep_done, pass_done, with_forgiven}
+use Rattle.pacing.specs.Pace.{Pace, Written, rotations, with_deep_swapped, with_pass_swapped, with_swap_and_rotation, with_rotation, with_pass, with_write, deep_done, pass_done, with_forgiven}
 use Rattle.pacing.specs.Kept.{IsPaced, IsWithin}
 use Rattle.pacing.specs.Counts.{AreFew, IsCounted}
 use Rattle.pacing.specs.Spent.{IsSpent}
@@ -36,7 +36,7 @@ use Rattle.tree_machine.specs.Machine.{Seats}
 use Rattle.seat_book.specs.State.{BookState, noted_in, stopped_in}
 use Rattle.tree_runs.specs.Runs.{RunsState}
 use Rattle.core_moves.specs.declared.held.Held.{Held}
-use Rattle.core_moves.specs.Held.{IsOne, IsDeepDone, IsPassDone, goes_ahead}
+use Rattle.core_moves.specs.Held.{IsOne, IsDeepDone, IsPassDone}
 use Rattle.core_moves.specs.Moves.{SwapsDeepIn, SwapsPassIn, with_pass_begun, SettlesDeep, SettlesPass, begun_in, with_book, with_debts_forgiven}
 use Rattle.core_pace.specs.Pacing.{HasPace, IsRunBook, IsPacedHeld, most_opened}
 use Rattle.core_pace.specs.Events.{MayWrite}
@@ -47,7 +47,7 @@ use Rattle.core_pace.proofs.OneLemmas.{each_move_keeps_one}
 use Rattle.core_pace.proofs.BookLemmas.{rebooked, one_rebooked}
 use Rattle.blsm_model.specs.declared.history.Reply.{Reply}
 use Rattle.blsm_model.specs.declared.history.Why.{Why}
-use Rattle.core_pace.proofs.Terms.{weighs_after, Admits, IsBetween, done_entry, KeepsBook}
+use Rattle.core_pace.proofs.Terms.{written_in, Admits, IsBetween, done_entry, KeepsBook}
 
 not_so : (b : Bool) → (b ≡ true → ⊥) → b ≡ false
 not_so b h1 = grind (arith, common_steps, nat_tests)
@@ -197,8 +197,9 @@ pub room_taken : (book : Book) (entry : Entry) → HasRoom book.room entry → l
 room_taken book entry room few = omega (arith, few, lowered book.room.entries entry.seat room.entries, length-append book.entries (entry ∷ []))
 
 -- a write that may be is an admission that may be, wherever it lands
-pub may_admit_of : (seat w : ℕ) (op : Op) (held : Held) (pace : Pace) (ahead : Bool) (after : ℕ) → IsPacedHeld held pace → MayWrite seat w op held → Lands (ready_for pace w) w ahead after → MayAdmit pace seat w (is_del op) ahead after
-may_admit_of seat w op held pace ahead after k may lands = grind (arith, common_steps, nat_tests)
+pub may_admit_of : (seat : ℕ) (op : Op) (held : Held) (pace : Pace) (written : Written) → written.is_del ≡ is_del op → IsPacedHeld held pace
+    → MayWrite seat written.weight op held → Lands (ready_for pace written.weight) written → MayAdmit pace seat written
+may_admit_of seat op held pace written deletes k may lands = grind (arith, common_steps, nat_tests)
 
 module _ (seat : ℕ) (op : Op) (key : Key) (rec : Rec) (old settled ready written new : Held) (pace : Pace) (writing : is_write op ≡ true) (weighs : total_weight (writes_of op) ≡ weight key rec)
     (k : IsPacedHeld old pace) (may : MayWrite seat (weight key rec) op old) (room : HasRoom ready.book.book.room (done_entry seat op)) (admits : Admits seat op key rec old settled ready written new) where
@@ -208,23 +209,20 @@ module _ (seat : ℕ) (op : Op) (key : Key) (rec : Rec) (old settled ready writt
   abbrev before : Pace
   before = ready_for pace (weight key rec)
 
-  abbrev after : ℕ
-  after = weighs_after key begun written
-
-  abbrev ahead : Bool
-  ahead = goes_ahead key begun
+  abbrev entry : Written
+  entry = written_in key rec op begun written
 
   abbrev next : Pace
-  next = with_write before seat (weight key rec) ahead after
+  next = with_write before seat entry
 
   between : IsBetween begun before
   between = (moves_are_told old settled ready pace (weight key rec) k admits.deep admits.pass).1
 
-  wrote : Lands before (weight key rec) ahead after × HasPace written next
-  wrote = write_has_pace seat key rec begun written before between.numbers between.one admits.write
+  wrote : Lands before entry × HasPace written next
+  wrote = write_has_pace seat key rec op begun written before between.numbers between.one admits.write
 
-  may_admit : MayAdmit pace seat (weight key rec) (is_del op) ahead after
-  may_admit = may_admit_of seat (weight key rec) op old pace ahead after k may wrote.0
+  may_admit : MayAdmit pace seat entry
+  may_admit = may_admit_of seat op old pace entry refl k may wrote.0
 
   book_is : written.book.book ≡ ready.book.book
   book_is = ap (λ (b : BookState). b.book) admits.write.book ∙ ap (λ (b : BookState). b.book) (begun_book (weight key rec) ready)
@@ -237,8 +235,7 @@ module _ (seat : ℕ) (op : Op) (key : Key) (rec : Rec) (old settled ready writt
       let was : IsBookOf ready.book.book ready.book.seats before = subst (λ (b : BookState). IsBookOf b.book b.seats before) (begun_book (weight key rec) ready) between.told.booked in
       subst (λ (b : Book). IsBookOf (noted b (done_entry seat op)) written.book.seats next) (sym book_is)
       (subst (λ (s : Seats). IsBookOf (noted ready.book.book (done_entry seat op)) s next) (sym seats_are)
-      (subst (λ (n : ℕ). IsBookOf (noted ready.book.book (done_entry seat op)) ready.book.seats (with_write before seat n ahead after)) weighs
-      (write_books ready.book.book ready.book.seats before seat op ahead after between.told.paced may.caller writing was)))
+      (write_books ready.book.book ready.book.seats before seat op entry (sym weighs) between.told.paced may.caller writing was))
 
   entries : length (noted written.book.book (done_entry seat op)).entries + sum (noted written.book.book (done_entry seat op)).room.entries ≤ most_entries
   entries =
@@ -246,22 +243,22 @@ module _ (seat : ℕ) (op : Op) (key : Key) (rec : Rec) (old settled ready writt
       subst (λ (b : Book). length (noted b (done_entry seat op)).entries + sum (noted b (done_entry seat op)).room.entries ≤ most_entries) (sym book_is) (room_taken ready.book.book (done_entry seat op) room was)
 
   counted : IsCounted next
-  counted = step_counts pace (Admit seat (weight key rec) (is_del op) ahead after) k.told.paced k.counted may_admit
+  counted = step_counts pace (Admit seat entry) k.told.paced k.counted may_admit
 
   noted_held : IsPacedHeld (with_book (noted_in seat op Done written.book) written) next
   noted_held = record {
     numbers = rebooked written (noted_in seat op Done written.book) next refl wrote.1;
     told = record {
       booked = booked;
-      paced = step_keeps pace (Admit seat (weight key rec) (is_del op) ahead after) k.told.paced may_admit;
+      paced = step_keeps pace (Admit seat entry) k.told.paced may_admit;
       few = counted_few next counted;
-      spent = step_spends pace (Admit seat (weight key rec) (is_del op) ahead after) k.told.paced k.told.spent may_admit;
+      spent = step_spends pace (Admit seat entry) k.told.paced k.told.spent may_admit;
       entries = entries;
     };
     counted = counted;
     one = one_rebooked written (noted_in seat op Done written.book) ((each_move_keeps_one begun written between.one).write seat key rec admits.write);
-    ends = subst (λ (n : ℕ). AreEnds next n (end_of_b written.log)) (sym admits.write.grows.a) (subst (λ (n : ℕ). AreEnds next (cond ahead (end_of_a begun.log + (weight key rec + 1)) (end_of_a begun.log)) n) (sym admits.write.grows.b)
-        (ends_written before seat (weight key rec) ahead after (end_of_a begun.log) (end_of_b begun.log) may.light wrote.0 between.ends));
+    ends = subst (λ (n : ℕ). AreEnds next n (end_of_b written.log)) (sym admits.write.grows.a) (subst (λ (n : ℕ). AreEnds next (cond entry.ahead (end_of_a begun.log + (weight key rec + 1)) (end_of_a begun.log)) n) (sym admits.write.grows.b)
+        (ends_written before seat entry (end_of_a begun.log) (end_of_b begun.log) may.light wrote.0 between.ends));
     version = omega (arith, between.version, ap (λ (r : RunsState). r.catalogue.version) admits.write.runs);
   }
 
@@ -269,7 +266,7 @@ module _ (seat : ℕ) (op : Op) (key : Key) (rec : Rec) (old settled ready writt
   admitted = subst (λ (h : Held). IsPacedHeld h next) (sym admits.entry) noted_held
 
   pub is_admission : IsAdmission seat op pace next
-  is_admission = (ahead, after, subst (λ (n : ℕ). MayAdmit pace seat n (is_del op) ahead after × (next ≡ with_write (ready_for pace n) seat n ahead after)) (sym weighs) (may_admit, refl))
+  is_admission = record { written = entry; weighs = sym weighs; deletes = refl; may = may_admit; led = refl }
 
 -- A write is one admission of the pacing.
 pub admission_is_paced : (seat : ℕ) (op : Op) (key : Key) (rec : Rec) (old settled ready written new : Held) (pace : Pace)
@@ -277,7 +274,7 @@ pub admission_is_paced : (seat : ℕ) (op : Op) (key : Key) (rec : Rec) (old set
     → Admits seat op key rec old settled ready written new
     → (next : Pace) × IsAdmission seat op pace next × IsPacedHeld new next
 admission_is_paced seat op key rec old settled ready written new pace writing weighs k may room admits = (
-  with_write (ready_for pace (weight key rec)) seat (weight key rec) (goes_ahead key (begun_in (weight key rec) ready)) (weighs_after key (begun_in (weight key rec) ready) written),
+  with_write (ready_for pace (weight key rec)) seat (written_in key rec op (begun_in (weight key rec) ready) written),
   is_admission seat op key rec old settled ready written new pace writing weighs k may room admits,
   admitted seat op key rec old settled ready written new pace writing weighs k may room admits,
 )

@@ -17,7 +17,9 @@ use Rattle.core_moves.specs.declared.held.Held.{Held}
 use Rattle.core_moves.specs.Held.{IsOne, goes_ahead, IsPassDone, IsDeepDone, is_run_full}
 use Rattle.core_pace.specs.Pacing.{HasPace}
 use Rattle.core_pace.proofs.TestLemmas.{each_test_agrees}
+use Rattle.core_pace.proofs.Terms.{entry_to}
 use Rattle.core_pace.proofs.WriteLemmas.{lands_by}
+use Rattle.blsm_model.specs.declared.op.Op.{Op}
 use Rattle.pacing.specs.Kept.{IsWithin, IsPaced}
 use Rattle.tree_runs.specs.Runs.{Fits}
 use Rattle.blsm_model.specs.Format.{most_weight}
@@ -53,9 +55,11 @@ way_is_free held pace p one paced not_done done full = by held.runs.deep refl
 -- ---- a write
 
 -- a write that there is room for fits its lane, its table, and the numbers of the gears
-pub writes_fit : (key : Key) (rec : Rec) (held : Held) (pace : Pace) → HasPace held pace → IsOne held → IsPaced pace → AreEnds pace (end_of_a held.log) (end_of_b held.log) → HasRoom pace (weight key rec) → weight key rec ≤ most_weight → WriteFits key rec held
-writes_fit key rec held pace p one paced ends room heavy = record {
-  lane = by_lane (goes_ahead key held) (entry_fits pace (weight key rec) (goes_ahead key held) _ (end_of_a held.log) (end_of_b held.log) paced.within ends room lands);
+pub writes_fit : (key : Key) (rec : Rec) (op : Op) (held : Held) (pace : Pace) → HasPace held pace → IsOne held → IsPaced pace
+    → AreEnds pace (end_of_a held.log) (end_of_b held.log) → HasRoom pace (weight key rec) → weight key rec ≤ most_weight → WriteFits key rec held
+writes_fit key rec op held pace p one paced ends room heavy = record {
+  lane = by_lane (goes_ahead key held)
+      (entry_fits pace (entry_to (goes_ahead key held) key rec op held) (end_of_a held.log) (end_of_b held.log) paced.within ends room lands);
   table = by_table (goes_ahead key held) lands;
   pass = let y = (all_fits pace paced.within).y in let g = ap (λ (g : GearState). g.pass_admitted) p.gears in omega (arith, y, g, heavy);
   deep = let since = (bounded pace paced).since in let g = ap (λ (g : GearState). g.deep_admitted) p.gears in omega (arith, since, g, heavy);
@@ -66,8 +70,8 @@ writes_fit key rec held pace p one paced ends room heavy = record {
       omega (arith, low, p.spring);
 }
   where
-    lands : Lands pace (weight key rec) (goes_ahead key held) (listed_for (goes_ahead key held) (with_entry (goes_ahead key held) key rec held.log))
-    lands = lands_by key rec held pace p one (goes_ahead key held) refl
+    lands : Lands pace (entry_to (goes_ahead key held) key rec op held)
+    lands = lands_by key rec op held pace p one (goes_ahead key held) refl
 
     half : pace.gears.sizes.half ≡ held.log.lanes.sizes.half
     half = ap (λ (s : Sizes). s.half) (sizes_are held pace p one ∙ sym one.lanes)
@@ -77,6 +81,6 @@ writes_fit key rec held pace p one paced ends room heavy = record {
     by_lane true fits = omega (arith, fits, half)
     by_lane false fits = omega (arith, fits, half)
 
-    by_table : (b : Bool) → Lands pace (weight key rec) b (listed_for b (with_entry b key rec held.log))
+    by_table : (b : Bool) → Lands pace (entry_to b key rec op held)
         → listed_for b (with_entry b key rec held.log) ≤ (table_for b held.log).reserved
     by_table b h1 = grind (arith, common_steps, nat_tests)

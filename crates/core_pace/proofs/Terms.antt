@@ -1,11 +1,11 @@
 -- What only lemmas say: no clause names these.
-use Rattle.std.specs.Prelude.{◌≡◌, ◌↔◌, ℕ, ◌-◌, IsTrue, ◌&&◌, ◌<◌, is_some, ◌+◌, ◌≤◌, true, false, length}
+use Rattle.std.specs.Prelude.{◌≡◌, ◌↔◌, ℕ, ◌-◌, Bool, IsTrue, ◌&&◌, ◌<◌, is_some, ◌+◌, ◌≤◌, true, false, length}
 use Rattle.blsm_model.specs.declared.key.Key.{Key}
 use Rattle.record_delta.specs.declared.record.Rec.{Rec}
 use Rattle.record_delta.specs.Records.{weight}
 use Rattle.pacing.specs.Ends.{AreEnds}
-use Rattle.pacing.specs.Pace.{Pace, rotations, Quantum, pass_done, deep_done, pass_over, deep_over, with_forgiven}
-use Rattle.tree_log.specs.Log.{listed_for, end_of_a, end_of_b}
+use Rattle.pacing.specs.Pace.{Pace, Written, rotations, Quantum, pass_done, deep_done, pass_over, deep_over, with_forgiven}
+use Rattle.tree_log.specs.Log.{LogState, listed_for, end_of_a, end_of_b, with_entry}
 use Rattle.tree_runs.specs.Runs.{made_by_pass, made_by_deep, left_for_pass, left_for_deep, Fits}
 use Rattle.core_moves.specs.declared.held.Held.{Held}
 use Rattle.core_moves.specs.Held.{IsOne, IsPassDone, IsDeepDone, is_pass_over, is_deep_over, goes_ahead}
@@ -14,6 +14,7 @@ use Rattle.core_pace.specs.Pacing.{table_left, HasPace, IsRunBook, most_opened}
 use Rattle.gear_sched.specs.declared.Plan.TheVariants.{Snow, Deep}
 use Rattle.pacing.specs.Steps.{plan_of}
 use Rattle.blsm_model.specs.Format.{callers}
+use Rattle.blsm_model.specs.Legal.{is_del}
 use Rattle.blsm_model.specs.declared.op.Op.{Op}
 use Rattle.blsm_model.specs.declared.history.Entry.{Entry}
 use Rattle.blsm_model.specs.declared.history.Reply.TheVariants.{Done}
@@ -43,9 +44,16 @@ snow_quantum n old new = record {
 abbrev pub deep_quantum : ℕ → Held → Quantum
 deep_quantum n new = record { took = n; of_table = 0; made = (made_by_deep new.runs.deep).weight }
 
--- what the list of the table weighs that the write went to
-abbrev pub weighs_after : Key → Held → Held → ℕ
-weighs_after key old new = listed_for (goes_ahead key old) new.log
+-- what the pacing has of a write that goes to this table
+abbrev pub entry_in : Key → Rec → Op → Bool → LogState → Written
+entry_in key rec op ahead log = record { weight = weight key rec; is_del = is_del op; ahead = ahead; after = listed_for ahead log }
+
+abbrev pub written_in : Key → Rec → Op → Held → Held → Written
+written_in key rec op old new = entry_in key rec op (goes_ahead key old) new.log
+
+-- and of one that would go there
+abbrev pub entry_to : Bool → Key → Rec → Op → Held → Written
+entry_to ahead key rec op held = entry_in key rec op ahead (with_entry ahead key rec held.log)
 
 pub record MovesKeepOne (old new : Held) : Type 0 where
   pub deep_swap : SwapsDeepIn old new → IsOne new

@@ -1,10 +1,10 @@
 -- An admission of the lists is one of the numbers.
-use Rattle.std.proofs.Common.{◌≡◌, ◌∙◌, refl, sym, ap, subst, ℕ, ◌+◌, ◌<◌, ◌≤◌, Bool, cond, true, false, ◌&&◌, [], ◌∷◌, Option, Some, None, inl, inr, arith}
+use Rattle.std.proofs.Common.{◌≡◌, ◌∙◌, refl, sym, ap, subst, ℕ, ◌+◌, ◌<◌, ◌≤◌, Bool, cond, true, false, ◌&&◌, ◌⊎◌, [], ◌∷◌, Option, Some, None, inl, inr, arith}
 use Rattle.std.proofs.lemmas.Grind.{common_steps}
 use Rattle.std.proofs.lemmas.Bool.Decides.{nat_tests}
 use Rattle.std.specs.Prelude.{◌==◌, nat_lt, List}
 use Rattle.std.specs.List.{AllByRecursion}
-use Rattle.std.proofs.lemmas.Bool.{ltb-false}
+use Rattle.std.proofs.lemmas.Bool.{ltb-false, true≢false}
 use Rattle.std.proofs.lemmas.List.{length-set}
 use Rattle.blsm_model.specs.Format.{callers}
 use Rattle.blsm_model.specs.Geometry.{charge_limit}
@@ -23,18 +23,18 @@ use Rattle.blsm_model.proofs.OpLemmas.{writes_one}
 use Rattle.record_delta.specs.declared.record.Rec.{Rec}
 use Rattle.record_delta.specs.Records.{record_of}
 use Rattle.gear_sched.specs.Gears.{entered, first_debt, second_debt}
-use Rattle.pacing.specs.Pace.{Pace, with_write as pace_with_write}
+use Rattle.pacing.specs.Pace.{Pace, Written, with_write as pace_with_write}
 use Rattle.pacing.specs.Kept.{IsPaced}
-use Rattle.pacing.specs.Steps.{Admit, Lands, MayAdmit, May, after, ready_for as pace_ready_for}
+use Rattle.pacing.specs.Steps.{Lands, ready_for as pace_ready_for}
 use Rattle.pacing.proofs.Promises.{moves_keep}
 use Rattle.record_delta.specs.Entries.{AreSorted, Entries, entries_weight, with_record}
 use Rattle.tree_machine.specs.declared.step.Kind.{Kind}
 use Rattle.tree_machine.specs.declared.step.Kind.TheVariants as kind
 use Rattle.tree_machine.specs.Lists.{Lists, value_in}
 use Rattle.tree_machine.specs.Merges.{Merge}
-use Rattle.tree_machine.specs.Layers.{IsSound, HasWay}
+use Rattle.tree_machine.specs.Layers.{IsPassCounted, IsSound, HasWay}
 use Rattle.tree_machine.specs.Machine.{Machine, charge}
-use Rattle.tree_machine.specs.Moves.{goes_to_a, with_write, take_write, with_peak, note, stop}
+use Rattle.tree_machine.specs.Moves.{goes_to_a, take_write, with_peak, note, stop}
 use Rattle.tree_machine.specs.Steps.{
   Outcome,
   Well,
@@ -61,12 +61,12 @@ use Rattle.tree_machine.specs.Stands.{FitsFormat}
 use Rattle.tree_machine.proofs.CarryLemmas.{ready_carries}
 use Rattle.tree_machine.proofs.LightLemmas.{write_is_light}
 use Rattle.tree_machine.proofs.QuantumLemmas.{weight_parts}
-use Rattle.tree_machine.proofs.WeightLemmas.{weight_with, weight_of_record}
-use Rattle.tree_machine.proofs.WriteLemmas.{behind_kept}
+use Rattle.tree_machine.proofs.WeightLemmas.{key_weighs, weight_with, weight_of_record}
+use Rattle.tree_machine.proofs.WriteLemmas.{behind_kept, sent_ahead, sent_behind}
 use Rattle.paced_tree.specs.Booking.{IsBookOf}
 use Rattle.paced_tree.specs.Made.{IsMadeBy}
 use Rattle.paced_tree.specs.Numbers.{taken_of, HasTaken, pace_of}
-use Rattle.paced_tree.proofs.Terms.{with_numbers_of, IsPace, IsToldOf, Makes, weight_after}
+use Rattle.paced_tree.proofs.Terms.{with_numbers_of, IsPace, IsToldOf, Makes, weight_after, written_in}
 use Rattle.paced_tree.proofs.Books.{noted_booked}
 use Rattle.paced_tree.proofs.BookLaws.{write_books}
 use Rattle.paced_tree.proofs.Paces.{its_pace, makes}
@@ -94,17 +94,29 @@ one_weight w = omega arith
 pub writes_once : (op : Op) (w : Write) (rest : List Write) → writes_of op ≡ w ∷ rest → total_weight (writes_of op) ≡ weight_of w
 writes_once op w rest is = grind (arith, common_steps, nat_tests)
 
-taken_stays : (p : Option Merge) (key : Key) (rec : Rec) (es : Entries) → AreSorted es → goes_to_a p key ≡ true → taken_of p (with_record key rec es) ≡ taken_of p es
-taken_stays None key rec es sorted ahead = refl
-taken_stays (Some pass) key rec es sorted ahead = ap entries_weight (behind_kept pass.cursor key rec es ahead sorted)
+taken_stays : (p : Option Merge) (b : Entries) (key : Key) (rec : Rec) (es : Entries) → AreSorted es → goes_to_a p b key ≡ true
+    → taken_of p (with_record key rec es) ≡ taken_of p es
+taken_stays None b key rec es sorted ahead = refl
+taken_stays (Some pass) b key rec es sorted ahead = ap entries_weight (behind_kept pass.cursor key rec es (sent_ahead pass b key ahead).0 sorted)
 
 pub taken_le : (p : Option Merge) (es : Entries) → taken_of p es ≤ entries_weight es
 taken_le None es = omega arith
 taken_le (Some pass) es = omega (arith, weight_parts pass.cursor es)
 
--- a key that isn't ahead finds a pass that has taken something
-behind_runs : (m : Machine) (key : Key) → IsSound m → HasTaken m.merges.pass m.gears.pass_taken → goes_to_a m.merges.pass key ≡ false → (m.gears.pass ≡ true) × (0 < m.gears.pass_taken)
-behind_runs m key sound started = grind (arith, common_steps, nat_tests)
+-- a key that isn't ahead finds a pass that has taken something, unless table B has the key
+behind_runs : (m : Machine) (key : Key) → IsSound m → HasTaken m.merges.pass m.gears.pass_taken → goes_to_a m.merges.pass m.lists.b key ≡ false
+    → (m.gears.pass ≡ true) × ((0 < m.gears.pass_taken) ⊎ (0 < entries_weight m.lists.b))
+behind_runs m key sound started = by m.merges.pass sound.pass started
+  where
+    by : (p : Option Merge)
+        → IsPassCounted m.lists.a m.lists.c1 m.gears.pass m.gears.pass_c1 m.gears.pass_memory m.gears.pass_admitted m.gears.pass_taken p
+        → HasTaken p m.gears.pass_taken → goes_to_a p m.lists.b key ≡ false
+        → (m.gears.pass ≡ true) × ((0 < m.gears.pass_taken) ⊎ (0 < entries_weight m.lists.b))
+    by None counted taken goes = absurd (true≢false goes)
+    by (Some pass) counted taken goes = (
+      counted.0,
+      elim (sent_behind pass.cursor key m.lists.b goes) [ inl some ↦ inl (taken some) | inr has ↦ inr (key_weighs key m.lists.b has) ],
+    )
 
 module _ (m : Machine) (w : Write) (sound : IsSound m) where
   abbrev at_a : Lists
@@ -113,39 +125,38 @@ module _ (m : Machine) (w : Write) (sound : IsSound m) where
   abbrev at_b : Lists
   at_b = record { b = with_record (key_of w) (record_of w) m.lists.b; a = m.lists.a; c1 = m.lists.c1; c1x = m.lists.c1x; c2 = m.lists.c2 }
 
-  abbrev ahead : Bool
-  ahead = goes_to_a m.merges.pass (key_of w)
+  -- it goes to table A, or to table B
+  abbrev sent_to : Op → Bool → Written
+  sent_to op b = record { weight = weight_of w; is_del = is_del op; ahead = b; after = weight_after b (cond b at_a at_b) }
 
-  abbrev then_weighs : ℕ
-  then_weighs = weight_after ahead (with_write m.merges.pass (key_of w) (record_of w) m.lists)
-
-  pub lands_of : HasTaken m.merges.pass m.gears.pass_taken → Lands (pace_of m) (weight_of w) ahead then_weighs
-  lands_of started = by (goes_to_a m.merges.pass (key_of w)) refl
+  pub lands_of : (op : Op) → HasTaken m.merges.pass m.gears.pass_taken → Lands (pace_of m) (written_in m op w)
+  lands_of op started = by (goes_to_a m.merges.pass m.lists.b (key_of w)) refl
     where
-      by : (b : Bool) → goes_to_a m.merges.pass (key_of w) ≡ b → Lands (pace_of m) (weight_of w) b (weight_after b (cond b at_a at_b))
+      by : (b : Bool) → goes_to_a m.merges.pass m.lists.b (key_of w) ≡ b → Lands (pace_of m) (sent_to op b)
       by true ahead = (
         omega (arith, weight_with (key_of w) (record_of w) m.lists.a sound.layered.sorted_a, weight_of_record w),
-        omega (arith, taken_stays m.merges.pass (key_of w) (record_of w) m.lists.a sound.layered.sorted_a ahead, taken_le m.merges.pass (with_record (key_of w) (record_of w) m.lists.a)),
+        omega (arith, taken_stays m.merges.pass m.lists.b (key_of w) (record_of w) m.lists.a sound.layered.sorted_a ahead, taken_le m.merges.pass (with_record (key_of w) (record_of w) m.lists.a)),
       )
       by false behind =
           let runs = behind_runs m (key_of w) sound started behind in
           (runs.0, runs.1, omega (arith, weight_with (key_of w) (record_of w) m.lists.b sound.layered.sorted_b, weight_of_record w))
 
   written_numbers : (seat : ℕ) (op : Op)
-      → with_numbers_of (note seat op Done (with_peak (take_write seat w m))) (pace_with_write (pace_of m) seat (weight_of w) ahead then_weighs) ≡ pace_with_write (pace_of m) seat (weight_of w) ahead then_weighs
-  written_numbers seat op = by (goes_to_a m.merges.pass (key_of w)) refl
+      → with_numbers_of (note seat op Done (with_peak (take_write seat w m))) (pace_with_write (pace_of m) seat (written_in m op w))
+      ≡ pace_with_write (pace_of m) seat (written_in m op w)
+  written_numbers seat op = by (goes_to_a m.merges.pass m.lists.b (key_of w)) refl
     where
-      by : (b : Bool) → goes_to_a m.merges.pass (key_of w) ≡ b
-          → with_numbers_of (with_peak (record m { lists = cond b at_a at_b; gears = entered m.gears seat (weight_of w); spring = cond m.gears.pass m.spring (m.spring + weight_of w) })) (pace_with_write (pace_of m) seat (weight_of w) b (weight_after b (cond b at_a at_b)))
-          ≡ pace_with_write (pace_of m) seat (weight_of w) b (weight_after b (cond b at_a at_b))
-      by true is = ap (λ (n : ℕ). record (pace_with_write (pace_of m) seat (weight_of w) true (entries_weight at_a.a)) { taken = n }) (taken_stays m.merges.pass (key_of w) (record_of w) m.lists.a sound.layered.sorted_a is)
+      by : (b : Bool) → goes_to_a m.merges.pass m.lists.b (key_of w) ≡ b
+          → with_numbers_of (with_peak (record m { lists = cond b at_a at_b; gears = entered m.gears seat (weight_of w); spring = cond m.gears.pass m.spring (m.spring + weight_of w) })) (pace_with_write (pace_of m) seat (sent_to op b))
+          ≡ pace_with_write (pace_of m) seat (sent_to op b)
+      by true is = ap (λ (n : ℕ). record (pace_with_write (pace_of m) seat (sent_to op true)) { taken = n }) (taken_stays m.merges.pass m.lists.b (key_of w) (record_of w) m.lists.a sound.layered.sorted_a is)
       by false is = refl
 
   pub written_pace : (seat : ℕ) (op : Op) → total_weight (writes_of op) ≡ weight_of w → IsPaced (pace_of m) → IsToldOf m → seat < callers → is_write op ≡ true
-      → IsPace (note seat op Done (with_peak (take_write seat w m))) (pace_with_write (pace_of m) seat (weight_of w) ahead then_weighs)
+      → IsPace (note seat op Done (with_peak (take_write seat w m))) (pace_with_write (pace_of m) seat (written_in m op w))
   written_pace seat op weighs paced t caller writing = record {
     numbers = written_numbers seat op;
-    booked = subst (λ n. IsBookOf (note seat op Done m).book m.seats (pace_with_write (pace_of m) seat n ahead then_weighs)) weighs (write_books m.book m.seats (pace_of m) seat op ahead then_weighs paced caller writing t.booked);
+    booked = write_books m.book m.seats (pace_of m) seat op (written_in m op w) (sym weighs) paced caller writing t.booked;
     weights = length-set (pace_of m).weights seat (weight_of w) ∙ paced.weights;
     quanta = length-set (pace_of m).quanta seat 0 ∙ paced.quanta;
   }
@@ -154,11 +165,11 @@ module _ (m : Machine) (w : Write) (sound : IsSound m) where
 
 module _ (m : Machine) (seat : ℕ) (op : Op) (sound : IsSound m) (way : HasWay m) (paced : IsPaced (pace_of m)) (t : IsToldOf m) (caller : seat < callers) where
   -- where it landed, of the pace before its moves
-  pub lands_at : (w : Write) (n : ℕ) → n ≡ weight_of w
-      → Lands (pace_ready_for (pace_of m) n) n (goes_to_a (ready_for n m).merges.pass (key_of w)) (weight_after (goes_to_a (ready_for n m).merges.pass (key_of w)) (with_write (ready_for n m).merges.pass (key_of w) (record_of w) (ready_for n m).lists))
-  lands_at w n is = subst (λ n. Lands (pace_ready_for (pace_of m) n) n (goes_to_a (ready_for n m).merges.pass (key_of w)) (weight_after (goes_to_a (ready_for n m).merges.pass (key_of w)) (with_write (ready_for n m).merges.pass (key_of w) (record_of w) (ready_for n m).lists))) (sym is)
-      (subst (λ p. Lands p (weight_of w) (goes_to_a (ready_for (weight_of w) m).merges.pass (key_of w)) (weight_after (goes_to_a (ready_for (weight_of w) m).merges.pass (key_of w)) (with_write (ready_for (weight_of w) m).merges.pass (key_of w) (record_of w) (ready_for (weight_of w) m).lists))) (ready_pace (weight_of w) m sound)
-      (lands_of (ready_for (weight_of w) m) w (ready_carries (weight_of w) m sound way).sound (ready_told (weight_of w) m t).started))
+  pub lands_at : (w : Write) (n : ℕ) → n ≡ weight_of w → Lands (pace_ready_for (pace_of m) n) (written_in (ready_for n m) op w)
+  lands_at w n is =
+      subst (λ n. Lands (pace_ready_for (pace_of m) n) (written_in (ready_for n m) op w)) (sym is)
+      (subst (λ p. Lands p (written_in (ready_for (weight_of w) m) op w)) (ready_pace (weight_of w) m sound)
+      (lands_of (ready_for (weight_of w) m) w (ready_carries (weight_of w) m sound way).sound op (ready_told (weight_of w) m t).started))
 
   failed_makes : (commits faults : ℕ) → (let ended = admit_fitting m seat op (total_weight (writes_of op)) (FailedAfter commits faults) in Makes seat (kind.Admit op) ended.answer m ended.state)
   failed_makes commits faults = by (nat_lt commits (swaps_due m)) (commits == 0)
@@ -188,18 +199,25 @@ module _ (m : Machine) (seat : ℕ) (op : Op) (sound : IsSound m) (way : HasWay 
         → Makes seat (kind.Admit op) (Replied Done) m (note seat op Done (with_peak (take_write seat w (ready_for (weight_of w) m))))
     written w writes fits room =
         let n = ready_for (weight_of w) m in
-        let to = goes_to_a n.merges.pass (key_of w) in
-        let then = weight_after to (with_write n.merges.pass (key_of w) (record_of w) n.lists) in
         let weighs : total_weight (writes_of op) ≡ weight_of w = ap total_weight writes ∙ one_weight w in
         let same : pace_of n ≡ pace_ready_for (pace_of m) (weight_of w) = ready_pace (weight_of w) m sound in
         let told = ready_told (weight_of w) m t in
-        let may : MayAdmit (pace_of m) seat (weight_of w) (is_del op) to then = record { caller = caller; settled = settled; light = fits.least; heavy = write_is_light w fits; room = room; lands = lands_at w (weight_of w) refl } in
-        makes seat (kind.Admit op) (Replied Done) m (note seat op Done (with_peak (take_write seat w n))) (pace_with_write (pace_of n) seat (weight_of w) to then) (
-          to,
-          then,
-          subst (λ k. May (pace_of m) (Admit seat k (is_del op) to then) × (pace_with_write (pace_of n) seat (weight_of w) to then ≡ after (pace_of m) (Admit seat k (is_del op) to then))) (sym weighs)
-              (may, ap (λ (p : Pace). pace_with_write p seat (weight_of w) to then) same),
-        )
+        makes seat (kind.Admit op) (Replied Done) m (note seat op Done (with_peak (take_write seat w n)))
+        (pace_with_write (pace_of n) seat (written_in n op w))
+        (record {
+          written = written_in n op w;
+          weighs = sym weighs;
+          deletes = refl;
+          may = record {
+            caller = caller;
+            settled = settled;
+            light = fits.least;
+            heavy = write_is_light w fits;
+            room = room;
+            lands = lands_at w (weight_of w) refl;
+          };
+          led = ap (λ (p : Pace). pace_with_write p seat (written_in n op w)) same;
+        })
         (written_pace n w (ready_carries (weight_of w) m sound way).sound seat op weighs (subst IsPaced (sym same) (moves_keep (pace_of m) (weight_of w) paced).2) told caller writing) told.started
 
     done_makes : AllByRecursion FitsFormat (writes_of op) → charge m + total_weight (writes_of op) ≤ charge_limit m.gears.sizes (is_del op)

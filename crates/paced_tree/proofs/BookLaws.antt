@@ -10,7 +10,7 @@ use Rattle.blsm_model.specs.Histories.{is_done, writes_of}
 use Rattle.blsm_model.specs.Legal.{is_write, total_weight}
 use Rattle.gear_sched.specs.declared.Plan.{Plan}
 use Rattle.gear_sched.specs.declared.Plan.TheVariants.{Snow, Deep, Nothing}
-use Rattle.pacing.specs.Pace.{Pace, Quantum, pass_done, with_swap_and_rotation, with_forgiven, with_write}
+use Rattle.pacing.specs.Pace.{Pace, Quantum, Written, pass_done, with_swap_and_rotation, with_forgiven, with_write}
 use Rattle.pacing.specs.Kept.{IsPaced}
 use Rattle.pacing.specs.Steps.{Move, Pay, plan_of, paid_by, turn_of, turned_by, is_worker_seat, deep_settled, pass_settled, begun_for, ready_for, May, after, Turn}
 use Rattle.pacing.proofs.Runs.{step_keeps}
@@ -26,10 +26,14 @@ use Rattle.blsm_model.specs.declared.history.Entry.{Entry}
 use Rattle.paced_tree.proofs.Terms.{with_turn_of, quanta_of_turn}
 
 -- a write that was done
-pub write_books : (book : Book) (s : Seats) (pace : Pace) (seat : ℕ) (op : Op) (ahead : Bool) (weight_after : ℕ) → IsPaced pace → seat < callers → is_write op ≡ true → IsBookOf book s pace
-    → IsBookOf (noted book (record { seat = seat; op = op; reply = Done })) s (with_write pace seat (total_weight (writes_of op)) ahead weight_after)
-write_books book s pace seat op ahead weight_after paced caller write k =
-    written_booked pace.gears.sizes book s.quanta s.work pace.work pace.admitted pace.writes pace.weights pace.quanta (record { seat = seat; op = op; reply = Done }) paced.weights paced.quanta caller write k
+pub write_books : (book : Book) (s : Seats) (pace : Pace) (seat : ℕ) (op : Op) (written : Written) → written.weight ≡ total_weight (writes_of op)
+    → IsPaced pace → seat < callers → is_write op ≡ true → IsBookOf book s pace
+    → IsBookOf (noted book (record { seat = seat; op = op; reply = Done })) s (with_write pace seat written)
+write_books book s pace seat op written weighs paced caller write k =
+    let entry : Entry = record { seat = seat; op = op; reply = Done } in
+    subst (λ (n : ℕ). IsBookOf (noted book entry) s (with_write pace seat (record written { weight = n }))) (sym weighs)
+    (written_booked pace.gears.sizes book s.quanta s.work pace.work pace.admitted pace.writes pace.weights pace.quanta entry
+    paced.weights paced.quanta caller write k)
 
 -- any other entry
 pub note_books : (book : Book) (s : Seats) (pace : Pace) (entry : Entry) → (is_done entry.reply ≡ true → is_write entry.op ≡ false) → IsBookOf book s pace → IsBookOf (noted book entry) s pace

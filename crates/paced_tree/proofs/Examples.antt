@@ -6,7 +6,7 @@ use Rattle.blsm_model.specs.Sizes.{default_sizes}
 use Rattle.blsm_model.specs.declared.op.Op.TheVariants.{Put}
 use Rattle.pacing.specs.Pace.{Pace, passes_begun, rotations, opened as pace_opened}
 use Rattle.pacing.specs.Laws.{IsOpening}
-use Rattle.pacing.specs.Steps.{Admit, after}
+use Rattle.pacing.specs.Steps.{Event, Admit, after}
 use Rattle.blsm_model.specs.declared.key.Key.{Key}
 use Rattle.record_delta.specs.declared.record.Rec.TheVariants.{Base, Tomb}
 use Rattle.record_delta.specs.Entries.{Entries, entries_weight, replayed}
@@ -53,5 +53,13 @@ whole_weighs = refl
 front_weighs : entries_weight (replayed (take 1 put_then_del)) ≡ 512
 front_weighs = refl
 
-front_is_kept : (fronts_after (after (pace_opened default_sizes 0 0) (Admit 0 512 false true 512)) (Admit 0 77 true true 77) (fronts_after (pace_opened default_sizes 0 0) (Admit 0 512 false true 512) no_fronts)).lane_a ≡ 512
+abbrev put_first : Event
+put_first = Admit 0 (record { weight = 512; is_del = false; ahead = true; after = 512 })
+
+abbrev del_then : Event
+del_then = Admit 0 (record { weight = 77; is_del = true; ahead = true; after = 77 })
+
+front_is_kept : (fronts_after (after (pace_opened default_sizes 0 0) put_first) del_then
+    (fronts_after (pace_opened default_sizes 0 0) put_first no_fronts)).lane_a
+    ≡ 512
 front_is_kept = refl

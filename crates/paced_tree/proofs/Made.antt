@@ -5,7 +5,7 @@ use Rattle.std.proofs.lemmas.Bool.Decides.{nat_tests}
 use Rattle.std.proofs.lemmas.Bool.{false≢true, true≢false}
 use Rattle.blsm_model.specs.Format.{callers}
 use Rattle.blsm_model.specs.Histories.{writes_of}
-use Rattle.blsm_model.specs.Legal.{total_weight, is_del}
+use Rattle.blsm_model.specs.Legal.{total_weight}
 use Rattle.blsm_model.specs.declared.history.Reply.TheVariants.{Done, FaultLost, FaultUnsure}
 use Rattle.gear_sched.specs.declared.Plan.TheVariants.{Nothing}
 use Rattle.pacing.specs.Pace.{Pace}
@@ -26,7 +26,7 @@ use Rattle.paced_tree.specs.Made.{IsMadeBy}
 use Rattle.paced_tree.proofs.Terms.{no_quantum}
 
 pub made_paced : (seat : ℕ) (k : Kind) (answer : Answer) (old new : Pace) → (k ≡ kind.Pay → seat < callers) → IsPaced old → IsMadeBy seat k answer old new → IsPaced new
-made_paced seat (kind.Admit op) (Replied Done) old new pays k made = subst IsPaced (sym made.2.1) (step_keeps old (Admit seat (total_weight (writes_of op)) (is_del op) made.0 made.1) k made.2.0)
+made_paced seat (kind.Admit op) (Replied Done) old new pays k made = subst IsPaced (sym made.led) (step_keeps old (Admit seat made.written) k made.may)
 made_paced seat (kind.Admit op) (Replied FaultLost) old new pays k made = elim made [ inl same ↦ subst IsPaced (sym same) k | inr settled ↦ subst IsPaced (sym settled) (moves_keep old 0 k).0 ]
 made_paced seat (kind.Admit op) (Replied FaultUnsure) old new pays k made = subst IsPaced (sym made) (moves_keep old (total_weight (writes_of op)) k).2
 made_paced seat (kind.Admit op) answer old new pays k made = subst IsPaced (sym made) k
@@ -42,7 +42,7 @@ made_paced seat kind.WorkerTurn answer old new pays k made = subst IsPaced (sym 
 made_paced seat kind answer old new pays k made = subst IsPaced (sym made) k
 
 pub made_spends : (seat : ℕ) (k : Kind) (answer : Answer) (old new : Pace) → IsPaced old → IsSpent old → IsMadeBy seat k answer old new → IsSpent new
-made_spends seat (kind.Admit op) (Replied Done) old new paced s made = subst IsSpent (sym made.2.1) (step_spends old (Admit seat (total_weight (writes_of op)) (is_del op) made.0 made.1) paced s made.2.0)
+made_spends seat (kind.Admit op) (Replied Done) old new paced s made = subst IsSpent (sym made.led) (step_spends old (Admit seat made.written) paced s made.may)
 made_spends seat (kind.Admit op) (Replied FaultLost) old new paced s made = elim made [ inl same ↦ subst IsSpent (sym same) s | inr settled ↦ subst IsSpent (sym settled) (moves_spend old 0 paced s).0 ]
 made_spends seat (kind.Admit op) (Replied FaultUnsure) old new paced s made = subst IsSpent (sym made) (moves_spend old (total_weight (writes_of op)) paced s).1
 made_spends seat (kind.Admit op) answer old new paced s made = subst IsSpent (sym made) s
@@ -64,7 +64,7 @@ is_unsure k answer = false
 
 -- but for such a one it stays counted
 pub made_counts : (seat : ℕ) (k : Kind) (answer : Answer) (old new : Pace) → IsPaced old → IsCounted old → IsMadeBy seat k answer old new → is_unsure k answer ≡ false → IsCounted new
-made_counts seat (kind.Admit op) (Replied Done) old new paced c made sure = subst IsCounted (sym made.2.1) (step_counts old (Admit seat (total_weight (writes_of op)) (is_del op) made.0 made.1) paced c made.2.0)
+made_counts seat (kind.Admit op) (Replied Done) old new paced c made sure = subst IsCounted (sym made.led) (step_counts old (Admit seat made.written) paced c made.may)
 made_counts seat (kind.Admit op) (Replied FaultLost) old new paced c made sure = elim made [ inl same ↦ subst IsCounted (sym same) c | inr settled ↦ subst IsCounted (sym settled) (deep_counts old c) ]
 made_counts seat (kind.Admit op) (Replied FaultUnsure) old new paced c made sure = absurd (true≢false sure)
 made_counts seat (kind.Admit op) answer old new paced c made sure = subst IsCounted (sym made) c

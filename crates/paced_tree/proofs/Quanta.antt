@@ -105,7 +105,7 @@ snow_is m pass is sound some =
         enough = enough counted.2 (enough_taken m.gears.sizes.quantum pass m.lists.a m.lists.c1 sound.layered.sorted_a sound.layered.sorted_c1);
         few = quantum_few m.gears.sizes.quantum most_weight pass m.lists.a m.lists.c1 some (light_weighs m.lists.a sound.light.a) (light_weighs m.lists.c1 sound.light.c1);
         left = omega (arith, counted.2, most);
-        written = omega (arith, counted.2, pass_writes m.gears.sizes.quantum pass m.lists.a m.lists.c1 sound.layered.sorted_a sound.layered.sorted_c1 over.1);
+        written = omega (arith, counted.2, pass_writes m.gears.sizes.quantum pass m.lists.a m.lists.c1 sound.layered.sorted_a sound.layered.sorted_c1 over);
       },
       omega (arith, up, up_older, weighs),
       omega (arith, taken, up, within),

@@ -1,14 +1,19 @@
 -- What only lemmas say: no clause names these.
 use Rattle.std.specs.Prelude.{◌≡◌, ℕ, ◌+◌, ◌-◌, Bool, length, ◌++◌, Option, Some, None, if◌then◌else◌, slice_index, slice_set}
 use Rattle.blsm_model.specs.Format.{callers}
-use Rattle.pacing.specs.Pace.{Pace, Quantum}
+use Rattle.blsm_model.specs.Legal.{is_del}
+use Rattle.blsm_model.specs.Values.{key_of, weight_of}
+use Rattle.blsm_model.specs.declared.op.Op.{Op}
+use Rattle.blsm_model.specs.declared.op.Write.{Write}
+use Rattle.pacing.specs.Pace.{Pace, Quantum, Written}
 use Rattle.pacing.specs.Steps.{Move, TakeDeep, TakeSnow, turn_of, is_worker_seat}
 use Rattle.record_delta.specs.Entries.{entries_weight, settled_entries, up_to}
+use Rattle.record_delta.specs.Records.{record_of}
 use Rattle.tree_machine.specs.declared.step.Kind.{Kind}
 use Rattle.tree_machine.specs.Lists.{Lists}
 use Rattle.tree_machine.specs.Merges.{Merge, cursor_after, quantum_of}
 use Rattle.tree_machine.specs.Machine.{Machine, Seats, WorkSoFar}
-use Rattle.tree_machine.specs.Moves.{output_of}
+use Rattle.tree_machine.specs.Moves.{goes_to_a, output_of, with_write}
 use Rattle.tree_machine.specs.Steps.{Answer}
 use Rattle.paced_tree.specs.Numbers.{taken_of, HasTaken, pace_of}
 use Rattle.paced_tree.specs.Booking.{IsBookOf, quanta_of_move}
@@ -82,6 +87,15 @@ quantum_for_move _ m = no_quantum
 -- what the table that a write goes to weighs then
 abbrev pub weight_after : Bool → Lists → ℕ
 weight_after ahead new = if ahead then entries_weight new.a else entries_weight new.b
+
+-- what the pacing has of a command's write that is taken here
+abbrev pub written_in : Machine → Op → Write → Written
+written_in m op w = record {
+  weight = weight_of w;
+  is_del = is_del op;
+  ahead = goes_to_a m.merges.pass m.lists.b (key_of w);
+  after = weight_after (goes_to_a m.merges.pass m.lists.b (key_of w)) (with_write m.merges.pass (key_of w) (record_of w) m.lists);
+}
 
 abbrev pub quanta_of_turn : ℕ → Pace → ℕ
 quanta_of_turn seat pace = quanta_of_move (turn_of (is_worker_seat seat) pace)

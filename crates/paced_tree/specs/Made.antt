@@ -1,11 +1,11 @@
 -- What a step makes of the numbers, by its answer.
-use Rattle.std.specs.Prelude.{◌≡◌, ◌⊎◌, ℕ, Bool}
+use Rattle.std.specs.Prelude.{◌≡◌, ◌⊎◌, ℕ}
 use Rattle.blsm_model.specs.declared.op.Op.{Op}
 use Rattle.blsm_model.specs.declared.history.Reply.{Reply}
 use Rattle.blsm_model.specs.declared.history.Reply.TheVariants.{Done, FaultLost, FaultUnsure}
 use Rattle.blsm_model.specs.Histories.{writes_of}
 use Rattle.blsm_model.specs.Legal.{total_weight, is_del}
-use Rattle.pacing.specs.Pace.{Pace, Quantum, with_forgiven}
+use Rattle.pacing.specs.Pace.{Pace, Quantum, Written, with_forgiven}
 use Rattle.pacing.specs.Steps.{Admit, Pay, Turn, May, after, deep_settled, ready_for}
 use Rattle.tree_machine.specs.declared.step.Kind.{Kind}
 use Rattle.tree_machine.specs.declared.step.Kind.TheVariants as kind
@@ -14,10 +14,12 @@ use Rattle.tree_machine.specs.Steps as steps
 use Rattle.tree_machine.specs.Steps.{Answer, Replied, Paid, Settled}
 
 -- one admission of the pacing, of the command's weight, by the seat
-abbrev pub IsAdmission : ℕ → Op → Pace → Pace → Type 0
-IsAdmission seat op old new =
-    (ahead : Bool) × (weight_after : ℕ)
-    × (May old (Admit seat (total_weight (writes_of op)) (is_del op) ahead weight_after) × (new ≡ after old (Admit seat (total_weight (writes_of op)) (is_del op) ahead weight_after)))
+pub record IsAdmission (seat : ℕ) (op : Op) (old new : Pace) : Type 0 where
+  pub written : Written
+  pub weighs : written.weight ≡ total_weight (writes_of op)
+  pub deletes : written.is_del ≡ is_del op
+  pub may : May old (Admit seat written)
+  pub led : new ≡ after old (Admit seat written)
 
 -- A write that was lost has swapped in the deep merge at most; one that is unsure had all its moves but the write itself.
 abbrev pub IsReplied : Reply → ℕ → Op → Pace → Pace → Type 0

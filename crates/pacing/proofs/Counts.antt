@@ -6,11 +6,12 @@ use Rattle.std.proofs.lemmas.Bool.{cases_Bool, cases_lt, cond_both, and_parts, n
 use Rattle.blsm_model.specs.Sizes.{Sizes}
 use Rattle.blsm_model.specs.Geometry.{c1_mark}
 use Rattle.gear_sched.specs.declared.Plan.{Plan}
-use Rattle.pacing.specs.Pace.{Pace, Quantum, passes_begun, rotations, opened, pass_done, deep_done, with_deep_swapped, with_pass_swapped, with_rotation, with_swap_and_rotation, with_pass, with_write, with_snow, with_deep, with_forgiven}
+use Rattle.pacing.specs.Pace.{Pace, Quantum, Written, passes_begun, rotations, opened, pass_done, deep_done, with_deep_swapped, with_pass_swapped, with_rotation, with_swap_and_rotation, with_pass, with_write, with_snow, with_deep, with_forgiven}
 use Rattle.pacing.specs.Kept.{IsPaced}
 use Rattle.gear_sched.specs.Gears.{deep_is_behind}
 use Rattle.pacing.specs.Steps.{Event, Admit, Pay, Turn, MayAll, after, after_all, Lands, Move, SwapDeep, SwapPass, TakeDeep, TakeSnow, Begin, Rotate, Idle, turn_of, turn_at_rest, turned_by, may_begin, paid_by, plan_of, is_worker_seat, deep_settled, pass_settled, ready_for, May}
 use Rattle.pacing.specs.Counts.{IsCounted, AreFew}
+use Rattle.pacing.proofs.Flags.{sent}
 use Rattle.pacing.proofs.InTime.{makes_way}
 use Rattle.pacing.proofs.Admissions.{deep_settled_kept, pass_settled_kept}
 use Rattle.pacing.proofs.Turns.{deep_left, no_deep_left}
@@ -45,8 +46,9 @@ begin_or_not p h1 h2 test h3 = grind (arith, common_steps, nat_tests)
 begins_after : (p : Pace) → IsReadyCount p → passes_begun p ≤ p.writes + 1
 begins_after p c = elim c.begins [ inl few ↦ omega arith | inr fresh ↦ fresh.3 ]
 
-write : (p : Pace) (seat w : ℕ) (ahead : Bool) (weight : ℕ) → IsReadyCount p → Lands p w ahead weight → IsCounted (with_write p seat w ahead weight)
-write p seat w ahead weight h1 h2 = grind (arith, common_steps, nat_tests)
+write : (p : Pace) (ahead : Bool) (seat : ℕ) (written : Written) → IsReadyCount p → Lands p (sent written ahead)
+    → IsCounted (with_write p seat (sent written ahead))
+write p ahead seat written h1 h2 = grind (arith, common_steps, nat_tests)
 
 -- a deep merge that isn't done keeps a full run from being swapped in
 pub way : (p : Pace) → IsPaced p → p.gears.pass ≡ true → p.gears.pass_taken ≡ p.a + p.c1 → (p.gears.deep ≡ true → p.gears.deep_taken < p.c1x + p.c2) → c1_mark p.gears.sizes ≤ p.made1 → p.gears.deep ≡ false
@@ -58,14 +60,15 @@ deep_counts p h1 = grind (arith, common_steps, nat_tests)
 settle_pass : (p : Pace) → IsPaced p → IsCounted p → (p.gears.deep ≡ true → p.gears.deep_taken < p.c1x + p.c2) → IsCounted (pass_settled p)
 settle_pass p h1 h2 h3 = grind (arith, common_steps, nat_tests, cond_both, and_parts, swap_and_rotation, way, eqb-true)
 
-pub admit : (p : Pace) (seat w : ℕ) (ahead : Bool) (weight : ℕ) → IsPaced p → IsCounted p → Lands (ready_for p w) w ahead weight → IsCounted (with_write (ready_for p w) seat w ahead weight)
-admit p seat w ahead weight k c lands =
+pub admit : (p : Pace) (seat : ℕ) (written : Written) → IsPaced p → IsCounted p → Lands (ready_for p written.weight) written
+    → IsCounted (with_write (ready_for p written.weight) seat written)
+admit p seat written k c lands =
     let one = deep_settled_kept p k in
     let two = pass_settled_kept p k in
     let c_two = settle_pass (deep_settled p) one.kept (deep_counts p c) one.going in
-    write (ready_for p w) seat w ahead weight
-    (begin_or_not (pass_settled (deep_settled p)) two.kept c_two (not (pass_settled (deep_settled p)).gears.pass && ltb (pass_settled (deep_settled p)).gears.sizes.low ((pass_settled (deep_settled p)).spring + w))
-    (λ e. let parts = and_parts (not (pass_settled (deep_settled p)).gears.pass) (ltb (pass_settled (deep_settled p)).gears.sizes.low ((pass_settled (deep_settled p)).spring + w)) e in not-true _ parts.0)) lands
+    write (ready_for p written.weight) written.ahead seat written
+    (begin_or_not (pass_settled (deep_settled p)) two.kept c_two (not (pass_settled (deep_settled p)).gears.pass && ltb (pass_settled (deep_settled p)).gears.sizes.low ((pass_settled (deep_settled p)).spring + written.weight))
+    (λ e. let parts = and_parts (not (pass_settled (deep_settled p)).gears.pass) (ltb (pass_settled (deep_settled p)).gears.sizes.low ((pass_settled (deep_settled p)).spring + written.weight)) e in not-true _ parts.0)) lands
 
 same_count : (p q : Pace) → IsCounted p → q.gears.pass ≡ p.gears.pass → q.gears.deep ≡ p.gears.deep → q.writes ≡ p.writes → q.passes ≡ p.passes → q.deeps ≡ p.deeps → q.b ≡ p.b → q.spring ≡ p.spring → q.c1 ≡ p.c1 → IsCounted q
 same_count p q h1 h2 h3 h4 h5 h6 h7 h8 h9 = grind (arith, common_steps, nat_tests)
@@ -101,7 +104,7 @@ turn p is_worker seat quantum k c =
     (λ e. turn_rests p is_worker seat quantum k c e (no_deep_left p.gears.deep p.gears.pass (deep_is_behind p.gears) none e)))))
 
 pub step_counts : (pace : Pace) (event : Event) → IsPaced pace → IsCounted pace → May pace event → IsCounted (after pace event)
-step_counts pace (Admit seat w is_del ahead weight_after) k c may = admit pace seat w ahead weight_after k c may.lands
+step_counts pace (Admit seat written) k c may = admit pace seat written k c may.lands
 step_counts pace (Pay seat quantum) k c may = pay (plan_of (with_forgiven pace seat) seat) pace seat quantum c
 step_counts pace (Turn seat quantum) k c may = turn pace (is_worker_seat seat) seat quantum k c
 

@@ -4,10 +4,11 @@ use Rattle.std.proofs.lemmas.Grind.{common_steps}
 use Rattle.std.proofs.lemmas.Bool.Decides.{nat_tests}
 use Rattle.blsm_model.specs.Format.{least_weight}
 use Rattle.blsm_model.specs.Sizes.{Sizes}
-use Rattle.pacing.specs.Pace.{Pace, opened, with_pass_swapped, with_rotation, with_pass, with_write}
+use Rattle.pacing.specs.Pace.{Pace, Written, opened, with_pass_swapped, with_rotation, with_pass, with_write}
 use Rattle.pacing.specs.Kept.{IsWithin}
 use Rattle.pacing.specs.Steps.{Lands}
 use Rattle.pacing.specs.Ends.{AreEnds}
+use Rattle.pacing.proofs.Flags.{sent}
 use Rattle.pacing.proofs.Terms.{HasRoom}
 
 -- what they hang on
@@ -22,13 +23,23 @@ pub ends_begun : (p : Pace) (a b : ℕ) → IsWithin p → p.gears.pass ≡ fals
 ends_begun p a b h1 h2 h3 = grind (arith, common_steps, nat_tests)
 
 -- one entry more, and its gate
-pub ends_written : (p : Pace) (seat w : ℕ) (ahead : Bool) (weight a b : ℕ) → least_weight ≤ w → Lands p w ahead weight → AreEnds p a b
-    → AreEnds (with_write p seat w ahead weight) (cond ahead (a + (w + 1)) a) (cond ahead b (b + (w + 1)))
-ends_written p seat w ahead weight a b h1 h2 h3 = grind (arith, common_steps, nat_tests)
+ends_by : (p : Pace) (ahead : Bool) (seat : ℕ) (written : Written) (a b : ℕ) → least_weight ≤ written.weight → Lands p (sent written ahead)
+    → AreEnds p a b
+    → AreEnds (with_write p seat (sent written ahead)) (cond ahead (a + (written.weight + 1)) a) (cond ahead b (b + (written.weight + 1)))
+ends_by p ahead seat written a b h1 h2 h3 = grind (arith, common_steps, nat_tests)
+
+pub ends_written : (p : Pace) (seat : ℕ) (written : Written) (a b : ℕ) → least_weight ≤ written.weight → Lands p written → AreEnds p a b
+    → AreEnds (with_write p seat written) (cond written.ahead (a + (written.weight + 1)) a) (cond written.ahead b (b + (written.weight + 1)))
+ends_written p seat written = ends_by p written.ahead seat written
 
 -- so the entry for which there is room, and the gates round it, are within a lane's region
-pub entry_fits : (p : Pace) (w : ℕ) (ahead : Bool) (weight a b : ℕ) → IsWithin p → AreEnds p a b → HasRoom p w → Lands p w ahead weight → cond ahead a b + 1 + w + 1 ≤ 4 * p.gears.sizes.half
-entry_fits p w ahead weight a b h1 h2 h3 h4 = grind (arith, common_steps, nat_tests)
+fits_by : (p : Pace) (ahead : Bool) (written : Written) (a b : ℕ) → IsWithin p → AreEnds p a b → HasRoom p written.weight
+    → Lands p (sent written ahead) → cond ahead a b + 1 + written.weight + 1 ≤ 4 * p.gears.sizes.half
+fits_by p ahead written a b h1 h2 h3 h4 = grind (arith, common_steps, nat_tests)
+
+pub entry_fits : (p : Pace) (written : Written) (a b : ℕ) → IsWithin p → AreEnds p a b → HasRoom p written.weight → Lands p written
+    → cond written.ahead a b + 1 + written.weight + 1 ≤ 4 * p.gears.sizes.half
+entry_fits p written = fits_by p written.ahead written
 
 -- an opening's lanes are empty
 pub opened_ends : (sizes : Sizes) (c1 c2 a b : ℕ) → a ≡ 0 → b ≡ 0 → AreEnds (opened sizes c1 c2) a b

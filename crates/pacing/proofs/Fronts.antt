@@ -5,12 +5,12 @@ use Rattle.std.proofs.lemmas.Bool.Decides.{nat_tests}
 use Rattle.std.proofs.lemmas.Bool.{cond_both, and_parts, eqb-true, false≢true, not-true}
 use Rattle.gear_sched.specs.Gears.{deep_is_behind}
 use Rattle.gear_sched.specs.declared.Plan.{Plan}
-use Rattle.pacing.specs.Pace.{Pace, Quantum, pass_done, deep_done, with_deep_swapped, with_pass_swapped, with_rotation, with_swap_and_rotation, with_pass, with_write, with_forgiven, opened}
+use Rattle.pacing.specs.Pace.{Pace, Quantum, Written, pass_done, deep_done, with_deep_swapped, with_pass_swapped, with_rotation, with_swap_and_rotation, with_pass, with_write, with_forgiven, opened}
 use Rattle.pacing.specs.Kept.{IsPaced}
 use Rattle.pacing.specs.Steps.{Admit, Pay, Turn, Lands, Move, SwapDeep, SwapPass, TakeDeep, TakeSnow, turn_of, turn_at_rest, turned_by, paid_by, plan_of, is_worker_seat, deep_settled, pass_settled, ready_for, Event, May, after}
 use Rattle.pacing.specs.Fronts.{Fronts, AreFronts, FitAtEach}
 use Rattle.pacing.proofs.Admissions.{deep_settled_kept}
-use Rattle.pacing.proofs.Flags.{at}
+use Rattle.pacing.proofs.Flags.{at, sent}
 use Rattle.pacing.proofs.Runs.{step_keeps}
 use Rattle.blsm_model.specs.Sizes.{Sizes}
 use Rattle.pacing.specs.Laws.{IsOpening}
@@ -50,15 +50,17 @@ ready p w f k a =
 
 -- ---- a write
 
-write_at : (p : Pace) (pass ahead : Bool) (seat w weight : ℕ) (f : Fronts) → AreFronts (at p pass p.gears.deep) f → Lands (at p pass p.gears.deep) w ahead weight → IsPaced (with_write (at p pass p.gears.deep) seat w ahead weight)
-    → AreFronts (with_write (at p pass p.gears.deep) seat w ahead weight) (fronts_written ahead weight f)
-write_at p true true seat w weight f a lands k = grind (arith, common_steps, nat_tests)
-write_at p true false seat w weight f a lands k = grind (arith, common_steps, nat_tests)
-write_at p false true seat w weight f a lands k = grind (arith, common_steps, nat_tests)
-write_at p false false seat w weight f a lands k = absurd (false≢true lands.0)
+write_at : (p : Pace) (pass ahead : Bool) (seat : ℕ) (written : Written) (f : Fronts) → AreFronts (at p pass p.gears.deep) f
+    → Lands (at p pass p.gears.deep) (sent written ahead) → IsPaced (with_write (at p pass p.gears.deep) seat (sent written ahead))
+    → AreFronts (with_write (at p pass p.gears.deep) seat (sent written ahead)) (fronts_written (sent written ahead) f)
+write_at p true true seat written f a lands k = grind (arith, common_steps, nat_tests)
+write_at p true false seat written f a lands k = grind (arith, common_steps, nat_tests)
+write_at p false true seat written f a lands k = grind (arith, common_steps, nat_tests)
+write_at p false false seat written f a lands k = absurd (false≢true lands.0)
 
-write : (p : Pace) (seat w : ℕ) (ahead : Bool) (weight : ℕ) (f : Fronts) → AreFronts p f → Lands p w ahead weight → IsPaced (with_write p seat w ahead weight) → AreFronts (with_write p seat w ahead weight) (fronts_written ahead weight f)
-write p seat w ahead weight f a lands k = write_at p p.gears.pass ahead seat w weight f a lands k
+write : (p : Pace) (seat : ℕ) (written : Written) (f : Fronts) → AreFronts p f → Lands p written → IsPaced (with_write p seat written)
+    → AreFronts (with_write p seat written) (fronts_written written f)
+write p seat written f a lands k = write_at p p.gears.pass written.ahead seat written f a lands k
 
 -- ---- a turn
 
@@ -97,8 +99,9 @@ pub moves_fronts : (pace : Pace) (w : ℕ) (fronts : Fronts) → IsPaced pace �
 moves_fronts pace w fronts k a = (settle_deep pace fronts k a, ready pace w fronts k a)
 
 pub step_fronts : (pace : Pace) (event : Event) (fronts : Fronts) → IsPaced pace → AreFronts pace fronts → May pace event → AreFronts (after pace event) (fronts_after pace event fronts)
-step_fronts pace (Admit seat w is_del ahead weight_after) fronts k a may =
-    write (ready_for pace w) seat w ahead weight_after (fronts_ready pace fronts) (ready pace w fronts k a) may.lands (step_keeps pace (Admit seat w is_del ahead weight_after) k may)
+step_fronts pace (Admit seat written) fronts k a may =
+    write (ready_for pace written.weight) seat written (fronts_ready pace fronts) (ready pace written.weight fronts k a) may.lands
+    (step_keeps pace (Admit seat written) k may)
 step_fronts pace (Pay seat quantum) fronts k a may = pay (plan_of (with_forgiven pace seat) seat) pace seat quantum fronts a
 step_fronts pace (Turn seat quantum) fronts k a may = turn pace (is_worker_seat seat) seat quantum fronts k a
 

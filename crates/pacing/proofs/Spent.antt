@@ -146,7 +146,7 @@ pub moves_spend : (pace : Pace) (w : ℕ) → IsPaced pace → IsSpent pace → 
 moves_spend pace w k s = (settle_deep pace k s, ready pace w k s)
 
 pub step_spends : (pace : Pace) (event : Event) → IsPaced pace → IsSpent pace → May pace event → IsSpent (after pace event)
-step_spends pace (Admit seat w is_del ahead weight_after) k s may = let r = ready pace w k s in record { inputs = r.inputs; resting = r.resting; unmerged = r.unmerged }
+step_spends pace (Admit seat written) k s may = let r = ready pace written.weight k s in record { inputs = r.inputs; resting = r.resting; unmerged = r.unmerged }
 step_spends pace (Pay seat quantum) k s may = pay_as pace seat quantum (plan_of (with_forgiven pace seat) seat) refl k s may.caller may.fits
 step_spends pace (Turn seat quantum) k s may = turn pace (is_worker_seat seat) seat quantum k s may.fits
 

@@ -38,12 +38,12 @@ sizes_paid Deep p seat quantum = refl
 sizes_paid Nothing p seat quantum = refl
 
 sizes_stay : (pace : Pace) (event : Event) → (after pace event).gears.sizes ≡ pace.gears.sizes
-sizes_stay pace (Admit seat w is_del ahead weight_after) = (same_ready pace w).0
+sizes_stay pace (Admit seat written) = (same_ready pace written.weight).0
 sizes_stay pace (Pay seat quantum) = sizes_paid (plan_of (with_forgiven pace seat) seat) (with_forgiven pace seat) seat quantum
 sizes_stay pace (Turn seat quantum) = (same_turn (turn_of (is_worker_seat seat) pace) pace seat quantum).0
 
 one_takes : (pace : Pace) (event : Event) → May pace event → taken_by pace event + most_taken pace.gears.sizes * pace.work ≤ most_taken pace.gears.sizes * (after pace event).work
-one_takes pace (Admit seat w is_del ahead weight_after) may = omega (arith, ap (λ n. most_taken pace.gears.sizes * n) (admissions_are_short pace seat w weight_after is_del ahead).work)
+one_takes pace (Admit seat written) may = omega (arith, ap (λ n. most_taken pace.gears.sizes * n) (admissions_are_short pace seat written).work)
 one_takes pace (Pay seat quantum) may = plan_takes (plan_of (with_forgiven pace seat) seat) (with_forgiven pace seat) seat quantum may.fits
 one_takes pace (Turn seat quantum) may = move_takes (turn_of (is_worker_seat seat) pace) pace seat quantum may.fits
 

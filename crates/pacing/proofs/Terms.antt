@@ -2,7 +2,7 @@
 use Rattle.std.specs.Prelude.{◌≡◌, ℕ, ◌+◌, ◌≤◌, true, false, ◌-◌, ◌*◌, ◌^◌, ◌<◌, if◌then◌else◌, sum, ◌&&◌, max, Bool}
 use Rattle.blsm_model.specs.Format.{least_weight, callers, most_weight}
 use Rattle.blsm_model.specs.Geometry.{capacity, first_gear, second_gear, high_mark}
-use Rattle.pacing.specs.Pace.{Pace, charge, pass_done}
+use Rattle.pacing.specs.Pace.{Pace, Written, charge, pass_done}
 use Rattle.pacing.specs.Kept.{most_taken}
 use Rattle.pacing.specs.Steps.{Event, Admit, Pay, Turn, Move, SwapPass, turn_of, is_worker_seat, deep_settled}
 use Rattle.pacing.specs.Fronts.{Fronts}
@@ -47,10 +47,10 @@ abbrev pub fronts_turned : Fronts → Fronts
 fronts_turned fronts = record { lane_a = fronts.lane_b; lane_b = 0 }
 
 -- a write lands, and its table weighs so much then
-abbrev pub fronts_written : Bool → ℕ → Fronts → Fronts
-fronts_written ahead weight_after fronts = record {
-  lane_a = if ahead then max fronts.lane_a weight_after else fronts.lane_a;
-  lane_b = if ahead then fronts.lane_b else max fronts.lane_b weight_after;
+abbrev pub fronts_written : Written → Fronts → Fronts
+fronts_written written fronts = record {
+  lane_a = if written.ahead then max fronts.lane_a written.after else fronts.lane_a;
+  lane_b = if written.ahead then fronts.lane_b else max fronts.lane_b written.after;
 }
 
 -- what an admission's swaps make of them
@@ -62,6 +62,6 @@ fronts_by SwapPass fronts = fronts_turned fronts
 fronts_by _ fronts = fronts
 
 abbrev pub fronts_after : Pace → Event → Fronts → Fronts
-fronts_after pace (Admit seat w is_del ahead weight_after) fronts = fronts_written ahead weight_after (fronts_ready pace fronts)
+fronts_after pace (Admit seat written) fronts = fronts_written written (fronts_ready pace fronts)
 fronts_after pace (Pay seat quantum) fronts = fronts
 fronts_after pace (Turn seat quantum) fronts = fronts_by (turn_of (is_worker_seat seat) pace) fronts

@@ -15,7 +15,7 @@ pub record IsOpening (sizes : Sizes) (c1 c2 : ℕ) : Type 0 where
 
 -- A seat's debts rise at its own admission alone.
 abbrev pub RaisesDebts : ℕ → Event → Type 0
-RaisesDebts seat (Admit other w is_del ahead weight_after) = seat ≡ other
+RaisesDebts seat (Admit other written) = seat ≡ other
 RaisesDebts seat (Pay other quantum) = ⊥
 RaisesDebts seat (Turn other quantum) = ⊥
 
@@ -26,7 +26,7 @@ quanta_of_plan Deep = 1
 quanta_of_plan Nothing = 0
 
 abbrev pub quanta_of_event : ℕ → Pace → Event → ℕ
-quanta_of_event seat pace (Admit other w is_del ahead weight_after) = 0
+quanta_of_event seat pace (Admit other written) = 0
 quanta_of_event seat pace (Pay other quantum) = if other == seat then quanta_of_plan (plan_of (with_forgiven pace other) other) else 0
 quanta_of_event seat pace (Turn other quantum) = 0
 
@@ -45,7 +45,7 @@ taken_by_move TakeSnow quantum = quantum.took
 taken_by_move move quantum = 0
 
 abbrev pub taken_by : Pace → Event → ℕ
-taken_by pace (Admit seat w is_del ahead weight_after) = 0
+taken_by pace (Admit seat written) = 0
 taken_by pace (Pay seat quantum) = taken_by_plan (plan_of (with_forgiven pace seat) seat) quantum
 taken_by pace (Turn seat quantum) = taken_by_move (turn_of (is_worker_seat seat) pace) quantum
 

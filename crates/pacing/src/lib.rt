@@ -11,7 +11,7 @@ ghost use Rattle.pacing.specs.Fronts.{AreFronts, Fronts, FitAtEach};
 ghost use Rattle.pacing.specs.Laws.{IsOpening, quanta_paid, taken_in, NoneAdmitted, RaisesDebts, IsShort};
 ghost use Rattle.std.specs.Prelude.{ℕ, List, ◌≡◌, ◌+◌, ◌<◌, ◌≤◌, Bool, true, slice_index, ◌∷◌, ◌*◌};
 ghost use Rattle.blsm_model.specs.Sizes.{Sizes};
-ghost use Rattle.pacing.specs.Pace.{opened, Pace, charge, pass_done, deep_done, rotations};
+ghost use Rattle.pacing.specs.Pace.{opened, Pace, Written, charge, pass_done, deep_done, rotations};
 ghost use Rattle.pacing.specs.Kept.{IsPaced, most_taken};
 ghost use Rattle.pacing.specs.Steps.{Event, MayAll, after_all, MayAdmit, ready_for, Admit, after, May};
 ghost use Rattle.blsm_model.specs.Format.{callers, least_weight, most_weight};
@@ -29,19 +29,19 @@ pub fn merges_are_in_time()
     ensures deep { (pace : Pace) → IsPaced pace → pace.gears.pass ≡ true → pass_done pace ≡ true → c1_mark pace.gears.sizes ≤ pace.made1 → pace.gears.deep ≡ true → deep_done pace ≡ true }
     ensures free { (pace : Pace) (seat w : ℕ) (is_del : Bool) → IsPaced pace → seat < callers → first_debt pace.gears seat + second_debt pace.gears seat ≡ 0
         → least_weight ≤ w → w ≤ most_weight → charge pace + w ≤ charge_limit pace.gears.sizes is_del
-        → MayAdmit pace seat w is_del true ((ready_for pace w).a + w) }
+        → MayAdmit pace seat (record { weight = w; is_del = is_del; ahead = true; after = (ready_for pace w).a + w }) }
 {}
 
 /// A write's quanta are within its work bound, whatever other seats do, and a seat's debts rise at its own admission alone, which
 /// takes no quantum.
 pub fn work_is_bounded()
     ensures last { (pace : Pace) (seat : ℕ) → IsPaced pace → slice_index pace.quanta seat ≤ work_bound pace.gears.sizes (slice_index pace.weights seat) }
-    ensures quanta { (pace : Pace) (seat w weight_after : ℕ) (is_del ahead : Bool) (events : List Event) → IsPaced pace → MayAll pace (Admit seat w is_del ahead weight_after ∷ events) → NoneAdmitted seat events
-        → quanta_paid seat (after pace (Admit seat w is_del ahead weight_after)) events ≤ work_bound pace.gears.sizes w }
+    ensures quanta { (pace : Pace) (seat : ℕ) (written : Written) (events : List Event) → IsPaced pace → MayAll pace (Admit seat written ∷ events)
+        → NoneAdmitted seat events → quanta_paid seat (after pace (Admit seat written)) events ≤ work_bound pace.gears.sizes written.weight }
     ensures debts { (pace : Pace) (event : Event) (seat : ℕ) → IsPaced pace → May pace event → (RaisesDebts seat event → ⊥)
         → (first_debt (after pace event).gears seat ≤ first_debt pace.gears seat) × (second_debt (after pace event).gears seat ≤ second_debt pace.gears seat) }
     ensures taken { (pace : Pace) (events : List Event) → MayAll pace events → taken_in pace events + most_taken pace.gears.sizes * pace.work ≤ most_taken pace.gears.sizes * (after_all pace events).work }
-    ensures short { (pace : Pace) (seat w weight_after : ℕ) (is_del ahead : Bool) → IsShort pace (after pace (Admit seat w is_del ahead weight_after)) }
+    ensures short { (pace : Pace) (seat : ℕ) (written : Written) → IsShort pace (after pace (Admit seat written)) }
 {}
 
 /// Passes are begun no more often than writes are admitted, rotations come once for each pass and one more, and so the commits

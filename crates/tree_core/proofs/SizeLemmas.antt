@@ -40,7 +40,7 @@ same : (old new : Pace) → new ≡ old → new.gears.sizes ≡ old.gears.sizes
 same old new is = ap (λ (p : Pace). p.gears.sizes) is
 
 replied_sizes : (r : Reply) (seat : ℕ) (op : Op) (old new : Pace) → IsReplied r seat op old new → new.gears.sizes ≡ old.gears.sizes
-replied_sizes reply.Done seat op old new is = same (after old (Admit seat (total_weight (writes_of op)) (is_del op) is.0 is.1)) new is.2.1 ∙ ready_sizes old (total_weight (writes_of op))
+replied_sizes reply.Done seat op old new is = same (after old (Admit seat is.written)) new is.led ∙ ready_sizes old is.written.weight
 replied_sizes reply.FaultLost seat op old new is = ⊎_elim (λ (is : new ≡ old). same old new is) (λ (is : new ≡ deep_settled old). same (deep_settled old) new is ∙ deep_sizes old) is
 replied_sizes reply.FaultUnsure seat op old new is = same (ready_for old (total_weight (writes_of op))) new is ∙ ready_sizes old (total_weight (writes_of op))
 replied_sizes _ seat op old new is = same old new is

@@ -11,13 +11,14 @@ ghost use Rattle.tree_file.specs.Tree.{Tree, lists_of};
 ghost use Rattle.tree_log.specs.Log.{LogState, AreTables, IsAboveFloor, IsLogOf, appended, listed_in_a};
 ghost use Rattle.tree_log.specs.Log.{dropped_log, turned_log, weight_of_tables, with_entry};
 
-/// An append is the machine's write: of the tables, and of the tree whose log it is. A write whose key the pass hasn't come to goes ahead, and
-/// is then above what was dropped of table A.
+/// An append is the machine's write: of the tables, and of the tree whose log it is. A write whose key the pass hasn't come to, and table B
+/// hasn't, goes ahead, and is then above what was dropped of table A.
 pub fn entries_join()
     ensures tables { (pass : Option Merge) (key : Key) (rec : Rec) (lists : Lists) (log : LogState) → AreTables lists log
-        → IsAboveFloor (goes_to_a pass key) key log → AreTables (with_write pass key rec lists) (with_entry (goes_to_a pass key) key rec log) }
+        → IsAboveFloor (goes_to_a pass lists.b key) key log
+        → AreTables (with_write pass key rec lists) (with_entry (goes_to_a pass lists.b key) key rec log) }
     ensures tree { (pass : Option Merge) (key : Key) (rec : Rec) (tree : Tree)
-        → lists_of (appended (goes_to_a pass key) (key, rec) tree) ≡ with_write pass key rec (lists_of tree) }
+        → lists_of (appended (goes_to_a pass (lists_of tree).b key) (key, rec) tree) ≡ with_write pass key rec (lists_of tree) }
     ensures is_of { (tree : Tree) (log : LogState) → IsLogOf tree log → AreTables (lists_of tree) log }
 {}
 

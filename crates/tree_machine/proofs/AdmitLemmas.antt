@@ -78,7 +78,7 @@ use Rattle.tree_machine.specs.Steps.{
 use Rattle.tree_machine.specs.Stands.{FitsFormat, Stands}
 use Rattle.tree_machine.proofs.CarryLemmas.{carries_itself, deep_swapped_carries, ready_carries}
 use Rattle.tree_machine.proofs.LightLemmas.{light_write}
-use Rattle.tree_machine.proofs.WriteLemmas.{write_layered, value_in-write, behind_kept}
+use Rattle.tree_machine.proofs.WriteLemmas.{write_layered, value_in-write, behind_kept, sent_ahead}
 use Rattle.tree_machine.proofs.WeightLemmas.{weight_with, weight_of_record}
 use Rattle.tree_machine.proofs.ToldLemmas.{some_or_none, note_told, stop_told, none_fails}
 use Rattle.tree_machine.proofs.StandLemmas.{entry_of, IsReadyFor, note_stands, quiet_ready, running_told, unless_stands}
@@ -132,7 +132,7 @@ components_stay key rec lists b = grind (arith, common_steps, nat_tests)
 -- a write ahead of the cursor leaves what is behind it
 pass_counted : (key : Key) (rec : Rec) (lists : Lists) (running : Bool) (input memory admitted taken w : ℕ) (p : Option Merge) → AreSorted lists.a → IsPassCounted lists.a lists.c1 running input memory admitted taken p
     → IsPassCounted (with_write p key rec lists).a (with_write p key rec lists).c1 running input memory (cond running (admitted + w) admitted) taken p
-pass_counted key rec lists running input memory admitted taken w p h1 h2 = grind (arith, common_steps, nat_tests, taken, behind_kept)
+pass_counted key rec lists running input memory admitted taken w p h1 h2 = grind (arith, common_steps, nat_tests, taken, behind_kept, sent_ahead)
 
 deep_counted : (key : Key) (rec : Rec) (lists : Lists) (running : Bool) (input admitted taken w : ℕ) (b : Bool) (p : Option Merge) → IsDeepCounted lists.c1x lists.c2 running input admitted taken p
     → (let new : Lists = cond b
@@ -154,7 +154,7 @@ write_ready opening m seat op w stands fits counts still = record {
     light = light_write (key_of w) (record_of w) m.lists m.merges fits.within stands.sound.light;
     charged = charged (in_pass m) refl;
     pass = pass_counted (key_of w) (record_of w) m.lists m.gears.pass m.gears.pass_c1 m.gears.pass_memory m.gears.pass_admitted m.gears.pass_taken (weight_of w) m.merges.pass stands.sound.layered.sorted_a stands.sound.pass;
-    deep = deep_counted (key_of w) (record_of w) m.lists m.gears.deep m.gears.deep_input m.gears.deep_admitted m.gears.deep_taken (weight_of w) (goes_to_a m.merges.pass (key_of w)) m.merges.deep stands.sound.deep;
+    deep = deep_counted (key_of w) (record_of w) m.lists m.gears.deep m.gears.deep_input m.gears.deep_admitted m.gears.deep_taken (weight_of w) (goes_to_a m.merges.pass m.lists.b (key_of w)) m.merges.deep stands.sound.deep;
   };
   values = λ q. value_in-write w m.lists m.merges.pass (written opening m.book.entries) fits.counts fits.tail stands.sound.layered.pass stands.values q
       ∙ ap (λ ws. value_at (written opening m.book.entries ++ ws) q) (sym counts);
@@ -167,7 +167,7 @@ write_ready opening m seat op w stands fits counts still = record {
     new = with_write m.merges.pass (key_of w) (record_of w) m.lists
 
     heavy : memory_weight (with_write m.merges.pass (key_of w) (record_of w) m.lists) ≤ memory_weight m.lists + weight_of w
-    heavy = omega (arith, heavier (key_of w) (record_of w) m.lists (goes_to_a m.merges.pass (key_of w)) stands.sound.layered.sorted_a stands.sound.layered.sorted_b, weight_of_record w)
+    heavy = omega (arith, heavier (key_of w) (record_of w) m.lists (goes_to_a m.merges.pass m.lists.b (key_of w)) stands.sound.layered.sorted_a stands.sound.layered.sorted_b, weight_of_record w)
 
     charged : (b : Bool) → in_pass m ≡ b → memory_weight (with_write m.merges.pass (key_of w) (record_of w) m.lists)
         ≤ cond (in_pass m) (m.gears.pass_memory + cond (in_pass m) (m.gears.pass_admitted + weight_of w) m.gears.pass_admitted) (memory_weight (with_write m.merges.pass (key_of w) (record_of w) m.lists))
@@ -182,7 +182,7 @@ write_ready opening m seat op w stands fits counts still = record {
         by false was = omega arith
 
     weighs : (b : Bool) → in_pass m ≡ b → charge (with_peak (take_write seat w m)) ≤ m.counts.charge + total_weight (counted_writes m.book.entries ++ counted (entry_of seat op Done))
-    weighs b is = omega (arith, more, stands.weighs, components_stay (key_of w) (record_of w) m.lists (goes_to_a m.merges.pass (key_of w)), total)
+    weighs b is = omega (arith, more, stands.weighs, components_stay (key_of w) (record_of w) m.lists (goes_to_a m.merges.pass m.lists.b (key_of w)), total)
       where
         total : total_weight (counted_writes m.book.entries ++ counted (entry_of seat op Done)) ≡ total_weight (counted_writes m.book.entries) + weight_of w
         total = omega (arith, ap (λ ws. total_weight (counted_writes m.book.entries ++ ws)) counts, sum_by-append weight_of (counted_writes m.book.entries) (w ∷ []))

@@ -12,7 +12,7 @@ use Rattle.tree_machine.specs.Layers.{IsPassOver, IsDeepOver, AreLayered, as_bas
 use Rattle.tree_machine.specs.Machine.{Machine, pass_is_done, deep_is_done, pass_done, deep_done}
 use Rattle.tree_machine.specs.Moves.{begin_pass, rotate, swap_deep, end_pass, output_of, pass_quantum, deep_quantum, pass_quantum_of, deep_quantum_of}
 use Rattle.tree_machine.proofs.FoldLemmas.{over_any_assoc}
-use Rattle.tree_machine.proofs.MergeLemmas.{still_behind, written_as_it_is, written_as_base, groups_sorted, groups_ahead, quantum_keeps, done_folds}
+use Rattle.tree_machine.proofs.MergeLemmas.{written_as_it_is, written_as_base, groups_sorted, groups_ahead, quantum_keeps, done_folds}
 use Rattle.tree_machine.proofs.Terms.{Keeps}
 
 -- ---- what a key has in five lists
@@ -52,10 +52,8 @@ pass_quantum_keeps m seat layered = by m.merges.pass refl layered.pass
             sorted_c1 = layered.sorted_c1;
             sorted_c1x = layered.sorted_c1x;
             sorted_c2 = layered.sorted_c2;
-            pass = (
-              still_behind pass.cursor taken.groups m.lists.b rise past over.0,
-              quantum_keeps m.gears.sizes.quantum pass m.lists.a m.lists.c1 layered.sorted_a layered.sorted_c1 as_it_is taken.groups refl over.1 (written_as_it_is pass.cursor taken.groups rise past),
-            );
+            pass = quantum_keeps m.gears.sizes.quantum pass m.lists.a m.lists.c1 layered.sorted_a layered.sorted_c1 as_it_is taken.groups refl over
+                (written_as_it_is pass.cursor taken.groups rise past);
             deep = layered.deep;
           };
           values = λ q. refl;
@@ -116,14 +114,14 @@ end_pass_keeps m layered done = by m.merges.pass layered.pass done
       layered = record {
         sorted_b = refl;
         sorted_a = layered.sorted_b;
-        sorted_c1 = over.1.sorted;
+        sorted_c1 = over.sorted;
         sorted_c1x = layered.sorted_c1x;
         sorted_c2 = layered.sorted_c2;
         pass = refl;
         deep = layered.deep;
       };
       values = λ q.
-          ap (λ r. settled (five None (record_of_key q m.lists.b) r (record_of_key q m.lists.c1x) (record_of_key q m.lists.c2))) (done_folds as_it_is m.lists.a m.lists.c1 pass refl over.1 is q)
+          ap (λ r. settled (five None (record_of_key q m.lists.b) r (record_of_key q m.lists.c1x) (record_of_key q m.lists.c2))) (done_folds as_it_is m.lists.a m.lists.c1 pass refl over is q)
           ∙ ap settled (five_pass (record_of_key q m.lists.b) (record_of_key q m.lists.a) (record_of_key q m.lists.c1) (record_of_key q m.lists.c1x) (record_of_key q m.lists.c2));
     }
 

@@ -19,6 +19,7 @@ pub mod AdmitLemmas
 pub mod TurnLemmas
 pub mod StepLemmas
 pub mod PlayLemmas
+pub mod WaitLemmas
 pub mod QuantumLemmas
 pub mod LightLemmas
 pub mod NumberLemmas

@@ -2,11 +2,13 @@
 use Rattle.std.proofs.Common.{◌≡◌, ℕ, List, length, ◌+◌, ◌≤◌, cond, true, T, [], ◌∷◌, Some, None, refl, ap, sym, subst, ◌∙◌, arith}
 use Rattle.std.proofs.lemmas.Grind.{common_steps}
 use Rattle.std.proofs.lemmas.Bool.Decides.{nat_tests}
+use Rattle.std.specs.Prelude.{◌<◌, is_some}
 use Rattle.std.specs.Ordering.{is_eq, is_lt}
 use Rattle.std.specs.declared.cmp.Ordering.{Ordering}
 use Rattle.std.specs.declared.cmp.Ordering.TheVariants.{Less, Equal, Greater}
 use Rattle.std.specs.FinMap.{is_sorted, put}
 use Rattle.std.specs.FinMap.Entries.{by_order, below_all, same_entries}
+use Rattle.std.proofs.lemmas.Bool.{false≢true}
 use Rattle.std.proofs.lemmas.Cmp.{nat_list_cmp_total}
 use Rattle.std.proofs.lemmas.List.Sums.{sum_by-cons}
 use Rattle.blsm_model.specs.declared.key.Key.{Key}
@@ -27,6 +29,11 @@ use Rattle.tree_machine.proofs.MergeLemmas.{done_folds, find-settled, settled_so
 
 pub weigh_first : (e : Key × Rec) (es : Entries) → entries_weight (e ∷ es) ≡ weight e.0 e.1 + entries_weight es
 weigh_first e es = sum_by-cons (λ f. weight f.0 f.1) e es
+
+-- a list with a record of a key weighs something
+pub key_weighs : (key : Key) (es : Entries) → is_some (record_of_key key es) ≡ true → 0 < entries_weight es
+key_weighs key [] some = absurd (false≢true some)
+key_weighs key (e ∷ es) some = omega (arith, weigh_first e es)
 
 over_weight : (key : Key) (rec old : Rec) → weight key (over rec (Some old)) ≤ weight key rec + weight key old
 over_weight key rec old = omega (arith, fold_lighter key rec old)

@@ -1,16 +1,17 @@
--- What a write does to the lists: it goes to table A where its key is ahead of the pass, else to B, and its record is over
--- whatever the lists had of its key.
-use Rattle.std.proofs.Common.{◌≡◌, ◌^◌, ◌<◌, inl, inr, Bool, cond, true, false, not, T, List, [], ◌∷◌, ◌++◌, Some, None, Option, refl, ap, sym, subst, ◌∙◌}
+-- What a write does to the lists: it goes to table A where its key is ahead of the pass and not in B, else to B, and its record is
+-- over whatever the lists had of its key.
+use Rattle.std.proofs.Common.{◌≡◌, ◌^◌, ◌<◌, ◌⊎◌, inl, inr, Bool, cond, true, false, ◌&&◌, not, T, List, [], ◌∷◌, ◌++◌, Some, None, Option, refl, ap, sym, subst, ◌∙◌}
 use Rattle.std.proofs.lemmas.Grind.{common_steps}
 use Rattle.std.proofs.lemmas.Bool.Decides.{nat_tests}
 use Rattle.std.proofs.Common.{arith}
+use Rattle.std.specs.Prelude.{is_some}
 use Rattle.std.specs.Ordering.{eq_by_cmp}
 use Rattle.std.specs.Cmp.{nat_eq_equiv}
 use Rattle.std.specs.Cmp.Lexicographic.{texts_ties, lists_equiv}
 use Rattle.std.specs.FinMap.{put, is_sorted}
 use Rattle.std.specs.FinMap.Entries.{find-where_key, is_sorted-where_key, same_entries}
 use Rattle.std.proofs.lemmas.Cmp.{nat_list_cmp_total}
-use Rattle.std.proofs.lemmas.Bool.{false≢true}
+use Rattle.std.proofs.lemmas.Bool.{false≢true, and_parts}
 use Rattle.blsm_model.specs.declared.key.Key.{Key}
 use Rattle.blsm_model.specs.declared.op.Write.{Write}
 use Rattle.blsm_model.specs.Keys.{key_cmp, same_key}
@@ -23,7 +24,7 @@ use Rattle.record_delta.proofs.FoldingLemmas.{stands_put, stands_add, stands_tai
 use Rattle.record_delta.specs.Entries.{AreSorted, Entries, is_above, over_any, record_of_key, up_to, with_record}
 use Rattle.tree_machine.specs.Lists.{Lists, record_at, value_in}
 use Rattle.tree_machine.specs.Merges.{Merge}
-use Rattle.tree_machine.specs.Layers.{IsBehind, IsPassOver, AreLayered}
+use Rattle.tree_machine.specs.Layers.{IsBehind, IsPassOver, AreLayered, WaitsBehind}
 use Rattle.tree_machine.specs.Machine.{Merges}
 use Rattle.tree_machine.specs.Moves.{goes_to_a, with_write}
 use Rattle.tree_machine.proofs.FoldLemmas.{by_test, over_any_assoc, find-with_record, sorted_with_record, tied, equal_of}
@@ -72,8 +73,48 @@ to_a key rec lists = record { b = lists.b; a = with_record key rec lists.a; c1 =
 abbrev to_b : Key → Rec → Lists → Lists
 to_b key rec lists = record { b = with_record key rec lists.b; a = lists.a; c1 = lists.c1; c1x = lists.c1x; c2 = lists.c2 }
 
+-- where it goes to table A the pass hasn't come to its key, and B hasn't it
+pub sent_ahead : (pass : Merge) (b : Entries) (key : Key) → goes_to_a (Some pass) b key ≡ true → (is_above pass.cursor key ≡ true) × (record_of_key key b ≡ None)
+sent_ahead pass b key goes =
+    let parts = and_parts (is_above pass.cursor key) (not (is_some (record_of_key key b))) goes in
+    (parts.0, none (record_of_key key b) parts.1)
+  where
+    none : (r : Option Rec) → not (is_some r) ≡ true → r ≡ None
+    none None is = refl
+    none (Some rec) is = absurd (false≢true is)
+
+-- where it goes to table B the pass has a cursor, or B has its key
+pub sent_behind : (cursor : Option Key) (key : Key) (b : Entries) → (is_above cursor key && not (is_some (record_of_key key b))) ≡ false
+    → (is_some cursor ≡ true) ⊎ (is_some (record_of_key key b) ≡ true)
+sent_behind None key b is = inr (has (is_some (record_of_key key b)) is)
+  where
+    has : (s : Bool) → not s ≡ false → s ≡ true
+    has true is = refl
+    has false is = sym is
+sent_behind (Some low) key b is = inl refl
+
 pass_over_write : (key : Key) (rec : Rec) (lists : Lists) (pass : Option Merge) → IsPassOver lists pass → IsPassOver (with_write pass key rec lists) pass
-pass_over_write key rec lists pass h1 = grind (arith, common_steps, nat_tests, by_test, kept_behind, behind_put)
+pass_over_write key rec lists None over = over
+pass_over_write key rec lists (Some pass) over = by (goes_to_a (Some pass) lists.b key) refl
+  where
+    folds : is_above pass.cursor key ≡ true → (q : Key) (b : Bool) → is_above pass.cursor q ≡ b
+        → record_of_key q pass.output ≡ cond (is_above pass.cursor q) None (over_any (record_of_key q (with_record key rec lists.a)) (record_of_key q lists.c1))
+    folds past q true ahead =
+        over.folds q
+        ∙ ap (λ b. cond b None (over_any (record_of_key q lists.a) (record_of_key q lists.c1))) ahead
+        ∙ sym (ap (λ b. cond b None (over_any (record_of_key q (with_record key rec lists.a)) (record_of_key q lists.c1))) ahead)
+    folds past q false here =
+        over.folds q
+        ∙ ap (λ r. cond (is_above pass.cursor q) None (over_any r (record_of_key q lists.c1))) (sym (kept_behind pass.cursor key rec lists.a q past here))
+
+    by : (b : Bool) → goes_to_a (Some pass) lists.b key ≡ b → IsPassOver (cond b (to_a key rec lists) (to_b key rec lists)) (Some pass)
+    by true goes =
+        record {
+          folds = λ q. folds (sent_ahead pass lists.b key goes).0 q (is_above pass.cursor q) refl;
+          sorted = over.sorted;
+          behind = over.behind;
+        }
+    by false goes = record { folds = over.folds; sorted = over.sorted; behind = over.behind }
 
 -- either way the layers stay in order, and the record stands over all that the lists had of its key
 pub write_layered : (key : Key) (rec : Rec) (lists : Lists) (merges : Merges) → AreLayered lists merges → AreLayered (with_write merges.pass key rec lists) merges
@@ -85,19 +126,19 @@ write_layered key rec lists merges layered = grind (arith, common_steps, nat_tes
 abbrev written_at : Key → Rec → Key → Option Rec
 written_at key rec q = cond (eq_by_cmp key_cmp q key) (Some rec) None
 
-none_in_b : (key : Key) (lists : Lists) (pass : Option Merge) → IsPassOver lists pass → goes_to_a pass key ≡ true → record_of_key key lists.b ≡ None
+none_in_b : (key : Key) (lists : Lists) (pass : Option Merge) → IsPassOver lists pass → goes_to_a pass lists.b key ≡ true → record_of_key key lists.b ≡ None
 none_in_b key lists None over goes = ap (record_of_key key) over
-none_in_b key lists (Some pass) over goes = none_behind pass.cursor key lists.b over.0 goes
+none_in_b key lists (Some pass) over goes = (sent_ahead pass lists.b key goes).1
 
 -- whichever table it goes to, the record is over what the lists had
 pub record_at-write : (key : Key) (rec : Rec) (lists : Lists) (pass : Option Merge) → IsPassOver lists pass → (q : Key)
     → record_at (with_write pass key rec lists) q ≡ over_any (written_at key rec q) (record_at lists q)
-record_at-write key rec lists pass over q = by (goes_to_a pass key) refl
+record_at-write key rec lists pass over q = by (goes_to_a pass lists.b key) refl
   where
     rest : Option Rec
     rest = over_any (record_of_key q lists.c1) (over_any (record_of_key q lists.c1x) (record_of_key q lists.c2))
 
-    by : (b : Bool) → goes_to_a pass key ≡ b → record_at (cond b (to_a key rec lists) (to_b key rec lists)) q ≡ over_any (written_at key rec q) (record_at lists q)
+    by : (b : Bool) → goes_to_a pass lists.b key ≡ b → record_at (cond b (to_a key rec lists) (to_b key rec lists)) q ≡ over_any (written_at key rec q) (record_at lists q)
     by true goes =
         ap (λ r. over_any (record_of_key q lists.b) (over_any r (over_any (record_of_key q lists.c1) (over_any (record_of_key q lists.c1x) (record_of_key q lists.c2))))) (find-with_record key rec lists.a q)
         ∙ elim (by_test (eq_by_cmp key_cmp q key)) [
@@ -132,8 +173,35 @@ value_in-write write lists pass writes fits tail over stood q = grind (arith, co
 
 -- ---- where a write goes
 
-pub goes_ahead : (pass : Merge) (key : Key) (rec : Rec) (lists : Lists) → is_above pass.cursor key ≡ true → (with_write (Some pass) key rec lists).b ≡ lists.b
-goes_ahead pass key rec lists past = ap (λ b. (cond b (to_a key rec lists) (to_b key rec lists)).b) past
+pub goes_ahead : (pass : Merge) (key : Key) (rec : Rec) (lists : Lists) → is_above pass.cursor key ≡ true → record_of_key key lists.b ≡ None
+    → (with_write (Some pass) key rec lists).b ≡ lists.b
+goes_ahead pass key rec lists past none =
+    ap (λ b. (cond (b && not (is_some (record_of_key key lists.b))) (to_a key rec lists) (to_b key rec lists)).b) past
+    ∙ ap (λ r. (cond (not (is_some r)) (to_a key rec lists) (to_b key rec lists)).b) none
 
-pub goes_behind : (pass : Merge) (key : Key) (rec : Rec) (lists : Lists) → is_above pass.cursor key ≡ false → (with_write (Some pass) key rec lists).a ≡ lists.a
-goes_behind pass key rec lists behind = ap (λ b. (cond b (to_a key rec lists) (to_b key rec lists)).a) behind
+pub goes_behind : (pass : Merge) (key : Key) (rec : Rec) (lists : Lists) → (is_above pass.cursor key ≡ false) ⊎ (is_some (record_of_key key lists.b) ≡ true)
+    → (with_write (Some pass) key rec lists).a ≡ lists.a
+goes_behind pass key rec lists (inl behind) =
+    ap (λ b. (cond (b && not (is_some (record_of_key key lists.b))) (to_a key rec lists) (to_b key rec lists)).a) behind
+goes_behind pass key rec lists (inr waits) = by (is_above pass.cursor key)
+  where
+    by : (b : Bool) → (cond (b && not (is_some (record_of_key key lists.b))) (to_a key rec lists) (to_b key rec lists)).a ≡ lists.a
+    by true = ap (λ c. (cond (not c) (to_a key rec lists) (to_b key rec lists)).a) waits
+    by false = refl
+
+-- where none of B's keys is ahead of the pass, it goes by the cursor alone
+pub goes_by_cursor : (pass : Merge) (b : Entries) (key : Key) → IsBehind pass.cursor b → goes_to_a (Some pass) b key ≡ is_above pass.cursor key
+goes_by_cursor pass b key behind = by (is_above pass.cursor key) refl
+  where
+    by : (c : Bool) → is_above pass.cursor key ≡ c → (c && not (is_some (record_of_key key b))) ≡ c
+    by true past = ap (λ r. not (is_some r)) (none_behind pass.cursor key b behind past)
+    by false here = refl
+
+-- and then none of B's keys is ahead of it afterwards
+pub write_waits : (key : Key) (rec : Rec) (lists : Lists) (pass : Option Merge) → WaitsBehind lists pass → WaitsBehind (with_write pass key rec lists) pass
+write_waits key rec lists None waits = waits
+write_waits key rec lists (Some pass) waits = by (goes_to_a (Some pass) lists.b key) (goes_by_cursor pass lists.b key waits)
+  where
+    by : (b : Bool) → b ≡ is_above pass.cursor key → WaitsBehind (cond b (to_a key rec lists) (to_b key rec lists)) (Some pass)
+    by true past = waits
+    by false here = behind_put pass.cursor key (rec_over rec (record_of_key key lists.b)) lists.b (sym here) waits

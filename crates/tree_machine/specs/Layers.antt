@@ -29,10 +29,15 @@ pub record IsMergeOf (kept : Option Rec → Option Rec) (newer older : Entries) 
   pub sorted : AreSorted merge.output
   pub behind : IsBehind merge.cursor merge.output
 
--- While no pass runs table B is empty. While one runs B's keys are behind its cursor.
+-- while no pass runs table B is empty
 abbrev pub IsPassOver : Lists → Option Merge → Type 0
 IsPassOver lists None = lists.b ≡ []
-IsPassOver lists (Some pass) = IsBehind pass.cursor lists.b × IsMergeOf as_it_is lists.a lists.c1 pass
+IsPassOver lists (Some pass) = IsMergeOf as_it_is lists.a lists.c1 pass
+
+-- Table B is empty where no pass runs, and none of its keys is ahead of one that does.
+abbrev pub WaitsBehind : Lists → Option Merge → Type 0
+WaitsBehind lists None = lists.b ≡ []
+WaitsBehind lists (Some pass) = IsBehind pass.cursor lists.b
 
 -- a deep merge runs where C1' isn't empty
 abbrev pub IsDeepOver : Lists → Option Merge → Type 0

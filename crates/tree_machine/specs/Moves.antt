@@ -1,5 +1,5 @@
 -- What a step is made of: a merge begins, takes a quantum, or is swapped in; C1 is rotated; a write is taken.
-use Rattle.std.specs.Prelude.{ℕ, ◌+◌, Bool, true, [], max, Option, Some, None, slice_index, slice_set, if◌then◌else◌, nat_le}
+use Rattle.std.specs.Prelude.{ℕ, ◌+◌, Bool, true, ◌&&◌, not, [], max, Option, Some, None, is_some, slice_index, slice_set, if◌then◌else◌, nat_le}
 use Rattle.blsm_model.specs.declared.key.Key.{Key}
 use Rattle.blsm_model.specs.declared.op.Op.{Op}
 use Rattle.blsm_model.specs.declared.history.Reply.{Reply}
@@ -10,7 +10,7 @@ use Rattle.blsm_model.specs.Values.{key_of, weight_of}
 use Rattle.blsm_model.specs.declared.op.Write.{Write}
 use Rattle.record_delta.specs.declared.record.Rec.{Rec}
 use Rattle.record_delta.specs.Records.{record_of}
-use Rattle.record_delta.specs.Entries.{Entries, entries_weight, is_above, settled_entries, with_record}
+use Rattle.record_delta.specs.Entries.{Entries, entries_weight, is_above, record_of_key, settled_entries, with_record}
 use Rattle.tree_machine.specs.Lists.{Lists, memory_weight}
 use Rattle.tree_machine.specs.Merges.{Merge, Taken, begun, quantum_of, moved_on}
 use Rattle.gear_sched.specs.Gears.{passing, pass_ended, rotated, deep_ended, entered, took_first, took_second}
@@ -114,14 +114,14 @@ deep_quantum seat m = deep_quantum_of m.merges.deep seat m
 
 -- ---- writes
 
--- a write of this key goes to table A: no pass runs, or its cursor hasn't come to the key
-abbrev pub goes_to_a : Option Merge → Key → Bool
-goes_to_a None key = true
-goes_to_a (Some pass) key = is_above pass.cursor key
+-- A write of this key goes to table A: no pass runs; or its cursor hasn't come to the key, and table B hasn't the key.
+abbrev pub goes_to_a : Option Merge → Entries → Key → Bool
+goes_to_a None b key = true
+goes_to_a (Some pass) b key = is_above pass.cursor key && not (is_some (record_of_key key b))
 
 abbrev pub with_write : Option Merge → Key → Rec → Lists → Lists
 with_write pass key rec lists =
-    if goes_to_a pass key
+    if goes_to_a pass lists.b key
     then record { b = lists.b; a = with_record key rec lists.a; c1 = lists.c1; c1x = lists.c1x; c2 = lists.c2 }
     else record { b = with_record key rec lists.b; a = lists.a; c1 = lists.c1; c1x = lists.c1x; c2 = lists.c2 }
 
