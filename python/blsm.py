@@ -458,8 +458,27 @@ class Entry:
 
 
 @dataclass(frozen=True)
+class Ship:
+    """A write that was done, for a second store to take: its number, and the command, a put where a new or a swap was done."""
+
+    number: int
+    command: Command
+
+    def line(self) -> str:
+        return f"ship {self.number} {self.command.line()}"
+
+
+def ships_of(first: int, entries: Iterable[Entry]) -> Iterator[Ship]:
+    """The ships of a history, of which the first has this number."""
+    writes = (entry.command for entry in entries if entry.reply == Done() and isinstance(entry.command, (Put, Add, Tail, New, Swap, Del)))
+    for number, write in enumerate(writes, first):
+        yield Ship(number, Put(write.key, write.count, write.text) if isinstance(write, (New, Swap)) else write)
+
+
+@dataclass(frozen=True)
 class Run:
-    """What a run did, in the order in which it took effect. Charge and peak in bytes; `text` is the history as it was printed."""
+    """What a run did, in the order in which it took effect. Charge and peak in bytes; `text` is what was printed: the history, and its ships where
+    these were asked for."""
 
     charge: int
     entries: tuple[Entry, ...]
@@ -471,6 +490,7 @@ class Run:
     deep_merges: int
     script: str
     text: str
+    ships: tuple[Ship, ...] = ()
 
     def replies(self, caller: int) -> list[Reply]:
         return [entry.reply for entry in self.entries if entry.caller == caller]
@@ -481,9 +501,10 @@ FIRST = re.compile(r"open charge (\d+)")
 LAST = re.compile(r"end c0 (\d+) of (\d+) callers (\d+) workers (\d+) swaps (\d+) (\d+)")
 
 
-def run_of(batch: Mapping[int, Sequence[Command]], script: str, text: str) -> Run:
-    """Reads a history; each entry gets the command object that its caller gave."""
-    lines = text.splitlines()
+def run_of(batch: Mapping[int, Sequence[Command]], script: str, text: str, ships: int = 0) -> Run:
+    """Reads a history, and the ships behind it, of which the first has this number; each entry gets the command object that its caller gave."""
+    printed = text.splitlines()
+    lines = [line for line in printed if not line.startswith("ship ")]
     first, last = FIRST.fullmatch(lines[0]) if lines else None, LAST.fullmatch(lines[-1]) if lines else None
     if not first or not last or not text.endswith("\n"):
         raise Unreadable("the history is cut off")
@@ -497,7 +518,10 @@ def run_of(batch: Mapping[int, Sequence[Command]], script: str, text: str) -> Ru
         entries.append(Entry(int(found[2]), command, reply_of(found[4]), int(found[5])))
     if len(entries) != sum(map(len, batch.values())):
         raise Unreadable("the history lacks commands")
-    return Run(int(first[1]), tuple(entries), *(int(last[i]) for i in range(1, 7)), script, text)
+    shipped = tuple(ships_of(ships, entries)) if ships else ()
+    if printed != [*lines, *(ship.line() for ship in shipped)]:
+        raise Unreadable("the ships aren't the history's writes")
+    return Run(int(first[1]), tuple(entries), *(int(last[i]) for i in range(1, 7)), script, text, shipped)
 
 
 @dataclass(frozen=True)
@@ -565,7 +589,7 @@ class Store:
         store.check()
         return store
 
-    def _call(self, command: str, options: Sequence[str] = (), script: str = "", batch: Mapping[int, Sequence[Command]] | None = None) -> str:
+    def _call(self, command: str, options: Sequence[str] = (), script: str = "", batch: Mapping[int, Sequence[Command]] | None = None, ships: int = 0) -> str:
         ended = subprocess.run([*self.program, command, *options, "--", self.path], input=script.encode("ascii"), stdout=subprocess.PIPE, check=False)
         try:
             text = ended.stdout.decode("ascii")
@@ -573,7 +597,7 @@ class Store:
             raise Unreadable("a text of other bytes than ASCII") from None
         if ended.returncode == 0:
             return text
-        run = run_of(batch or {}, script, text) if text.startswith("open charge ") and ended.returncode in (6, 7) else None
+        run = run_of(batch or {}, script, text, ships) if text.startswith("open charge ") and ended.returncode in (6, 7) else None
         raise refusal_of(ended.returncode, "the history tells it" if run else text.strip(), run)
 
     def check(self) -> Report:
@@ -593,15 +617,18 @@ class Store:
             raise Unreadable(f"{text!r} tells no settling")
         return Settled(*map(int, found.groups()))
 
-    def run(self, batch: Mapping[int, Iterable[Command]], workers: int = 0, turns: int = 1000) -> Run:
+    def run(self, batch: Mapping[int, Iterable[Command]], workers: int = 0, turns: int = 1000, ships: int = 0) -> Run:
         """Does the commands of these callers, each caller's in order, beside so many merge workers with so many turns each. The limits of a script hold. Where a
-        call of the file failed, or a page was found damaged, the exception's `run` has what was done."""
+        call of the file failed, or a page was found damaged, the exception's `run` has what was done. With a number above 0 its `ships` are the writes
+        that were done, the first of that number."""
         wanted = {check_number(caller, CALLERS, 1): list(commands) for caller, commands in batch.items()}
         # line by line, so that one thread alone would take them in turns
         most = max(map(len, wanted.values()), default=0)
         script = "".join(f"{caller} {commands[i].line()}\n" for i in range(most) for caller, commands in wanted.items() if i < len(commands))
         options = ["--workers", str(check_number(workers, 8)), "--turns", str(check_number(turns, 1_000_000))]
-        return run_of(wanted, script, self._call("run", options, script, wanted))
+        if check_number(ships, 1 << 63):
+            options += ["--ships", str(ships)]
+        return run_of(wanted, script, self._call("run", options, script, wanted, ships), ships)
 
     def live(self, scans: int = 1) -> Live:
         """This store, kept open: commands are answered one by one, beside so many open scans (15 at most). The file is locked until it is closed."""

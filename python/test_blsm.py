@@ -79,6 +79,22 @@ class Batches(WithStandIn):
         self.assertEqual(run.replies(1), [Done(), Kept(Value(1, "hi")), Done(), Kept(Value(2)), Kept(None), Full(9), blsm.Failed()])
         self.assertEqual(self.asked().splitlines()[1:], [f"1 {entry.split(' => ')[0]}" for entry in entries])
 
+    def test_ships_are_the_writes_that_were_done(self) -> None:
+        entries = ("put a 1 hi => ok", "get a => is 1 hi", "new b 2 - => ok", "new b 3 - => kept 2 -", "swap a 1 7 z => ok", "drop => ok", "del b => ok", "add c 1 => full 9")
+        printed = "open charge 0\n" + "".join(f"{place} 1 {entry} q0\n" for place, entry in enumerate(entries, 1))
+        end = "end c0 16 of 65536 callers 0 workers 0 swaps 0 0\n"
+        ships = "ship 4 put a 1 hi\nship 5 put b 2 -\nship 6 put a 7 z\nship 7 del b\n"
+        asked = {1: [Put("a", 1, "hi"), Get("a"), New("b", 2), New("b", 3), Swap("a", 1, 7, "z"), Drop(), Del("b"), Add("c", 1)]}
+        self.says(printed + end + ships, *(printed + end + text for text in (ships[:-11], ships.replace("6 put", "7 put"), ships + "ship 8 del a\n", "", ships.replace("put b", "new b"))))
+        run = self.store.run(asked, ships=4)
+        self.assertEqual("".join(f"{ship.line()}\n" for ship in run.ships), ships)
+        self.assertEqual(self.asked().splitlines()[0], "run --workers 0 --turns 1000 --ships 4 -- -file")
+        for _ in range(5):
+            with self.assertRaises(blsm.Unreadable):
+                self.store.run(asked, ships=4)
+        with self.assertRaises(ValueError):
+            self.store.run(asked, ships=(1 << 63) + 1)
+
     def test_a_condition_is_answered(self) -> None:
         for reply, is_put in (("ok", True), ("kept 1 -", False)):
             with self.subTest(reply):

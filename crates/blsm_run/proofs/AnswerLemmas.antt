@@ -113,11 +113,11 @@ module _ {D : Type 0} (state : D → DiskState) (honest_tells : (d : D) → IsTr
     completes (refused refusal.Usage) status lines cause is = absurd (cause.0 granted.asked.0)
     completes (refused refusal.SourceFault) status lines cause is = absurd (quiet_is_no_rise granted.source_quiet cause.0.reads.0.0)
     completes (refused refusal.TooBig) status lines (a, still) is =
-        let script = (can (run a.name a.workers a.turns) a.asked).1 in
+        let script = (can (run a.name a.options) a.asked).1 in
         let long = told o.source.left script.input (λ input. most_script < length input) script.told a.reads.0 in
         absurd (omega (arith, long, script.short))
     completes (refused (refusal.BadLine n)) status lines (a, still) is =
-        let script = (can (run a.name a.workers a.turns) a.asked).1 in
+        let script = (can (run a.name a.options) a.asked).1 in
         let bad = told o.source.left script.input (λ input. (length input ≤ most_script) × (o.source_after.left ≡ Some []) × IsBadLine input n) script.told a.reads.whole in
         absurd (script_not_bad script.input script.lines n script.script bad.2)
     completes (refused refusal.DiskFault) status lines (inl was) is = absurd (quiet_is_no_rise granted.shelf_quiet was.makes.rose.0)
@@ -127,7 +127,7 @@ module _ {D : Type 0} (state : D → DiskState) (honest_tells : (d : D) → IsTr
         (quiet_is_no_rise granted.shelf_quiet was.checks.rose.0)
     completes (refused refusal.DiskFault) status lines (inr (inr (inr (inr was)))) is = absurd
         (quiet_is_no_rise granted.shelf_quiet was.settles.rose.0)
-    completes (refused refusal.NotAStore) status lines (inl (ls, a, why)) is = absurd (refused_opening unreadable.NotAStore tt a.name (can (run a.name a.workers a.turns) a.asked).0 why)
+    completes (refused refusal.NotAStore) status lines (inl (ls, a, why)) is = absurd (refused_opening unreadable.NotAStore tt a.name (can (run a.name a.options) a.asked).0 why)
     completes (refused refusal.NotAStore) status lines (inr (inl was)) is = absurd (refused_opening unreadable.NotAStore tt was.asks.name (can (serve was.asks.name was.asks.callers) was.asks.asked).0 was.refuses)
     completes (refused refusal.NotAStore) status lines (inr (inr (inl was))) is = absurd
         (refused_check unreadable.NotAStore tt was.name was.asked was.checks)
@@ -137,13 +137,13 @@ module _ {D : Type 0} (state : D → DiskState) (honest_tells : (d : D) → IsTr
         let s = said was.name (λ file. file ≡ []) (WasNotEmpty n) (can (make was.name was.sizes) was.asked) was.makes.disk in
         let none : length (state s.0).bytes ≡ 0 = ap (λ (l : List ℕ). length l) s.4 in
         absurd (omega (arith, s.5.some, s.5.length_is s.3, none))
-    completes (refused (refusal.Damaged place)) status lines (inl (ls, a, why)) is = absurd (refused_opening (unreadable.Damaged place) tt a.name (can (run a.name a.workers a.turns) a.asked).0 why)
+    completes (refused (refusal.Damaged place)) status lines (inl (ls, a, why)) is = absurd (refused_opening (unreadable.Damaged place) tt a.name (can (run a.name a.options) a.asked).0 why)
     completes (refused (refusal.Damaged place)) status lines (inr (inl was)) is = absurd (refused_opening (unreadable.Damaged place) tt was.asks.name (can (serve was.asks.name was.asks.callers) was.asks.asked).0 was.refuses)
     completes (refused (refusal.Damaged place)) status lines (inr (inr (inl was))) is = absurd
         (refused_check (unreadable.Damaged place) tt was.name was.asked was.checks)
     completes (refused (refusal.Damaged place)) status lines (inr (inr (inr was))) is = absurd
         (refused_opening (unreadable.Damaged place) tt was.name (can (settle was.name) was.asked) was.settles)
-    completes (refused (refusal.Worn version)) status lines (inl (ls, a, why)) is = absurd (refused_opening (unreadable.Worn version) tt a.name (can (run a.name a.workers a.turns) a.asked).0 why)
+    completes (refused (refusal.Worn version)) status lines (inl (ls, a, why)) is = absurd (refused_opening (unreadable.Worn version) tt a.name (can (run a.name a.options) a.asked).0 why)
     completes (refused (refusal.Worn version)) status lines (inr (inl was)) is = absurd (refused_opening (unreadable.Worn version) tt was.asks.name (can (serve was.asks.name was.asks.callers) was.asks.asked).0 was.refuses)
     completes (refused (refusal.Worn version)) status lines (inr (inr (inl was))) is = absurd
         (refused_check (unreadable.Worn version) tt was.name was.asked was.checks)
@@ -151,9 +151,9 @@ module _ {D : Type 0} (state : D → DiskState) (honest_tells : (d : D) → IsTr
         (refused_opening (unreadable.Worn version) tt was.name (can (settle was.name) was.asked) was.settles)
     completes (refused refusal.NoMemory) status lines cause is = inr is
     completes (made length) status lines cause is = inl is
-    completes (ran history end) status lines (ls, a, runs) is =
-        let well = is_well a.name ls a.workers a.turns (λ room. IsRoomOf room ls) history end (can (run a.name a.workers a.turns) a.asked).0 runs in
-        inl (is ∙ ap (λ (e : Ending). status_of (ran history e)) well)
+    completes (ran first history end) status lines (ls, a, same, runs) is =
+        let well = is_well a.name ls a.options.workers a.options.turns (λ room. IsRoomOf room ls) history end (can (run a.name a.options) a.asked).0 runs in
+        inl (is ∙ ap (λ (e : Ending). status_of (ran first history e)) well)
     completes (served history end closing.SinkFault) status (cut, (no_fall, risen, once)) (a, s) is = absurd (quiet_is_no_rise granted.sink_quiet risen)
     completes (served history end closing.SourceFault) status lines (a, s) is = absurd (quiet_is_no_rise granted.source_quiet s.takes.counts.1)
     completes (served history end (closing.BadLine n)) status lines (a, s) is =

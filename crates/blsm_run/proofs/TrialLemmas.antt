@@ -22,7 +22,7 @@ module _ {D : Type 0} (state : D → DiskState) (o : Outside D) (seed count : �
   not_made_so was = let same : Some (make was.name was.sizes) ≡ Some (trial seed count) = sym was.asked.1 ∙ asked.1 in cc
 
   not_run : {script : Result (List Line) Refusal} → AsksToRun o script → ⊥
-  not_run was = let same : Some (run was.name was.workers was.turns) ≡ Some (trial seed count) = sym was.asked.1 ∙ asked.1 in cc
+  not_run was = let same : Some (run was.name was.options) ≡ Some (trial seed count) = sym was.asked.1 ∙ asked.1 in cc
 
   not_served : AsksToServe o → ⊥
   not_served was = let same : Some (serve was.name was.callers) ≡ Some (trial seed count) = sym was.asked.1 ∙ asked.1 in cc
@@ -56,7 +56,7 @@ module _ {D : Type 0} (state : D → DiskState) (o : Outside D) (seed count : �
   ends_trial sink sink_after (refused (refusal.Worn version)) status cause tells = absurd (not_stopped (unreadable.Worn version) cause)
   ends_trial sink sink_after (refused refusal.NoMemory) status cause tells = elim (by_tells sink sink_after (refused refusal.NoMemory) status tells) [ inl is ↦ inr (inr is) | inr is ↦ inr (inl is) ]
   ends_trial sink sink_after (made n) status cause tells = absurd (not_made_so cause)
-  ends_trial sink sink_after (ran history end) status cause tells = absurd (not_run cause.1)
+  ends_trial sink sink_after (ran first history end) status cause tells = absurd (not_run cause.1)
   ends_trial sink sink_after (served history end closing) status cause tells = absurd (not_served cause.0)
   ends_trial sink sink_after (checked report) status cause tells = absurd (not_checked cause)
   ends_trial sink sink_after (settled counts) status cause tells = absurd (not_settled cause)

@@ -49,7 +49,7 @@ IsOpenable file = (sizes : Sizes) × (opening : List (Key × Value)) × IsStoreW
 -- what is asked for can be done
 abbrev pub CanBeDone : {D : Type 0} → (D → DiskState) → Outside D → Asked → Type 0
 CanBeDone state o (make name sizes) = HasDisk state o name (λ file. file ≡ [])
-CanBeDone state o (run name workers turns) = HasDisk state o name IsOpenable × TellsScript o
+CanBeDone state o (run name options) = HasDisk state o name IsOpenable × TellsScript o
 CanBeDone state o (check name) = HasDisk state o name IsOpenable
 CanBeDone state o (trial seed count) = ⊤
 CanBeDone state o (serve name callers) = HasDisk state o name IsOpenable × TellsSession callers o

@@ -4,6 +4,7 @@ use Rattle.disk_trait.specs.Disk.{DiskState}
 use Rattle.disk_mem.specs.Faultless.{Faultless}
 use Rattle.blsm_model.specs.declared.history.Line.{Line}
 use Rattle.blsm_model.specs.Sizes.{Sizes}
+use Rattle.program_words.specs.declared.request.Options.{Options}
 use Rattle.program_words.specs.Words.{Asked, AreAccepted, asked_by, make, run, check, trial, serve, settle}
 use Rattle.core_moves.specs.declared.held.Settled.{Settled}
 use Rattle.tree_reading.specs.declared.found.Unreadable.{Unreadable}
@@ -45,12 +46,11 @@ pub record HasSettled {D : Type 0} (state : D → DiskState) (o : Outside D) (re
   pub unread : o.source_after ≡ o.source
   pub settles : SettlesOnShelf state name o.shelf o.shelf_after result
 
--- A script was to be run over the store on the disk of this name, beside so many merge workers with so many turns each, and reading the source answered this.
+-- A script was to be run over the store on the disk of this name as the options say, and reading the source answered this.
 pub record AsksToRun {D : Type 0} (o : Outside D) (script : Result (List Line) Refusal) : Type 0 where
   pub name : List ℕ
-  pub workers : ℕ
-  pub turns : ℕ
-  pub asked : WasAsked o (run name workers turns)
+  pub options : Options
+  pub asked : WasAsked o (run name options)
   pub reads : ReadsScript o.source o.source_after script
 
 -- A session over the store on the disk of this name was to be served, with room for so many callers.
@@ -89,7 +89,7 @@ Cause state o (refused (refusal.Damaged place)) = WasStopped state o (unreadable
 Cause state o (refused (refusal.Worn version)) = WasStopped state o (unreadable.Worn version)
 Cause state o (refused refusal.NoMemory) = ((o.source_after ≡ o.source) × (o.shelf_after ≡ o.shelf)) ⊎ AsksInVain o refusal.NoMemory ⊎ WasStopped state o unreadable.NoMemory
 Cause state o (made length) = HasMade state o (Ok length)
-Cause state o (ran history end) = (lines : List Line) × (a : AsksToRun o (Ok lines)) × IsRunOnShelf state a.name lines a.workers a.turns (λ room. IsRoomOf room lines) history end o.shelf o.shelf_after
+Cause state o (ran first history end) = (lines : List Line) × (a : AsksToRun o (Ok lines)) × (first ≡ a.options.ships) × IsRunOnShelf state a.name lines a.options.workers a.options.turns (λ room. IsRoomOf room lines) history end o.shelf o.shelf_after
 Cause state o (served history end closing) = (a : AsksToServe o) × IsServedOnShelf state a.name a.callers history end closing o.shelf o.shelf_after o.source o.source_after
 Cause state o (checked report) = HasChecked state o (Ok report)
 Cause state o (settled counts) = HasSettled state o (Ok counts)

@@ -1,5 +1,5 @@
 -- How a call ends, and what it writes then.
-use Rattle.std.specs.Prelude.{◌≡◌, ◌⊎◌, ⊤, ℕ, List, [], ◌∷◌, ◌++◌, Option, Some, IfSome, codes, decimal, Result, Ok, Err, IsErr}
+use Rattle.std.specs.Prelude.{◌≡◌, ◌⊎◌, ◌≤◌, ⊤, ℕ, List, [], ◌∷◌, ◌++◌, Option, Some, IfSome, codes, decimal, Result, Ok, Err, IsErr}
 use Rattle.std.specs.List.{All}
 use Rattle.refusal.specs.declared.Failed.{Failed}
 use Rattle.text_io.specs.Text.{Adds, AddsFront, SinkState, Writes}
@@ -16,6 +16,7 @@ use Rattle.tree_reading.specs.declared.found.Unreadable.TheVariants as unreadabl
 use Rattle.tree_reading.specs.declared.report.Report.{Report}
 use Rattle.recover_open.specs.declared.making.NotMade.{NotMade}
 use Rattle.recover_open.specs.declared.making.NotMade.TheVariants as not_made
+use Rattle.ship_text.specs.Ships.{most_first, printed_ships}
 use Rattle.store_run.specs.declared.run.Ending.{Ending}
 use Rattle.store_run.specs.declared.run.Ending.TheVariants as ending
 use Rattle.store_run.specs.Run.{Run, run_of}
@@ -37,8 +38,8 @@ pub data Outcome : Type 0 where
   refused : Refusal → Outcome
   -- a store of this length was made
   made : ℕ → Outcome
-  -- the script was run, and how that ended
-  ran : Run → Ending → Outcome
+  -- the script was run, its first ship was to have this number, and how the run ended
+  ran : ℕ → Run → Ending → Outcome
   -- a session was served, how its run ended, and why it did
   served : Run → Ending → Closing → Outcome
   checked : Report → Outcome
@@ -69,16 +70,17 @@ refusal_of_making not_made.Fault = refusal.DiskFault
 
 abbrev pub outcome_of : Result Answer Refusal → Outcome
 outcome_of (Ok (answer.Made length)) = made length
-outcome_of (Ok (answer.Ran finished)) = ran (run_of finished) finished.ending
+outcome_of (Ok (answer.Ran first finished)) = ran first (run_of finished) finished.ending
 outcome_of (Ok (answer.Served s)) = served (run_of s.finished) s.finished.ending s.closing
 outcome_of (Ok (answer.Checked report)) = checked report
 outcome_of (Ok (answer.Settled counts)) = settled counts
 outcome_of (Ok (answer.Tried seed count finished)) = tried seed count (run_of finished)
 outcome_of (Err why) = refused why
 
--- the keys of a trial's history are the generator's, by which its summary counts
+-- the keys of a trial's history are the generator's, by which its summary counts, and no number of a ship is too great
 abbrev pub HasMadeAnswer : Answer → Type 0
 HasMadeAnswer (answer.Tried seed count finished) = All (λ e. HasMadeKeys e.op) finished.annals.entries
+HasMadeAnswer (answer.Ran first finished) = first ≤ most_first
 HasMadeAnswer _ = ⊤
 
 -- ---- statuses
@@ -124,7 +126,7 @@ status_of (refused (refusal.Damaged place)) = Damaged
 status_of (refused (refusal.Worn version)) = Damaged
 status_of (refused refusal.NoMemory) = NoMemory
 status_of (made length) = Done
-status_of (ran run end) = status_of_ending end
+status_of (ran first run end) = status_of_ending end
 status_of (served run end closing) = status_of_session end closing
 status_of (checked report) = Done
 status_of (settled counts) = Done
@@ -158,6 +160,10 @@ settled_text counts =
     named_number (codes "settled version") counts.version ++ named_number (codes " quanta") counts.quanta ++ named_number (codes " of") counts.bound
     ++ newline
 
+-- the history of a run, and its ships behind it
+abbrev pub run_text : ℕ → Run → List ℕ
+run_text first run = history_text run.charge run.entries run.quanta run.totals ++ printed_ships first run.entries
+
 abbrev pub text_of : Outcome → List ℕ
 text_of (refused refusal.Usage) = codes "usage" ++ newline
 text_of (refused refusal.SourceFault) = codes "source fault" ++ newline
@@ -170,7 +176,7 @@ text_of (refused (refusal.Damaged place)) = place_text place
 text_of (refused (refusal.Worn version)) = codes "worn " ++ decimal version ++ newline
 text_of (refused refusal.NoMemory) = codes "no memory" ++ newline
 text_of (made length) = codes "made " ++ decimal length ++ newline
-text_of (ran run end) = history_text run.charge run.entries run.quanta run.totals
+text_of (ran first run end) = run_text first run
 text_of (served run end closing) = served_text run.charge run.entries run.quanta run.totals closing
 text_of (checked report) = report_text report
 text_of (settled counts) = settled_text counts

@@ -1,6 +1,8 @@
 //! What a call answers: the text that it writes, a line in one call of the sink, and its status.
 ghost use Rattle.std.specs.Prelude.{◌≡◌, ◌+◌, ◌≤◌, ◌++◌, decimal, length, IfOk, Ok, Err};
 ghost use Rattle.text_io.specs.Text.{SinkState, Writes};
+ghost use Rattle.ship_text.specs.Ships.{most_first};
+ghost use Rattle.store_run.specs.Run.{run_of};
 ghost use Rattle.blsm_run.specs.Outcome.{
   HasMadeAnswer,
   HasTold,
@@ -13,6 +15,7 @@ ghost use Rattle.blsm_run.specs.Outcome.{
   outcome_of,
   place_text,
   report_text,
+  run_text,
   settled_text,
   status_of,
   status_of_ending,
@@ -26,6 +29,7 @@ use blsm_model::Component;
 use recover_open::{Place, Report};
 use refusal::Failed;
 use script_text::{LONGEST, Piece, print_end, print_history, print_summary};
+use ship_text::print_ships;
 use store_run::{Ending, Finished, Settled};
 use store_serve::{Closing, Served, print_closing};
 use text_io::{Sink, write_all};
@@ -117,6 +121,15 @@ fn print_rest<K: Sink>(sink: &mut K, served: &Served) -> Result<(), Failed>
     }
 }
 
+// The history of a run, and its ships behind it, of which the first has this number. With 0 there are none.
+fn print_run<K: Sink>(sink: &mut K, first: u64, run: &Finished) -> Result<(), Failed>
+    requires { first ≤ most_first }
+    ensures { Writes (run_text first (run_of run.now)) result (K.state sink.old) (K.state sink.new) }
+{
+    print_history(sink, run.charge, &run.annals, &run.totals)?;
+    print_ships(sink, first, &run.annals)
+}
+
 // What was done: the length of a store that was made, the history of a run, the end of a session, the report of a check, the counts of a
 // settling, the summary of a trial.
 fn print_done<K: Sink>(sink: &mut K, answer: &Answer) -> Result<(), Failed>
@@ -125,7 +138,7 @@ fn print_done<K: Sink>(sink: &mut K, answer: &Answer) -> Result<(), Failed>
 {
     match answer {
         Answer::Made(length) => print_numbered(sink, b"made ", *length),
-        Answer::Ran(run) => print_history(sink, run.charge, &run.annals, &run.totals),
+        Answer::Ran(first, run) => print_run(sink, *first, run),
         Answer::Served(served) => print_rest(sink, served),
         Answer::Checked(report) => print_report(sink, report),
         Answer::Settled(settled) => print_settled(sink, settled),
@@ -198,7 +211,7 @@ fn status_for(answer: &Result<Answer, Refusal>) -> Status
     match answer {
         Ok(Answer::Made(_) | Answer::Checked(_) | Answer::Settled(_) | Answer::Tried(..)) =>
             Status::Done,
-        Ok(Answer::Ran(run)) => status_of_run(run),
+        Ok(Answer::Ran(_, run)) => status_of_run(run),
         Ok(Answer::Served(served)) => status_of_session(served),
         Err(refusal) => status_of_refusal(*refusal),
     }

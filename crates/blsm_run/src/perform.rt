@@ -1,6 +1,6 @@
 //! The steps of a call up to its answer.
 ghost use Rattle.std.specs.Prelude.{◌≡◌, ◌≤◌, ℕ, IfOk, List, Some, map, string_bytes};
-ghost use Rattle.program_words.specs.Words.{AreAccepted, IsInRange, asked_by, asked_of, most_callers, most_workers, run, serve};
+ghost use Rattle.program_words.specs.Words.{AreAccepted, IsInRange, asked_by, asked_of, most_callers, most_ship, most_workers, run, serve};
 ghost use Rattle.text_io.specs.Text.{SinkState};
 ghost use Rattle.blsm_run.specs.Cause.{Cause};
 ghost use Rattle.blsm_run.specs.Outcome.{HasMadeAnswer, HasTold, outcome_of};
@@ -11,26 +11,26 @@ use crate::source::read_source;
 use crate::stores::{check_on_shelf, make_on_shelf, run_on_shelf, serve_on_shelf, settle_on_shelf};
 use blsm_model::Gate;
 use disk_trait::Shelf;
-use program_words::{Request, read_words};
+use program_words::{Options, Request, read_words};
 use std::alloc::Global;
 use std::sync::Wait;
 use std::thread::Threads;
 use store_trial::try_seed;
 use text_io::{Sink, Source};
 
-// Reads the script and runs it over the store on the disk of a name, beside the merge workers for which the words ask.
+// Reads the script and runs it over the store on the disk of a name, as the options say.
 fn run<R: Threads + Wait + Sync, S: Source, H: Shelf, G: Gate + Sync>(
     rt: &R,
     alloc: Global,
     source: &mut S,
     shelf: &mut H,
     name: &str,
-    workers: u32,
-    turns: u32,
+    options: Options,
     gate: &G,
 ) -> Result<Answer, Refusal>
-    requires few { workers ≤ most_workers }
-    ensures cause { (words : List (List ℕ)) → AreAccepted words → asked_by words ≡ Some (run name.now workers turns)
+    requires few { options.workers ≤ most_workers }
+    requires ships { options.ships ≤ most_ship }
+    ensures cause { (words : List (List ℕ)) → AreAccepted words → asked_by words ≡ Some (run name.now options)
         → Cause H.D.state (outside words (S.state source.old) (S.state source.new) (H.state shelf.old) (H.state shelf.new)) (outcome_of result) }
     ensures made { IfOk result HasMadeAnswer }
     ensures told { (sink : SinkState) → HasTold (outcome_of result) sink sink }
@@ -43,11 +43,11 @@ fn run<R: Threads + Wait + Sync, S: Source, H: Shelf, G: Gate + Sync>(
         name,
         script.lines(),
         script.room(),
-        workers,
-        turns,
+        options.workers,
+        options.turns,
         gate,
     )?;
-    Ok(Answer::Ran(finished))
+    Ok(Answer::Ran(options.ships, finished))
 }
 
 // Serves the lines of the source over the store on the disk of a name, with room for the callers for which the words ask.
@@ -90,11 +90,7 @@ fn carry_out<R: Threads + Wait + Sync, S: Source, K: Sink, H: Shelf, G: Gate + S
         Request::Make { name, geometry } => Ok(Answer::Made(make_on_shelf(
             shelf, name, &geometry,
         )?)),
-        Request::Run {
-            name,
-            workers,
-            turns,
-        } => run(rt, alloc, source, shelf, name, workers, turns, gate),
+        Request::Run { name, options } => run(rt, alloc, source, shelf, name, options, gate),
         Request::Serve { name, callers } => serve(alloc, source, sink, shelf, name, callers),
         Request::Check { name } => Ok(Answer::Checked(check_on_shelf(alloc, shelf, name)?)),
         Request::Settle { name } => Ok(Answer::Settled(settle_on_shelf(alloc, shelf, name)?)),

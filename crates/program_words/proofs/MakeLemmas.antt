@@ -24,11 +24,12 @@ both_found name sizes n s named sized = ap (λ (o : Option Text). make_by o (Som
 
 -- ---- a run
 
-pub no_file : (name : Option Text) (workers turns : Option ℕ) → None ≡ name → None ≡ run_by name workers turns
-no_file name workers turns h1 = grind (arith, common_steps, nat_tests)
+pub no_file : (name : Option Text) (workers turns ships : Option ℕ) → None ≡ name → None ≡ run_by name workers turns ships
+no_file name workers turns ships h1 = grind (arith, common_steps, nat_tests)
 
-pub all_given : (name : Option Text) (workers turns : Option ℕ) (n : Text) (w t : ℕ) → Some n ≡ name → Some w ≡ workers → Some t ≡ turns → Some (run n w t) ≡ run_by name workers turns
-all_given name workers turns n w t h1 h2 h3 = grind (arith, common_steps, nat_tests)
+pub all_given : (name : Option Text) (workers turns ships : Option ℕ) (n : Text) (w t s : ℕ) → Some n ≡ name → Some w ≡ workers → Some t ≡ turns
+    → Some s ≡ ships → Some (run n (record { workers = w; turns = t; ships = s })) ≡ run_by name workers turns ships
+all_given name workers turns ships n w t s h1 h2 h3 h4 = grind (arith, common_steps, nat_tests)
 
 -- what `serve` asks for
 pub nobody_served : (name : Option Text) (callers : Option ℕ) → None ≡ name → None ≡ serve_by name callers

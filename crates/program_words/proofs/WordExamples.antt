@@ -1,9 +1,10 @@
 -- Words that are accepted, and what is wrong with others.
-use Rattle.std.proofs.Common.{◌≡◌, List, [], ◌∷◌, Option, Some, None, codes, refl}
+use Rattle.std.proofs.Common.{◌≡◌, ℕ, List, [], ◌∷◌, Option, Some, None, codes, refl}
 use Rattle.clap.specs.Words.{Text, Kinds, fault_of}
 use Rattle.clap.specs.declared.error.kind.ErrorKind.TheVariants as kind
 use Rattle.clap.proofs.OnLiterals.{clap_on_literals}
 use Rattle.blsm_model.specs.Sizes.{default_sizes}
+use Rattle.program_words.specs.declared.request.Options.{Options}
 use Rattle.program_words.specs.Words.{program, Asked, make, run, check, trial, serve, settle, asked_by}
 
 abbrev after_name : List Text → List Text
@@ -22,9 +23,12 @@ AskFor words what = (fault words ≡ []) × (asked words ≡ Some what)
 abbrev on_file : Text → List Text → List Text
 on_file command options = command ∷ codes "F" ∷ options
 
+abbrev options : ℕ → ℕ → ℕ → Options
+options workers turns ships = record { workers = workers; turns = turns; ships = ships }
+
 -- ---- accepted
 
-run_file : AskFor (on_file (codes "run") []) (run (codes "F") 2 1000)
+run_file : AskFor (on_file (codes "run") []) (run (codes "F") (options 2 1000 0))
 unfolding clap_on_literals
 run_file = (refl, refl)
 
@@ -33,17 +37,21 @@ unfolding clap_on_literals
 check_file = (refl, refl)
 
 -- a name that begins with a dash stands behind two dashes
-run_dash : AskFor (codes "run" ∷ codes "--" ∷ codes "-m" ∷ []) (run (codes "-m") 2 1000)
+run_dash : AskFor (codes "run" ∷ codes "--" ∷ codes "-m" ∷ []) (run (codes "-m") (options 2 1000 0))
 unfolding clap_on_literals
 run_dash = (refl, refl)
 
-run_alone : AskFor (on_file (codes "run") (codes "--workers" ∷ codes "0" ∷ codes "--turns=0" ∷ [])) (run (codes "F") 0 0)
+run_alone : AskFor (on_file (codes "run") (codes "--workers" ∷ codes "0" ∷ codes "--turns=0" ∷ [])) (run (codes "F") (options 0 0 0))
 unfolding clap_on_literals
 run_alone = (refl, refl)
 
-run_with_most : AskFor (codes "run" ∷ codes "--turns" ∷ codes "1000000" ∷ codes "--workers=8" ∷ codes "F" ∷ []) (run (codes "F") 8 1000000)
+run_with_most : AskFor (codes "run" ∷ codes "--turns" ∷ codes "1000000" ∷ codes "--workers=8" ∷ codes "F" ∷ []) (run (codes "F") (options 8 1000000 0))
 unfolding clap_on_literals
 run_with_most = (refl, refl)
+
+run_with_ships : AskFor (on_file (codes "run") (codes "--ships" ∷ codes "9223372036854775808" ∷ [])) (run (codes "F") (options 2 1000 9223372036854775808))
+unfolding clap_on_literals
+run_with_ships = (refl, refl)
 
 make_plain : AskFor (on_file (codes "make") []) (make (codes "F") default_sizes)
 unfolding clap_on_literals
@@ -136,6 +144,10 @@ nine_workers = refl
 too_many_turns : fault (on_file (codes "run") (codes "--turns" ∷ codes "1000001" ∷ [])) ≡ kind.ValueValidation ∷ []
 unfolding clap_on_literals
 too_many_turns = refl
+
+ship_too_great : fault (on_file (codes "run") (codes "--ships" ∷ codes "9223372036854775809" ∷ [])) ≡ kind.ValueValidation ∷ []
+unfolding clap_on_literals
+ship_too_great = refl
 
 some_workers : fault (on_file (codes "run") (codes "--workers" ∷ codes "some" ∷ [])) ≡ kind.ValueValidation ∷ []
 unfolding clap_on_literals

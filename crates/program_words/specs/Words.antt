@@ -11,6 +11,7 @@ use Rattle.clap.specs.declared.builder.command.Command.{Command}
 use Rattle.clap.specs.declared.builder.command.Command.TheViews.{out-Command}
 use Rattle.blsm_model.specs.Format.{most_half, most_lines}
 use Rattle.blsm_model.specs.Sizes.{Sizes, IsGeometry}
+use Rattle.program_words.specs.declared.request.Options.{Options}
 use Rattle.program_words.specs.declared.request.Request.{Request}
 use Rattle.program_words.specs.declared.request.Request.TheVariants as request
 use Rattle.program_words.specs.declared.request.Unread.{Unread}
@@ -50,6 +51,10 @@ most_workers = 8
 abbrev pub most_turns : ℕ
 most_turns = 1000000
 
+-- the greatest number that the first ship of a run may have
+abbrev pub most_ship : ℕ
+most_ship = 9223372036854775808
+
 -- for how many callers a session has room at most
 abbrev pub most_callers : ℕ
 most_callers = 16
@@ -59,6 +64,9 @@ workers_number = record { id = codes "workers"; least = 0; most = most_workers }
 
 abbrev pub turns_number : Number
 turns_number = record { id = codes "turns"; least = 0; most = most_turns }
+
+abbrev pub ships_number : Number
+ships_number = record { id = codes "ships"; least = 0; most = most_ship }
 
 abbrev pub callers_number : Number
 callers_number = record { id = codes "callers"; least = 1; most = most_callers }
@@ -91,11 +99,13 @@ make_command = with_rule
     (with_default (codes "16384") (number_rule low_number)))
     (with_default (codes "4096") (number_rule quantum_number))
 
--- `run FILE`, with merge workers and their turns
+-- `run FILE`, with merge workers and their turns, and the number of the first ship
 abbrev pub run_command : App
 run_command = with_rule
+    (with_rule
     (with_rule (on_file (codes "run")) (with_default (codes "2") (number_rule workers_number)))
-    (with_default (codes "1000") (number_rule turns_number))
+    (with_default (codes "1000") (number_rule turns_number)))
+    (with_default (codes "0") (number_rule ships_number))
 
 -- `trial`, with a seed and a count
 abbrev pub trial_command : App
@@ -136,21 +146,21 @@ pub record IsCommand (app : App) (command : Command) : Type 0 where
 
 -- ---- what words ask for
 
--- a store to be made, one to run a script over with so many merge workers, each of which takes so many turns at most, one to
--- look at, one to serve so many callers over, one to settle, each in the file of a name; a trial, by its seed and its count
+-- a store to be made, one to run a script over as the options say, one to look at, one to serve so many callers over, one to settle, each in the
+-- file of a name; a trial, by its seed and its count
 pub data Asked : Type 0 where
   make : List ℕ → Sizes → Asked
-  run : List ℕ → ℕ → ℕ → Asked
+  run : List ℕ → Options → Asked
   check : List ℕ → Asked
   trial : ℕ → ℕ → Asked
   serve : List ℕ → ℕ → Asked
   settle : List ℕ → Asked
 
--- what is asked for is a store of a geometry, a run with few workers and few turns, a trial of a seed of 64 bits and of a
+-- what is asked for is a store of a geometry, a run with few workers, few turns and a small number, a trial of a seed of 64 bits and of a
 -- step to as many as a script has lines, or a session of one caller to sixteen
 abbrev pub IsInRange : Asked → Type 0
 IsInRange (make name sizes) = IsGeometry sizes
-IsInRange (run name workers turns) = (workers ≤ most_workers) × (turns ≤ most_turns)
+IsInRange (run name options) = (options.workers ≤ most_workers) × (options.turns ≤ most_turns) × (options.ships ≤ most_ship)
 IsInRange (check name) = ⊤
 IsInRange (trial seed count) = (seed < 2 ^ 64) × (1 ≤ count) × (count ≤ most_lines)
 IsInRange (serve name callers) = (1 ≤ callers) × (callers ≤ most_callers)
@@ -183,12 +193,12 @@ make_by _ _ = None
 abbrev pub make_in : List Row → Option Asked
 make_in rows = make_by (file_in rows) (geometry_in rows)
 
-abbrev pub run_by : Option Text → Option ℕ → Option ℕ → Option Asked
-run_by (Some name) (Some workers) (Some turns) = Some (run name workers turns)
-run_by _ _ _ = None
+abbrev pub run_by : Option Text → Option ℕ → Option ℕ → Option ℕ → Option Asked
+run_by (Some name) (Some workers) (Some turns) (Some ships) = Some (run name (record { workers = workers; turns = turns; ships = ships }))
+run_by _ _ _ _ = None
 
 abbrev pub run_in : List Row → Option Asked
-run_in rows = run_by (file_in rows) (number_in workers_number rows) (number_in turns_number rows)
+run_in rows = run_by (file_in rows) (number_in workers_number rows) (number_in turns_number rows) (number_in ships_number rows)
 
 abbrev pub serve_by : Option Text → Option ℕ → Option Asked
 serve_by (Some name) (Some callers) = Some (serve name callers)
@@ -223,7 +233,7 @@ AreAccepted words = (fault_of program words ≡ []) × IsSome (asked_by words)
 
 abbrev pub asked_of : Request → Asked
 asked_of (request.Make name geometry) = make name.now geometry
-asked_of (request.Run name workers turns) = run name.now workers turns
+asked_of (request.Run name options) = run name.now options
 asked_of (request.Check name) = check name.now
 asked_of (request.Trial seed count) = trial seed count
 asked_of (request.Serve name callers) = serve name.now callers

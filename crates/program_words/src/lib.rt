@@ -11,5 +11,5 @@ mod request;
 mod words;
 
 pub use laws::asked_in_range;
-pub use request::{Request, Unread};
+pub use request::{Options, Request, Unread};
 pub use words::read_words;

@@ -14,11 +14,14 @@ pub(crate) const MAX_COUNT: u64 = 65_536;
 /// The greatest number of merge workers of a run.
 pub(crate) const MAX_WORKERS: u64 = 8;
 
-/// The greatest number of callers of a session.
-pub(crate) const MAX_CALLERS: u64 = 16;
-
 /// The greatest number of turns that each of them takes.
 pub(crate) const MAX_TURNS: u64 = 1_000_000;
+
+/// The greatest number of a run's first ship.
+pub(crate) const MAX_SHIP: u64 = 9_223_372_036_854_775_808;
+
+/// The greatest number of callers of a session.
+pub(crate) const MAX_CALLERS: u64 = 16;
 
 /// The number that an option was given, or its default, where it lies in this range.
 pub(crate) fn number_of(matches: &ArgMatches, name: &str, least: u64, most: u64) -> Option<u64>

@@ -3,7 +3,7 @@ ghost use Rattle.std.specs.Prelude.{◌≡◌, IfOk, false};
 ghost use Rattle.clap.specs.Words.{App, Rule, app_of, rule_of, with_rule, with_subcommand};
 ghost use Rattle.program_words.specs.Words.{number_rule, file as file_rule, on_file as on_file_app, make_command as make_app, run_command as run_app, trial_command as trial_app, serve_command as serve_app, program as program_app, IsCommand, IsRule};
 
-use crate::numbers::{MAX_CALLERS, MAX_COUNT, MAX_TURNS, MAX_WORKERS, MIN_COUNT};
+use crate::numbers::{MAX_CALLERS, MAX_COUNT, MAX_SHIP, MAX_TURNS, MAX_WORKERS, MIN_COUNT};
 use blsm_model::Geometry;
 use clap::builder::ValueParser;
 use clap::{Arg, ArgAction, Command};
@@ -72,7 +72,7 @@ fn make<'a>(alloc: Global) -> Result<Command<'a>, AllocError>
     with_arg(with_low, quantum)
 }
 
-// `run`, with its merge workers and their turns.
+// `run`, with its merge workers, their turns and the number of its first ship.
 #[inline(never)]
 fn run<'a>(alloc: Global) -> Result<Command<'a>, AllocError>
     ensures { IfOk result (IsCommand run_app) }
@@ -80,7 +80,9 @@ fn run<'a>(alloc: Global) -> Result<Command<'a>, AllocError>
     let workers = number(alloc, "workers", 0, MAX_WORKERS).default_value("2");
     let with_workers = with_arg(on_file(alloc, "run"), workers);
     let turns = number(alloc, "turns", 0, MAX_TURNS).default_value("1000");
-    with_arg(with_workers, turns)
+    let with_turns = with_arg(with_workers, turns);
+    let ships = number(alloc, "ships", 0, MAX_SHIP).default_value("0");
+    with_arg(with_turns, ships)
 }
 
 // `serve`, with its callers.

@@ -2,39 +2,32 @@
 use blsm_model::Geometry;
 use thiserror::Error;
 
+/// How a script is run, and what is printed of it.
+#[derive(Clone, Copy, PartialEq, Eq, Debug)]
+pub struct Options {
+    /// How many merge workers are beside the callers, from 0 to 8.
+    pub workers: u32,
+    /// How many turns each of them takes at most, from 0 to 1,000,000.
+    pub turns: u32,
+    /// The number of the first ship that is printed behind the history, at most 2^63. With 0 none is printed.
+    pub ships: u64,
+}
+
 /// What the words of the command line ask for.
 #[derive(Clone, Copy, PartialEq, Eq, Debug)]
 pub enum Request<'a> {
     /// A new store of this geometry in the file of this name.
-    Make {
-        name: &'a str,
-        geometry: Geometry,
-    },
-    /// A script to be run over the store in the file of this name, beside so many merge workers, from 0 to 8, each of
-    /// which takes so many turns at most, from 0 to 1,000,000.
-    Run {
-        name: &'a str,
-        workers: u32,
-        turns: u32,
-    },
+    Make { name: &'a str, geometry: Geometry },
+    /// A script to be run over the store in the file of this name.
+    Run { name: &'a str, options: Options },
     /// A look at the store in the file of this name.
-    Check {
-        name: &'a str,
-    },
+    Check { name: &'a str },
     /// The settling of the store in the file of this name.
-    Settle {
-        name: &'a str,
-    },
+    Settle { name: &'a str },
     /// A trial of so many steps, from 1 to 65,536, drawn from this seed.
-    Trial {
-        seed: u64,
-        count: u32,
-    },
+    Trial { seed: u64, count: u32 },
     /// A session over the store in the file of this name, with room for the callers from 1 to this one, 16 at most.
-    Serve {
-        name: &'a str,
-        callers: u32,
-    },
+    Serve { name: &'a str, callers: u32 },
 }
 
 /// Why words were not read.

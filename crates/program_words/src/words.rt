@@ -3,9 +3,11 @@ ghost use Rattle.std.specs.Prelude.{◌≡◌, ◌≢◌, map, option_map, strin
 ghost use Rattle.clap.specs.Words.{found_of, kind_of, rows_of};
 ghost use Rattle.program_words.specs.Words.{asked_in, asked_of, check, file_in, geometry_in, make_in, run_in, serve_in, settle, trial_in, ReadsWords};
 
-use crate::numbers::{MAX_CALLERS, MAX_COUNT, MAX_TURNS, MAX_WORKERS, MIN_COUNT, number_of};
+use crate::numbers::{
+    MAX_CALLERS, MAX_COUNT, MAX_SHIP, MAX_TURNS, MAX_WORKERS, MIN_COUNT, number_of,
+};
 use crate::program::program;
-use crate::request::{Request, Unread};
+use crate::request::{Options, Request, Unread};
 use blsm_model::Geometry;
 use clap::error::ErrorKind;
 use clap::{ArgMatches, Error};
@@ -58,10 +60,14 @@ fn run_of<'a>(matches: &ArgMatches<'a>) -> Option<Request<'a>>
     let name = matches.get_str("FILE")?;
     let workers = number_of(matches, "workers", 0, MAX_WORKERS)?;
     let turns = number_of(matches, "turns", 0, MAX_TURNS)?;
+    let ships = number_of(matches, "ships", 0, MAX_SHIP)?;
     Some(Request::Run {
         name,
-        workers: workers as u32,
-        turns: turns as u32,
+        options: Options {
+            workers: workers as u32,
+            turns: turns as u32,
+            ships,
+        },
     })
 }
 

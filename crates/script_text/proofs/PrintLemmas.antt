@@ -9,7 +9,7 @@ use Rattle.text_io.specs.Text.{SinkState, Writes}
 use Rattle.blsm_model.specs.Printed.{entry_text, entries_text}
 
 -- a list is what stands before a place, what stands there, and the rest
-parted : {X : Type 0} (xs : List X) (i : ℕ) (d : X) → i < length xs → xs ≡ take i xs ++ (get_or xs i d ∷ drop (i + 1) xs)
+pub parted : {X : Type 0} (xs : List X) (i : ℕ) (d : X) → i < length xs → xs ≡ take i xs ++ (get_or xs i d ∷ drop (i + 1) xs)
 parted xs i d within = sym (take-append-drop i xs) ∙ ap (λ (l : List _). take i xs ++ l) (drop-cons xs i d within ∙ ap (λ n. get_or xs i d ∷ drop n xs) (sym (add-one i)))
 
 -- the pieces before a place, the piece there, and the rest

@@ -20,6 +20,9 @@ returns-in_ok-make_on_shelf-in-Make-clause-cause g c = λ words accepted asked.
 pub run-requires-clause-few : goal.run-requires-clause-few
 run-requires-clause-few g c = λ κs lives. (rw c.in-Run.is at c.requires.range).0
 
+pub run-requires-clause-ships : goal.run-requires-clause-ships
+run-requires-clause-ships g c = λ κs lives. (rw c.in-Run.is at c.requires.range).2
+
 pub returns-in-Run-clause-cause : goal.returns-in-Run-clause-cause
 returns-in-Run-clause-cause g c = λ words accepted asked. c.run.ensures.cause words accepted (rw c.in-Run.is at asked)
 

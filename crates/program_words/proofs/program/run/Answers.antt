@@ -1,6 +1,6 @@
 use Rattle.std.proofs.Common.{IfOk, codes}
 use Rattle.clap.specs.Words.{App, Rule, with_rule}
-use Rattle.program_words.specs.Words.{IsCommand, workers_number, turns_number, number_rule, with_default, on_file as on_file_app}
+use Rattle.program_words.specs.Words.{IsCommand, ships_number, workers_number, turns_number, number_rule, with_default, on_file as on_file_app}
 use Rattle.program_words.proofs.ProgramLemmas.{defaulted}
 use Rattle.program_words.proofs.program.run.Goals as goal
 
@@ -11,5 +11,9 @@ returns c =
     let of_workers : App = with_rule (on_file_app (codes "run")) workers_rule in
     let workers = defaulted c.number.result c.default_value-workers.result _ (number_rule workers_number) c.number.ensures c.default_value-workers.ensures in
     let turns = defaulted c.number-2.result c.default_value-turns.result _ (number_rule turns_number) c.number-2.ensures c.default_value-turns.ensures in
+    let ships_rule : Rule = with_default (codes "0") (number_rule ships_number) in
+    let ships = defaulted c.number-3.result c.default_value-ships.result _ (number_rule ships_number) c.number-3.ensures c.default_value-ships.ensures in
+    let of_turns : App = with_rule of_workers turns_rule in
     let second : IfOk c.with_arg-with_workers.result (IsCommand of_workers) = c.with_arg-with_workers.ensures (on_file_app (codes "run")) workers_rule c.on_file.ensures workers in
-    c.with_arg.ensures of_workers turns_rule second turns
+    let third : IfOk c.with_arg-with_turns.result (IsCommand of_turns) = c.with_arg-with_turns.ensures of_workers turns_rule second turns in
+    c.with_arg.ensures of_turns ships_rule third ships
