@@ -15,6 +15,8 @@ mod samples;
 #[cfg(test)]
 mod scripts;
 #[cfg(test)]
+mod ships;
+#[cfg(test)]
 mod streams;
 #[cfg(test)]
 mod trials;

@@ -160,8 +160,8 @@ fn a_line_is_read_without_its_end(rt: HostRuntime) {
     }
 }
 
-// A line, by its words before the key, the key's length, its words behind it, and the text's length.
-fn line_of(
+/// A line, by its words before the key, the key's length, its words behind it, and the text's length.
+pub fn line_of(
     rt: &impl Abort,
     alloc: Global,
     before: &[u8],
@@ -266,12 +266,13 @@ fn a_line_of_a_hold_has_its_words(rt: HostRuntime) {
     }
 }
 
-fn add_text(rt: &impl Abort, text: &mut Vec<u8>, more: &[u8]) {
+/// Adds to a text.
+pub fn add_text(rt: &impl Abort, text: &mut Vec<u8>, more: &[u8]) {
     assert_that(rt, text.extend_from_slice(more).is_ok());
 }
 
-// A line, so many times.
-fn repeated(rt: &impl Abort, alloc: Global, line: &[u8], times: u32) -> Vec<u8> {
+/// A line, so many times.
+pub fn repeated(rt: &impl Abort, alloc: Global, line: &[u8], times: u32) -> Vec<u8> {
     let mut text = Vec::new(alloc);
     for _ in 0..times {
         add_text(rt, &mut text, line);

@@ -1,25 +1,24 @@
 -- A text has one reading: it is one script, or one line of it is the first that is bad, and not both.
 use Rattle.std.proofs.lemmas.Bool.Decides.{nat_tests}
 use Rattle.std.proofs.lemmas.Grind.{common_steps}
-use Rattle.std.proofs.Common.{◌≡◌, ◌≢◌, ℕ, ◌+◌, ◌^◌, ◌<◌, ◌≤◌, inl, inr, List, [], ◌∷◌, ◌++◌, Some, Result, Ok, Err, length, drop, decimal, codes, sym, ◌∙◌, ap, subst, refl, append_assoc, append-nil, arith, length-append}
+use Rattle.std.proofs.Common.{◌≡◌, ◌≢◌, ℕ, ◌+◌, ◌^◌, ◌<◌, ◌≤◌, List, [], ◌∷◌, ◌++◌, Result, Ok, Err, length, drop, decimal, codes, sym, ◌∙◌, ap, refl, append_assoc, append-nil, arith, length-append}
 use Rattle.std.specs.List.{All}
-use Rattle.std.proofs.lemmas.List.Elements.{All-head, All-tail, All-cons, All-append, All-drop, All-from_recursion}
+use Rattle.std.proofs.lemmas.List.Elements.{All-cons, All-append, All-from_recursion}
 use Rattle.std.proofs.lemmas.List.Sums.{sum_by-append, sum_by-cons}
 use Rattle.std.proofs.lemmas.Fmt.{decimal_injective, decimal_nonempty, length-decimal-le}
-use Rattle.std.proofs.Math.Seq.{drop-append_seam}
 use Rattle.blsm_model.specs.declared.row.Value.{Value}
 use Rattle.blsm_model.specs.declared.op.Op.{Op}
 use Rattle.blsm_model.specs.declared.op.Op.TheVariants.{Put, Add, Tail, Del, New, Swap, Get, Hold, Next, Release, Work}
 use Rattle.blsm_model.specs.declared.history.Line.{Line}
 use Rattle.blsm_model.specs.Printed.{and_number, and_value, and_word, command_text, spelled}
-use Rattle.script_text.specs.Grammar.{IsAllowed, IsBadLine, IsCommand, IsKey, IsLine, IsOnlyBadLine, IsOnlyReading, IsScript, IsText, all_rows_asked, first_line, line_text, lines_text, longest_line}
+use Rattle.script_text.specs.Grammar.{AreLines, IsAllowed, IsBadLine, IsCommand, IsKey, IsLine, IsOnlyBadLine, IsOnlyReading, IsScript, IsText, all_rows_asked, first_line, line_text, lines_text, longest_line}
 use Rattle.blsm_model.specs.Format.{most_text}
 use Rattle.script_text.specs.declared.script.ScriptFault.{ScriptFault}
 use Rattle.script_text.specs.declared.script.ScriptFault.TheVariants.{Bad, NoMemory}
 use Rattle.script_text.specs.Script.{IfBad}
 use Rattle.text_io.specs.Lines.{Lacks}
 use Rattle.script_text.proofs.ReadLemmas.{one_cut, no_cut, decimal_lacks, visible_lacks, heads}
-use Rattle.script_text.proofs.ScriptLemmas.{first_line_is}
+use Rattle.script_text.proofs.LineLaws.{AreSpelled, GoesOn, ahead, allowed_rest, behind, compared, fronts, level, longer, nothing_left, one_reading, opened, opened_first, shorter, text_goes_on}
 use Rattle.blsm_model.specs.Scripts.{rows_of}
 
 -- a spelling has one text, value, command and line
@@ -74,7 +73,7 @@ one_swap key count value (Swap k n v) (is_key, little, small, is_text) (is_k, li
     λ i. Swap (same_key i) (same_count i) (same_value i)
 one_swap key count value _ x y is = absurd (omega (arith, heads is))
 
-one_command : (x y : Op) → IsCommand x → IsCommand y → command_text x ≡ command_text y → x ≡ y
+pub one_command : (x y : Op) → IsCommand x → IsCommand y → command_text x ≡ command_text y → x ≡ y
 one_command (Put key value) y allowed_x allowed_y is = one_put key value y allowed_x allowed_y is
 one_command (Add key count) y allowed_x allowed_y is = grind (arith, common_steps, nat_tests, one_cut, decimal, visible_lacks, decimal_injective, heads)
 one_command (Tail key tail) y allowed_x allowed_y is = grind (arith, common_steps, nat_tests, one_cut, visible_lacks, heads)
@@ -103,7 +102,7 @@ one_line bytes x y is_x is_y =
 key_lacks : (key : List ℕ) → IsKey key → Lacks 10 (and_word key)
 key_lacks key is_key = All-cons (λ byte. byte ≢ 10) 32 key (λ same. absurd (omega arith)) (visible_lacks 10 key (omega arith) is_key.visible)
 
-number_lacks : (n : ℕ) → n < 2 ^ 64 → Lacks 10 (and_number n)
+pub number_lacks : (n : ℕ) → n < 2 ^ 64 → Lacks 10 (and_number n)
 number_lacks n small = All-cons (λ byte. byte ≢ 10) 32 (decimal n) (λ same. absurd (omega arith)) (decimal_lacks 10 n small (omega arith))
 
 text_lacks : (text : List ℕ) → IsText text → Lacks 10 (and_word (spelled text))
@@ -115,7 +114,7 @@ three_lack a b c no_a no_b no_c = All-from_recursion (λ byte. byte ≢ 10) (a �
 four_lack : (a b c d : ℕ) → a ≢ 10 → b ≢ 10 → c ≢ 10 → d ≢ 10 → Lacks 10 (a ∷ b ∷ c ∷ d ∷ [])
 four_lack a b c d no_a no_b no_c no_d = All-from_recursion (λ byte. byte ≢ 10) (a ∷ b ∷ c ∷ d ∷ []) (no_a, (no_b, (no_c, (no_d, tt))))
 
-command_lacks : (op : Op) → IsCommand op → Lacks 10 (command_text op)
+pub command_lacks : (op : Op) → IsCommand op → Lacks 10 (command_text op)
 command_lacks (Put key value) (is_key, small, is_text) =
     All-append (λ byte. byte ≢ 10) (codes "put" ++ and_word key) (and_value value)
     (All-append (λ byte. byte ≢ 10) (codes "put") (and_word key) (three_lack 112 117 116 (λ same. absurd (omega arith)) (λ same. absurd (omega arith)) (λ same. absurd (omega arith))) (key_lacks key is_key))
@@ -211,61 +210,17 @@ pub line_fits : (bytes : List ℕ) (line : Line) → IsLine bytes line → lengt
 line_fits bytes line is =
     omega (arith, ap length is.spelled, length-append (decimal (line.seat + 1)) (and_word (command_text line.op)), length-decimal-le 2 (line.seat + 1) (omega arith) (omega (arith, is.allowed.seat)) (seat_small line is.allowed), command_fits line.op is.allowed.command)
 
--- the first line, its end, and the rest
-opened : (x : Line) (xs : List Line) (r : List ℕ) → lines_text (x ∷ xs) ++ r ≡ line_text x ++ 10 ∷ (lines_text xs ++ r)
-opened x xs r = grind (arith, common_steps, nat_tests)
-
--- of two readings of one text the one goes on where the other ends
-data Compared (xs ys : List Line) (r s : List ℕ) : Type 0 where
-  ahead : (zs : List Line) → ys ≡ xs ++ zs → r ≡ lines_text zs ++ s → Compared xs ys r s
-  behind : (zs : List Line) → xs ≡ ys ++ zs → s ≡ lines_text zs ++ r → Compared xs ys r s
-
-compared : (xs ys : List Line) (r s : List ℕ) → All IsAllowed xs → All IsAllowed ys → lines_text xs ++ r ≡ lines_text ys ++ s → Compared xs ys r s
-compared [] ys r s allowed_x allowed_y is = ahead ys refl is
-compared (x ∷ xs) [] r s allowed_x allowed_y is = behind (x ∷ xs) refl (sym is)
-compared (x ∷ xs) (y ∷ ys) r s allowed_x allowed_y is =
-    let ok_x = All-head IsAllowed x xs allowed_x in
-    let ok_y = All-head IsAllowed y ys allowed_y in
-    let both = one_cut 10 (line_text x) (line_text y) (lines_text xs ++ r) (lines_text ys ++ s) (line_lacks x ok_x) (line_lacks y ok_y) (sym (opened x xs r) ∙ is ∙ opened y ys s) in
-    let same : x ≡ y = one_line (line_text x) x y (record { allowed = ok_x; spelled = refl }) (record { allowed = ok_y; spelled = both.0 }) in
-    elim (compared xs ys r s (All-tail IsAllowed x xs allowed_x) (All-tail IsAllowed y ys allowed_y) both.1) [
-      | ahead zs more left ↦ ahead zs (λ i. sym same i ∷ more i) left
-      | behind zs more left ↦ behind zs (λ i. same i ∷ more i) left
-    ]
-
-nothing_left : (zs : List Line) (s : List ℕ) → [] ≡ lines_text zs ++ s → (zs ≡ []) × (s ≡ [])
-nothing_left [] s is = (refl, sym is)
-nothing_left (z ∷ zs) s is = absurd (omega (arith, ap length (is ∙ opened z zs s), length-append (line_text z) (10 ∷ (lines_text zs ++ s))))
-
--- an end of a line alone is no line
-no_empty_line : (zs : List Line) → All IsAllowed zs → 10 ∷ [] ≡ lines_text zs ++ [] → ⊥
-no_empty_line [] allowed is = omega (arith, ap length is)
-no_empty_line (z ∷ zs) allowed is = omega (arith, ap length (is ∙ opened z zs []), length-append (line_text z) (10 ∷ (lines_text zs ++ [])), line_some z (All-head IsAllowed z zs allowed))
-
-allowed_rest : (xs ys zs : List Line) → ys ≡ xs ++ zs → All IsAllowed ys → All IsAllowed zs
-allowed_rest xs ys zs is allowed =
-    subst (λ (l : List Line). All IsAllowed l) (ap (λ (l : List Line). drop (length xs) l) is ∙ drop-append_seam xs zs) (All-drop IsAllowed (length xs) ys allowed)
-
-one_end : (xs ys : List Line) → Compared xs ys [] [] → xs ≡ ys
-one_end xs ys h1 = grind (arith, common_steps, nat_tests, nothing_left, append-nil)
-
-one_ended : (xs ys : List Line) → All IsAllowed xs → All IsAllowed ys → lines_text xs ≡ lines_text ys → xs ≡ ys
-one_ended xs ys allowed_x allowed_y is = one_end xs ys (compared xs ys [] [] allowed_x allowed_y (ap (λ (l : List ℕ). l ++ []) is))
-
--- lines with an end, and an end more, aren't lines
-no_end_more : (xs ys : List Line) → All IsAllowed xs → All IsAllowed ys → lines_text xs ++ 10 ∷ [] ≡ lines_text ys → ⊥
-no_end_more xs ys allowed_x allowed_y is =
-    elim (compared xs ys (10 ∷ []) [] allowed_x allowed_y (is ∙ sym (append-nil (lines_text ys)))) [
-      | ahead zs more left ↦ no_empty_line zs (allowed_rest xs ys zs more allowed_y) left
-      | behind zs more left ↦ omega (arith, ap length (nothing_left zs (10 ∷ []) left).1)
-    ]
+-- each line has a spelling of its own
+pub lines_are : AreSpelled line_text IsAllowed
+lines_are = record {
+  one = λ x y ok_x ok_y same. one_line (line_text x) x y (record { allowed = ok_x; spelled = refl }) (record { allowed = ok_y; spelled = same });
+  lacks = line_lacks;
+  some = line_some;
+}
 
 -- a text is one script
 pub one_script : (bytes : List ℕ) (x y : List Line) → IsScript bytes x → IsScript bytes y → x ≡ y
-one_script bytes x y h1 h2 = grind (arith, common_steps, nat_tests, one_ended, no_end_more)
-
-first_line_end : (bytes : List ℕ) → first_line (bytes ++ 10 ∷ []) ≡ first_line bytes
-first_line_end bytes = grind (arith, common_steps, nat_tests)
+one_script bytes x y is_x is_y = one_reading line_text IsAllowed lines_are bytes x y is_x.are.allowed is_y.are.allowed is_x.spelled is_y.spelled
 
 all_rows-seam : (xs : List Line) (z : Line) (zs : List Line) → all_rows_asked (xs ++ z ∷ zs) ≡ all_rows_asked xs + (rows_of z.op + all_rows_asked zs)
 all_rows-seam xs z zs = sum_by-append (λ (l : Line). rows_of l.op) xs (z ∷ zs) ∙ ap (λ n. all_rows_asked xs + n) (sum_by-cons (λ (l : Line). rows_of l.op) z zs)
@@ -274,46 +229,21 @@ all_rows-seam xs z zs = sum_by-append (λ (l : Line). rows_of l.op) xs (z ∷ zs
 refused : (bytes : List ℕ) (n : ℕ) (bad : IsBadLine bytes n) (z : Line) (zs ws : List Line) → IsAllowed z → first_line bad.rest ≡ line_text z → ws ≡ bad.before ++ z ∷ zs → length ws ≤ 65536 → all_rows_asked ws ≤ 131072 → ⊥
 refused bytes n bad z zs ws h1 h2 h3 h4 h5 = grind (arith, common_steps, nat_tests, length-append, one_line, all_rows-seam)
 
-opened_first : (z : Line) (zs : List Line) (s : List ℕ) → IsAllowed z → first_line (lines_text (z ∷ zs) ++ s) ≡ line_text z
-opened_first z zs s allowed = ap first_line (opened z zs s) ∙ first_line_is (line_text z ++ 10 ∷ (lines_text zs ++ s)) (line_text z) (Some (lines_text zs ++ s)) (line_lacks z allowed) refl
-
--- the rest of a bad line is no lines
-no_lines : (bytes : List ℕ) (n : ℕ) (bad : IsBadLine bytes n) (zs ws : List Line) (r s : List ℕ) → All IsAllowed zs → first_line r ≡ first_line bad.rest → r ≡ lines_text zs ++ s → ws ≡ bad.before ++ zs → length ws ≤ 65536 → all_rows_asked ws ≤ 131072
-    → (zs ≡ [])
-no_lines bytes n bad [] ws r s allowed first is whole few asked = refl
-no_lines bytes n bad (z ∷ zs) ws r s allowed first is whole few asked =
-    let ok = All-head IsAllowed z zs allowed in
-    absurd (refused bytes n bad z zs ws ok (sym first ∙ ap first_line is ∙ opened_first z zs s ok) whole few asked)
+no_more : (bytes : List ℕ) (n : ℕ) (bad : IsBadLine bytes n) (ws : List Line) → AreLines ws → GoesOn line_text IsAllowed bad.before ws bad.rest → ⊥
+no_more bytes n bad ws are on = refused bytes n bad on.next on.others ws on.is on.first on.more are.few are.asked
 
 -- a script has no bad line
 pub script_not_bad : (bytes : List ℕ) (x : List Line) (n : ℕ) → IsScript bytes x → IsBadLine bytes n → ⊥
 script_not_bad bytes x n is_x bad =
-    elim is_x.spelled [
-      | inl a ↦ elim (compared x bad.before [] bad.rest is_x.are.allowed bad.are.allowed (append-nil (lines_text x) ∙ sym a ∙ bad.split)) [
-        | ahead zs more left ↦ omega (arith, bad.there, ap length (nothing_left zs bad.rest left).1)
-        | behind zs more left ↦
-            let none = no_lines bytes n bad zs x bad.rest [] (allowed_rest bad.before x zs more is_x.are.allowed) refl left more is_x.are.few is_x.are.asked in
-            omega (arith, bad.there, ap length (left ∙ ap (λ (l : List Line). lines_text l ++ []) none))
-      ]
-      | inr a ↦ elim (compared x bad.before [] (bad.rest ++ 10 ∷ []) is_x.are.allowed bad.are.allowed
-          (append-nil (lines_text x) ∙ sym a ∙ ap (λ (l : List ℕ). l ++ 10 ∷ []) bad.split ∙ append_assoc (lines_text bad.before) bad.rest (10 ∷ []))) [
-            | ahead zs more left ↦ omega (arith, length-append bad.rest (10 ∷ []), ap length (nothing_left zs (bad.rest ++ 10 ∷ []) left).1)
-            | behind zs more left ↦
-                let none = no_lines bytes n bad zs x (bad.rest ++ 10 ∷ []) [] (allowed_rest bad.before x zs more is_x.are.allowed) (first_line_end bad.rest) left more is_x.are.few is_x.are.asked in
-                omega (arith, length-append bad.rest (10 ∷ []), ap length (left ∙ ap (λ (l : List Line). lines_text l ++ []) none))
-          ]
-    ]
+    no_more bytes n bad x is_x.are (text_goes_on line_text IsAllowed lines_are bytes bad.rest bad.before x bad.are.allowed is_x.are.allowed is_x.spelled bad.split bad.there)
 
 -- and a text has one bad line
 pub one_bad : (bytes : List ℕ) (m n : ℕ) → IsBadLine bytes m → IsBadLine bytes n → m ≡ n
 one_bad bytes m n bad_m bad_n =
-    elim (compared bad_m.before bad_n.before bad_m.rest bad_n.rest bad_m.are.allowed bad_n.are.allowed (sym bad_m.split ∙ bad_n.split)) [
-      | ahead zs more left ↦
-          let none = no_lines bytes m bad_m zs bad_n.before bad_m.rest bad_n.rest (allowed_rest bad_m.before bad_n.before zs more bad_n.are.allowed) refl left more bad_n.are.few bad_n.are.asked in
-          omega (arith, bad_m.place, bad_n.place, ap length more, length-append bad_m.before zs, ap length none)
-      | behind zs more left ↦
-          let none = no_lines bytes n bad_n zs bad_m.before bad_n.rest bad_m.rest (allowed_rest bad_n.before bad_m.before zs more bad_m.are.allowed) refl left more bad_m.are.few bad_m.are.asked in
-          omega (arith, bad_m.place, bad_n.place, ap length more, length-append bad_n.before zs, ap length none)
+    elim (fronts line_text IsAllowed lines_are bad_m.before bad_n.before bad_m.rest bad_n.rest bad_m.are.allowed bad_n.are.allowed (sym bad_m.split ∙ bad_n.split)) [
+      | level both ↦ omega (arith, bad_m.place, bad_n.place, ap length both)
+      | longer on ↦ absurd (no_more bytes m bad_m bad_n.before bad_n.are on)
+      | shorter on ↦ absurd (no_more bytes n bad_n bad_m.before bad_m.are on)
     ]
 
 pub only_reading : (bytes : List ℕ) (lines : List Line) → IsScript bytes lines → IsOnlyReading bytes lines
@@ -329,28 +259,28 @@ only_bad bytes (Ok value) bad = tt
 -- of such a text the lines that were read are the first, and what is left are the others
 pub lines_go_on : (xs ys : List Line) (rest : List ℕ) → All IsAllowed xs → All IsAllowed ys → lines_text ys ≡ lines_text xs ++ rest → (zs : List Line) × (ys ≡ xs ++ zs) × All IsAllowed zs × (rest ≡ lines_text zs)
 lines_go_on xs ys rest allowed_x allowed_y is =
-    elim (compared xs ys rest [] allowed_x allowed_y (sym is ∙ sym (append-nil (lines_text ys)))) [
-      | ahead zs more left ↦ (zs, more, allowed_rest xs ys zs more allowed_y, left ∙ append-nil (lines_text zs))
+    elim (compared line_text IsAllowed lines_are xs ys rest [] allowed_x allowed_y (sym is ∙ sym (append-nil (lines_text ys)))) [
+      | ahead zs more left ↦ (zs, more, allowed_rest IsAllowed xs ys zs more allowed_y, left ∙ append-nil (lines_text zs))
       | behind zs more left ↦
-          let none = nothing_left zs rest left in
+          let none = nothing_left line_text zs rest left in
           let same : xs ≡ ys = more ∙ ap (λ (l : List Line). ys ++ l) none.0 ∙ append-nil ys in
           let all : ys ≡ xs ++ [] = sym same ∙ sym (append-nil xs) in
-          ([], all, allowed_rest xs ys [] all allowed_y, none.1)
+          ([], all, allowed_rest IsAllowed xs ys [] all allowed_y, none.1)
     ]
 
 -- its first line is that of its text
 pub first_spelled : (z : Line) (zs : List Line) → IsAllowed z → IsLine (first_line (lines_text (z ∷ zs))) z
-first_spelled z zs allowed = record { allowed = allowed; spelled = ap first_line (sym (append-nil (lines_text (z ∷ zs)))) ∙ opened_first z zs [] allowed }
+first_spelled z zs allowed = record { allowed = allowed; spelled = ap first_line (sym (append-nil (lines_text (z ∷ zs)))) ∙ opened_first line_text IsAllowed lines_are z zs [] allowed }
 
 -- which has an end
 pub has_end : (z : Line) (zs : List Line) → Lacks 10 (lines_text (z ∷ zs)) → ⊥
 has_end z zs lacks =
-    let whole : lines_text (z ∷ zs) ≡ line_text z ++ 10 ∷ lines_text zs = sym (append-nil (lines_text (z ∷ zs))) ∙ opened z zs [] ∙ ap (λ (l : List ℕ). line_text z ++ 10 ∷ l) (append-nil (lines_text zs)) in
+    let whole : lines_text (z ∷ zs) ≡ line_text z ++ 10 ∷ lines_text zs = sym (append-nil (lines_text (z ∷ zs))) ∙ opened line_text z zs [] ∙ ap (λ (l : List ℕ). line_text z ++ 10 ∷ l) (append-nil (lines_text zs)) in
     no_cut 10 (line_text z) (lines_text (z ∷ zs)) (lines_text zs) lacks (sym whole)
 
 -- and no other line is first
 pub only_first : (z : Line) (zs : List Line) (line : Line) (rest : List ℕ) → IsAllowed z → IsAllowed line → lines_text (z ∷ zs) ≡ line_text line ++ 10 ∷ rest → line ≡ z
 only_first z zs line rest allowed_z allowed_line is =
-    let whole : lines_text (z ∷ zs) ≡ line_text z ++ 10 ∷ (lines_text zs ++ []) = sym (append-nil (lines_text (z ∷ zs))) ∙ opened z zs [] in
+    let whole : lines_text (z ∷ zs) ≡ line_text z ++ 10 ∷ (lines_text zs ++ []) = sym (append-nil (lines_text (z ∷ zs))) ∙ opened line_text z zs [] in
     let both = one_cut 10 (line_text line) (line_text z) rest (lines_text zs ++ []) (line_lacks line allowed_line) (line_lacks z allowed_z) (sym is ∙ whole) in
     one_line (line_text line) line z (record { allowed = allowed_line; spelled = refl }) (record { allowed = allowed_z; spelled = both.0 })

@@ -1,6 +1,7 @@
 pub mod GeneratedLaws
 pub mod GrammarExamples
 pub mod GrammarLaws
+pub mod LineLaws
 pub mod PresentLemmas
 pub mod PrintLemmas
 pub mod ReadLemmas

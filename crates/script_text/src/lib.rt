@@ -14,8 +14,11 @@ mod summary;
 
 pub use command::add_command;
 pub use generator::{MADE_KEYS, generate, made_histories, made_writes};
-pub use line::{LONGEST_LINE, read_line};
+pub use line::{LONGEST_LINE, cut, read_command, read_line};
 pub use piece::{COMMAND, LONGEST, Piece};
 pub use print::{print_charge, print_end, print_entry, print_history};
-pub use script::{MOST_LINES, MOST_ROWS_ASKED, Script, ScriptFault, count_rows, read_script};
+pub use read_word::read_number;
+pub use script::{
+    MOST_LINES, MOST_ROWS_ASKED, Script, ScriptFault, count_rows, read_script, remainder,
+};
 pub use summary::print_summary;

@@ -22,7 +22,7 @@ const MOST_TURNS: u32 = 100_000;
 // How many rows a line may ask for.
 const MOST_ROWS: u32 = RowList::MAX_LEN as u32;
 
-// The front before the first such byte, and the rest behind it, if there is such a byte.
+/// The front before the first such byte, and the rest behind it, if there is such a byte.
 pub fn cut(bytes: &[u8], mark: u8) -> (&[u8], Option<&[u8]>)
     ensures front { Lacks mark result.0.now }
     ensures whole { IsJoined mark bytes.now result.0.now (option_copied result.1) }
@@ -185,7 +185,8 @@ fn read_arguments(verb: Verb, bytes: &[u8]) -> Option<Op>
     }
 }
 
-fn read_command(bytes: &[u8]) -> Option<Op>
+/// The command that the bytes spell, if they spell one. It takes no memory.
+pub fn read_command(bytes: &[u8]) -> Option<Op>
     ensures { Reads (Spells command_text IsCommand) bytes.now result }
 {
     let (word, rest) = cut(bytes, b' ');

@@ -27,6 +27,7 @@ fn begins_as_number(word: &[u8]) -> bool
     }
 }
 
+/// The number that a word spells in decimal, if it spells one: no sign, no zero before a digit, and less than 2^64.
 pub fn read_number(word: &[u8]) -> Option<u64>
     ensures { Reads (Spells decimal (λ n. n < 2 ^ 64)) word.now result }
 {

@@ -111,8 +111,8 @@ impl Script {
     }
 }
 
-// What stands behind the end of a line, or nothing where it has no end.
-fn remainder(behind: Option<&[u8]>) -> &[u8]
+/// What stands behind the end of a line, or nothing where it has no end.
+pub fn remainder(behind: Option<&[u8]>) -> &[u8]
     ensures { result.now ≡ unwrap_or (option_copied behind.entry) [] }
 {
     match behind {

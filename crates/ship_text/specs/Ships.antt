@@ -6,6 +6,7 @@ use Rattle.blsm_model.specs.declared.op.Op.TheVariants.{Put, New, Swap}
 use Rattle.blsm_model.specs.Histories.{is_done}
 use Rattle.blsm_model.specs.Legal.{is_write}
 use Rattle.blsm_model.specs.Printed.{and_number, and_word, command_text}
+use Rattle.ship_text.specs.declared.reading.Ship.{Ship}
 
 -- the greatest number that the first ship may have: 2^63
 abbrev pub most_first : ℕ
@@ -21,9 +22,13 @@ shipped op = op
 abbrev pub is_shipped : Entry → Bool
 is_shipped e = is_write e.op && is_done e.reply
 
--- one ship, as a line
+-- one ship, as a line without its end
+abbrev pub ship_line : Ship → List ℕ
+ship_line ship = codes "ship" ++ and_number ship.n ++ and_word (command_text ship.op)
+
+-- the ship of a write with this number, as a line
 abbrev pub ship_text : ℕ → Op → List ℕ
-ship_text number op = codes "ship" ++ and_number number ++ and_word (command_text (shipped op)) ++ 10 ∷ []
+ship_text number op = ship_line (record { n = number; op = shipped op }) ++ 10 ∷ []
 
 -- the ship of an entry, if it has one
 abbrev pub ships_of : ℕ → Entry → List ℕ

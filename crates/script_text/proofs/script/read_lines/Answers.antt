@@ -2,7 +2,7 @@ use Rattle.std.proofs.Common.{length, inl, inr, sym, arith, ◌∙◌}
 use Rattle.std.proofs.lemmas.List.Elements.{All-push}
 use Rattle.std.proofs.lemmas.List.Sums.{sum_by_push}
 use Rattle.blsm_model.specs.declared.history.Line.{Line}
-use Rattle.script_text.specs.Grammar.{IsAllowed}
+use Rattle.script_text.specs.Grammar.{IsAllowed, line_text}
 use Rattle.script_text.proofs.ScriptLemmas.{so_far_whole, so_far_more, bad_line, not_empty}
 use Rattle.script_text.proofs.script.read_lines.Goals as goal
 use Rattle.blsm_model.specs.Scripts.{rows_of}
@@ -29,5 +29,5 @@ loop-rest-preserved c =
       few = omega arith;
       few_asked = omega arith;
       asked = rw pushed (omega (arith, sum_by_push (λ (l : Line). rows_of l.op) c.loop-rest.lines.items c.in-Some.line));
-      so_far = rw (pushed, c.remainder-rest.ensures) (so_far_more c.args.text.now c.loop-rest.lines.items c.loop-rest.rest.now _ _ c.in-Some.line (so_far_whole _ _ _ c.loop-rest.invariant.so_far some) c.cut.ensures.whole c.in-Some.ensures.spelled);
+      so_far = rw (pushed, c.remainder-rest.ensures) (so_far_more line_text c.args.text.now c.loop-rest.lines.items c.loop-rest.rest.now _ _ c.in-Some.line (so_far_whole line_text _ _ _ c.loop-rest.invariant.so_far some) c.cut.ensures.whole c.in-Some.ensures.spelled);
     }

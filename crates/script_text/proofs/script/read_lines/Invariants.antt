@@ -1,6 +1,6 @@
 use Rattle.std.proofs.Common.{◌≡◌, ◌≤◌, length}
 use Rattle.std.specs.List.{All}
-use Rattle.script_text.specs.Grammar.{IsAllowed, all_rows_asked}
+use Rattle.script_text.specs.Grammar.{IsAllowed, all_rows_asked, line_text}
 use Rattle.script_text.proofs.ScriptLemmas.{SoFar}
 use Rattle.script_text.proofs.script.read_lines.Given as goal
 
@@ -10,7 +10,7 @@ invariant-loop-rest l = record {
   few : length l.lines.items ≤ 65536;
   few_asked : l.asked ≤ 131072;
   asked : l.asked ≡ all_rows_asked l.lines.items;
-  so_far : SoFar l.text l.lines.items l.rest;
+  so_far : SoFar line_text l.text l.lines.items l.rest;
 }
 
 abbrev pub decreases-loop-rest : goal.decreases-loop-rest

@@ -1,7 +1,7 @@
-use Rattle.std.proofs.Common.{◌≡◌, ◌+◌, ◌<◌, ◌≤◌, ◌∙◌, length, take, ap, arith}
+use Rattle.std.proofs.Common.{◌≡◌, ◌<◌, length, take, arith}
 use Rattle.std.proofs.lemmas.List.{length-take-le}
 use Rattle.text_io.proofs.WritingLemmas.{writes_then, writes_stopped}
-use Rattle.ship_text.proofs.ShipLemmas.{among_more, few_among, ships_among, ships_more, ships_split, written_with}
+use Rattle.ship_text.proofs.ShipLemmas.{among_more, few_among, ships_more, ships_split, written_with}
 use Rattle.ship_text.proofs.print.print_all.Goals as goal
 
 pub print_ship_of-requires-clause-next : goal.print_ship_of-requires-clause-next
