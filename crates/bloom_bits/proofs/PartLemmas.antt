@@ -2,7 +2,10 @@
 use Rattle.std.proofs.lemmas.Bool.Decides.{nat_tests}
 use Rattle.std.proofs.lemmas.Grind.{common_steps}
 use Rattle.std.proofs.Common.{◌≡◌, ◌≢◌, ℕ, ◌+◌, ◌-◌, ◌<◌, ◌≤◌, List, [], ◌∷◌, ◌++◌, length, Option, refl, ap, sym, subst, ◌∙◌, inl, inr, length-append, append_assoc, arith}
-use Rattle.std.specs.Prelude.{nat_eq}
+use Rattle.std.specs.Prelude.{map, min, nat_eq, take, drop}
+use Rattle.std.proofs.Math.Seq.{drop-append_seam, drop-length, take-append_seam, take-length}
+use Rattle.std.proofs.Math.ListN.{drop_of_length-le}
+use Rattle.std.proofs.lemmas.List.{length-drop, take_all}
 use Rattle.std.specs.FinMap.{slice_cmp-IsAntisymmetric, nat_cmp-IsAntisymmetric}
 use Rattle.std.specs.List.{AllByRecursion, IsDistinct}
 use Rattle.std.specs.List.Sorted.{IsStrictlySortedBy}
@@ -16,13 +19,13 @@ use Rattle.blsm_model.specs.Keys.{key_cmp}
 use Rattle.blsm_model.specs.Sizes.{Sizes}
 use Rattle.record_delta.specs.declared.record.Rec.{Rec}
 use Rattle.record_delta.specs.Entries.{Entries, entries_weight}
-use Rattle.page_file.specs.Component.{RunPage, AreChained, ReadsOn, entries_of, numbers_of}
+use Rattle.page_file.specs.Component.{RunPage, AreChained, ReadsOn, entries_of, first_number, numbers_of}
 use Rattle.page_file.specs.Entry.{AreRising, keys_of}
 use Rattle.page_file.proofs.ComponentLemmas.{chain_split, entries_join, rise_back, weight_join}
 use Rattle.bloom_bits.specs.declared.fences.Fence.{Fence}
 use Rattle.bloom_bits.specs.Fences.{IsPlaceOf}
-use Rattle.bloom_bits.specs.Guides.{fence_of, fences_from}
-use Rattle.bloom_bits.specs.Parts.{from_fence, IsPartFrom, AreFencesOf, ReadsFrom}
+use Rattle.bloom_bits.specs.Guides.{fence_of, fences_from, fences_of}
+use Rattle.bloom_bits.specs.Parts.{from_fence, last_fences, IsPartFrom, AreFencesOf, ReadsFrom}
 
 -- ---- keys that rise
 
@@ -220,6 +223,86 @@ part_none key fences run part (inr (page, place, inside, outside)) no_pages =
       | inl lt ↦ absurd (omega (arith, lt, no_pages, ap (λ (c : Component). c.pages) (inside lt)))
       | inr ge ↦ outside (omega (arith, ge))
     ]
+
+-- ---- the numbers of its pages
+
+named_page : (count weight number : ℕ) (es : Entries) (fences : List Fence) (numbers : List ℕ) → 1 ≤ length es → map (λ (f : Fence). f.page) fences ≡ numbers
+    → map (λ (f : Fence). f.page) (fence_of count weight number es ++ fences) ≡ number ∷ numbers
+named_page count weight number [] fences numbers some is = absurd (omega (arith, some))
+named_page count weight number (e ∷ es) fences numbers some is = ap (λ (ns : List ℕ). number ∷ ns) is
+
+-- the fences of pages name these
+pub named_from : (sizes : Sizes) (file : List ℕ) (count weight : ℕ) (pages : List RunPage) (end : Option ℕ) → AreChained sizes pages end file
+    → map (λ (f : Fence). f.page) (fences_from count weight pages) ≡ numbers_of pages
+named_from sizes file count weight [] end chain = refl
+named_from sizes file count weight (p ∷ ps) end chain =
+    named_page count weight p.number p.entries (fences_from (count + length p.entries) (weight + entries_weight p.entries) ps) (numbers_of ps)
+    chain.1.content.head.some (named_from sizes file (count + length p.entries) (weight + entries_weight p.entries) ps end chain.2)
+
+fences_many : (sizes : Sizes) (file : List ℕ) (count weight : ℕ) (pages : List RunPage) (end : Option ℕ) → AreChained sizes pages end file
+    → length (fences_from count weight pages) ≡ length pages
+fences_many sizes file count weight [] end chain = refl
+fences_many sizes file count weight (p ∷ ps) end chain =
+    one (fences_from (count + length p.entries) (weight + entries_weight p.entries) ps) p.entries chain.1.content.head.some
+    (fences_many sizes file (count + length p.entries) (weight + entries_weight p.entries) ps end chain.2)
+  where
+    one : (fences : List Fence) (es : Entries) → 1 ≤ length es → length fences ≡ length ps → length (fence_of count weight p.number es ++ fences) ≡ length (p ∷ ps)
+    one fences [] some is = absurd (omega (arith, some))
+    one fences (e ∷ es) some is = omega (arith, is)
+
+middle : {X : Type 0} (xs ys zs : List X) (m n : ℕ) → m ≡ length xs → n ≡ length ys → take n (drop m ((xs ++ ys) ++ zs)) ≡ ys
+middle xs ys zs m n at many =
+    (λ i. take (many i) (drop (at i) (append_assoc xs ys zs i))) ∙ ap (take (length ys)) (drop-append_seam xs (ys ++ zs)) ∙ take-append_seam ys zs
+
+take_least : {X : Type 0} (xs : List X) (n k : ℕ) → k ≡ min (length xs) n → take k xs ≡ take n xs
+take_least xs n k is =
+    elim (cases_lt n (length xs)) [
+      | inl lt ↦ ap (λ (m : ℕ). take m xs) (omega (arith, is, lt))
+      | inr ge ↦ ap (λ (m : ℕ). take m xs) (omega (arith, is, ge)) ∙ take-length xs ∙ sym (take_all n xs (omega (arith, ge)))
+    ]
+
+drop_least : {X : Type 0} (xs : List X) (m k : ℕ) → k ≡ min (length xs) m → drop k xs ≡ drop m xs
+drop_least xs m k is =
+    elim (cases_lt m (length xs)) [
+      | inl lt ↦ ap (λ (n : ℕ). drop n xs) (omega (arith, is, lt))
+      | inr ge ↦ ap (λ (n : ℕ). drop n xs) (omega (arith, is, ge)) ∙ drop-length xs ∙ sym (drop_of_length-le xs (omega (arith, ge)))
+    ]
+
+-- what two slices give that end where there is no more
+pub sliced : {X : Type 0} (xs here : List X) (m n from k : ℕ) → from ≡ min (length xs) m → here ≡ take (length xs - from) (drop from xs)
+    → k ≡ min (length here) n → take k here ≡ take n (drop m xs)
+sliced xs here m n from k at behind many =
+    take_least here n k many
+    ∙ ap (take n) (behind ∙ take_all (length xs - from) (drop from xs) (omega (arith, length-drop from xs)) ∙ drop_least xs m from at)
+
+-- so those of a part's pages name its pages, where the fences are those of the run's pages and of others behind
+pub part_named : (sizes : Sizes) (fences : List Fence) (run part : Component) (before ahead behind : List RunPage) (next : Option ℕ) (file : List ℕ)
+    → fences ≡ fences_of ((before ++ ahead) ++ behind) → ReadsOn sizes run (before ++ ahead) next file → length ahead ≡ part.pages
+    → map (λ (f : Fence). f.page) (last_fences run part fences) ≡ numbers_of ahead
+part_named sizes fences run part before ahead behind next file are reads many =
+    ap (λ (fs : List Fence). map (λ (f : Fence). f.page) (last_fences run part fs)) (are ∙ all)
+    ∙ ap (map (λ (f : Fence). f.page)) (middle front here (fences_from c w behind) (run.pages - part.pages) part.pages
+    (omega (arith, reads.pages_is, length-append before ahead, many, fences_many sizes file 0 0 before (first_number ahead next) chain.0))
+    (omega (arith, many, fences_many sizes file (0 + length (entries_of before)) (0 + entries_weight (entries_of before)) ahead next chain.1)))
+    ∙ named_from sizes file (0 + length (entries_of before)) (0 + entries_weight (entries_of before)) ahead next chain.1
+  where
+    chain : AreChained sizes before (first_number ahead next) file × AreChained sizes ahead next file
+    chain = chain_split sizes before ahead next file reads.chained
+
+    front : List Fence
+    front = fences_of before
+
+    here : List Fence
+    here = fences_from (0 + length (entries_of before)) (0 + entries_weight (entries_of before)) ahead
+
+    c : ℕ
+    c = 0 + length (entries_of (before ++ ahead))
+
+    w : ℕ
+    w = 0 + entries_weight (entries_of (before ++ ahead))
+
+    all : fences_of ((before ++ ahead) ++ behind) ≡ (front ++ here) ++ fences_from c w behind
+    all = fences_join 0 0 (before ++ ahead) behind ∙ ap (λ (fs : List Fence). fs ++ fences_from c w behind) (fences_join 0 0 before ahead)
 
 -- ---- what the calls make
 

@@ -1,5 +1,5 @@
 -- The part of a sorted run from the page on that can have a key.
-use Rattle.std.specs.Prelude.{◌≡◌, ◌⊎◌, ℕ, ◌-◌, ◌<◌, ◌≤◌, List, [], ◌++◌, length, Option}
+use Rattle.std.specs.Prelude.{◌≡◌, ◌⊎◌, ℕ, ◌-◌, ◌<◌, ◌≤◌, List, [], ◌++◌, length, take, drop, Option}
 use Rattle.std.specs.List.{AllByRecursion}
 use Rattle.std.specs.declared.cmp.Ordering.TheVariants.{Less}
 use Rattle.blsm_model.specs.declared.component.Component.{Component}
@@ -16,6 +16,10 @@ use Rattle.bloom_bits.specs.Guides.{fences_of}
 abbrev pub from_fence : ℕ → Fence → Component → Component
 from_fence before fence run =
     record { first = fence.page; pages = run.pages - before; entries = run.entries - fence.entries; weight = run.weight - fence.weight }
+
+-- the fences of a part's pages, which are the last ones of the run: of as many as there are
+abbrev pub last_fences : (run part : Component) → List Fence → List Fence
+last_fences run part fences = take part.pages (drop (run.pages - part.pages) fences)
 
 -- It is the run from the page on that the fences name for the key; all of it where they name none, or a page behind its last one.
 abbrev pub IsPartFrom : Key → List Fence → Component → Component → Type 0

@@ -1,9 +1,10 @@
 //! The fences of a sorted run.
-ghost use Rattle.std.specs.Prelude.{◌≡◌, ◌<◌, ◌≤◌, ◌↔◌, ◌++◌, ◌∷◌, [], ℕ, List, Option, length, IsNone, IsTrue, IfSome, IfOk};
+ghost use Rattle.std.specs.Prelude.{◌≡◌, ◌<◌, ◌≤◌, ◌↔◌, ◌++◌, ◌∷◌, [], ℕ, List, Option, length, map, IsNone, IsTrue, IfSome, IfOk};
 ghost use Rattle.blsm_model.specs.Sizes.{Sizes};
-ghost use Rattle.page_file.specs.Component.{RunPage, ReadsOn};
+ghost use Rattle.page_file.specs.Component.{RunPage, ReadsOn, numbers_of};
 ghost use Rattle.bloom_bits.specs.Fences.{IsAboveAll, IsBelowAll, IsPlaceOf};
-ghost use Rattle.bloom_bits.specs.Parts.{IsPartFrom, AreFencesOf, ReadsFrom};
+ghost use Rattle.bloom_bits.specs.Guides.{fences_of};
+ghost use Rattle.bloom_bits.specs.Parts.{IsPartFrom, AreFencesOf, ReadsFrom, last_fences};
 
 use blsm_model::{Component, Key};
 use refusal::NoMemory;
@@ -131,5 +132,22 @@ impl Fences {
             entries: run.entries.saturating_sub(fence.entries),
             weight: run.weight.saturating_sub(fence.weight),
         }
+    }
+
+    /// The fences of a part's pages, which are the last ones of a run; of a part that is longer than the run, those of the first so many. There may
+    /// be fewer, where the fences aren't the run's.
+    pub fn last_of(&self, run: &Component, part: &Component) -> &[Fence]
+        ensures fences { result.now ≡ last_fences run.now part.now self.now.list }
+        // Where the fences are those of the pages that the run reads as, and of others behind them, they have the numbers of the part's pages.
+        ensures numbers { (sizes : Sizes) (before ahead behind : List RunPage) (next : Option ℕ) (file : List ℕ)
+            → self.now.list ≡ fences_of ((before ++ ahead) ++ behind) → ReadsOn sizes run.now (before ++ ahead) next file
+            → length ahead ≡ part.now.pages → map (λ f. f.page) result.now ≡ numbers_of ahead }
+    {
+        let from = self
+            .fences
+            .len()
+            .min(run.pages.saturating_sub(part.pages) as usize);
+        let behind = &self.fences[from..];
+        &behind[..behind.len().min(part.pages as usize)]
     }
 }

@@ -1,8 +1,8 @@
 -- How much of the components is left above a key.
 use Rattle.std.proofs.lemmas.Bool.Decides.{nat_tests}
 use Rattle.std.proofs.lemmas.Grind.{common_steps}
-use Rattle.std.proofs.Common.{◌≡◌, ◌∙◌, ◌+◌, ◌<◌, ◌≤◌, ◌^◌, ◌⊎◌, ℕ, Bool, true, false, List, [], ◌∷◌, length, Option, Some, None, IsSome, cond, refl, ap, sym, subst, inl, inr, arith}
-use Rattle.std.specs.Prelude.{if◌then◌else◌}
+use Rattle.std.proofs.Common.{◌≡◌, ◌∙◌, ◌+◌, ◌-◌, ◌<◌, ◌≤◌, ◌^◌, ◌⊎◌, ℕ, Bool, true, false, List, [], ◌∷◌, length, Option, Some, None, IsSome, cond, refl, ap, sym, subst, inl, inr, arith}
+use Rattle.std.specs.Prelude.{if◌then◌else◌, nat_lt}
 use Rattle.std.specs.Ordering.{is_lt}
 use Rattle.std.specs.List.Sorted.{IsStrictlySortedBy}
 use Rattle.std.proofs.lemmas.Bool.{false≢true}
@@ -129,6 +129,64 @@ part_covers true at closed next left now old here behind told is left_is told_is
 part_covers false at closed next left now old here behind told is left_is told_is light fills covers some =
     let was = covers (subst (λ (k : Option Key). IsSome k) is some) in
     subst (λ (part : Component). (part.weight ≤ left + most_used) × FillsPages part) (sym told_is) (omega (arith, left_is, was.0), was.1)
+
+-- ---- what the run and what is left weigh, with a table
+
+pub table_less : (at : Option Key) (key : Key) (input : Option CursorState) (table : Entries) (gone : ℕ) → input ≡ None
+    → gone + entries_weight (above (Some key) (at_hand input table)) ≡ entries_weight (above at (at_hand input table))
+    → entries_weight (above (Some key) table) ≤ entries_weight (above at table)
+table_less at key input table gone none less =
+    let hand = ap (λ (i : Option CursorState). at_hand i table) none in
+    omega (arith, less, ap (λ (l : Entries). entries_weight (above at l)) hand, ap (λ (l : Entries). entries_weight (above (Some key) l)) hand)
+
+pub made_more : (at : Option Key) (key : Key) (input : Option CursorState) (table : Entries) (total weighs of_newer of_older comp comp_after left left_after : ℕ) → input ≡ None
+    → of_newer + entries_weight (above (Some key) (at_hand input table)) ≡ entries_weight (above at (at_hand input table))
+    → of_older + left_after ≡ left → weighs ≤ of_newer + of_older → comp_after ≤ comp + weighs → comp + entries_weight (above at table) + left ≤ total
+    → comp_after + entries_weight (above (Some key) table) + left_after ≤ total
+made_more at key input table total weighs of_newer of_older comp comp_after left left_after none newer older few light before =
+    let hand = ap (λ (i : Option CursorState). at_hand i table) none in
+    omega (
+      arith,
+      newer,
+      older,
+      few,
+      light,
+      before,
+      ap (λ (l : Entries). entries_weight (above at l)) hand,
+      ap (λ (l : Entries). entries_weight (above (Some key) l)) hand,
+    )
+
+-- The closed pages have what was pushed before the group, where a page was taken for it, and else what they had.
+pub told_more : (turned : Bool) (at closed next : Option Key) (left now old comp comp_after text text_after weighs total before after : ℕ)
+    → next ≡ (if turned then at else closed) → left ≡ (if turned then now else old) → text_after ≡ (if turned then 0 else text) + weighs
+    → comp_after ≤ comp + weighs → after ≤ before → comp + before + now ≤ total → (IsSome closed → (comp - text) + before + old ≤ total)
+    → IsSome next → (comp_after - text_after) + after + left ≤ total
+told_more true at closed next left now old comp comp_after text text_after weighs total before after is left_is text_is light less made told some =
+    omega (arith, left_is, text_is, light, less, made)
+told_more false at closed next left now old comp comp_after text text_after weighs total before after is left_is text_is light less made told some =
+    let was = told (subst (λ (k : Option Key). IsSome k) is some) in
+    omega (arith, left_is, text_is, light, less, was)
+
+-- ---- how many pages a merge has that doesn't settle
+
+pub weighs_something : (key : Key) (rec : Rec) → 0 < weight key rec
+weighs_something key rec = grind (arith, common_steps, nat_tests)
+
+pub pages_begun : (writer : WriterState) (weighs : ℕ) → IsCounted writer → 0 < weighs → weighs ≤ length writer.buffer.text → 0 < writer.component.pages
+pages_begun writer weighs counted some here = grind (arith, common_steps, nat_tests, counted.none)
+
+pub more_pages : (old new : ℕ) → nat_lt old new ≡ true → old < new
+more_pages old new more = grind (arith, common_steps, nat_tests)
+
+pub closed_turned : (turned : Bool) (at closed next : Option Key) (pages pages_after : ℕ) → next ≡ (if turned then at else closed)
+    → (turned ≡ true → pages < pages_after) → pages ≤ pages_after → (IsSome at → 0 < pages) → (IsSome closed → 1 < pages) → IsSome next → 1 < pages_after
+closed_turned true at closed next pages pages_after is more onward begun was some =
+    let here = begun (subst (λ (k : Option Key). IsSome k) is some) in
+    let gone = more refl in
+    omega (arith, here, gone)
+closed_turned false at closed next pages pages_after is more onward begun was some =
+    let here = was (subst (λ (k : Option Key). IsSome k) is some) in
+    omega (arith, here, onward)
 
 -- it is a number of 64 bits
 pub left_small : (space : SpaceState) (writer : WriterState) (left some : ℕ) → HasRoom space writer left → IsCounted writer → space.pages ≤ no_page → some ≤ left → some < 2 ^ 64

@@ -55,6 +55,10 @@ closed_up_more turned at closed next key is key_above up = subst (λ (k : Option
     by true = λ q q_above. further at key q key_above q_above
     by false = λ q q_above. up q (further at key q key_above q_above)
 
+pub closed_onward : (turned : Bool) (at closed next : Option Key) → next ≡ (if turned then at else closed) → IsUpTo closed at → IsUpTo closed next
+closed_onward true at closed next is up = subst (IsUpTo closed) (sym is) up
+closed_onward false at closed next is up = subst (IsUpTo closed) (sym is) (λ key above. above)
+
 pub closed_is_more : (turned : Bool) (at closed next : Option Key) (out before done : Entries) (of : Option Key → Entries) → next ≡ (if turned then at else closed) → done ≡ (if turned then out else before)
     → out ≡ of at → before ≡ of closed → done ≡ of next
 closed_is_more true at closed next out before done of is done_is out_is before_is = done_is ∙ out_is ∙ ap of (sym is)

@@ -1,5 +1,5 @@
 -- What contracts see of a merge of two inputs, and where it stands between them. Weights are in bytes.
-use Rattle.std.specs.Prelude.{◌≡◌, ◌≢◌, ◌⊎◌, ℕ, ◌+◌, ◌/◌, ◌≤◌, Bool, true, false, List, ◌++◌, length, Option, Some, None, IsSome, nat_lt, option_map, if◌then◌else◌}
+use Rattle.std.specs.Prelude.{◌≡◌, ◌≢◌, ◌⊎◌, ℕ, ◌+◌, ◌/◌, ◌<◌, ◌≤◌, Bool, true, false, List, ◌++◌, length, Option, Some, None, IsSome, nat_lt, option_map, if◌then◌else◌}
 use Rattle.blsm_model.specs.Components.{empty_component}
 use Rattle.blsm_model.specs.declared.component.Component.{Component}
 use Rattle.blsm_model.specs.declared.key.Key.{Key}
@@ -84,12 +84,21 @@ quantum_calls (Some cursor) quantum = quantum / 4 + 3
 
 -- On any disk: what of a table was taken and isn't on closed pages weighs no more than the open page has, where the merge doesn't settle. The part that
 -- was told with the key of the closed pages weighs no more than what was left of the components then and one page, and fills its pages but the last.
-pub record Covers (settles : Bool) (merge : MergeState) (input : Option CursorState) (table : Entries) : Type 0 where
+-- With a table, the run and what is left weigh no more than so much in all; and neither do the closed pages, what was left of the older input when their
+-- key was told, and what is left of the table. A merge that doesn't settle has a page once it took a key, and a closed one where the key of these is
+-- told; what it has for the open page fits there.
+pub record Covers (settles : Bool) (total : ℕ) (merge : MergeState) (input : Option CursorState) (table : Entries) : Type 0 where
   pub up : IsUpTo merge.closed merge.at
   pub light : settles ≡ false → input ≡ None → entries_weight (above merge.closed table) ≤ entries_weight (above merge.at table) + length merge.writer.buffer.text
   pub left : IsSome merge.closed → components_left merge input ≤ merge.left
   pub here : IsInPart merge.older merge.rest.here
   pub behind : IsSome merge.closed → (merge.rest.behind.weight ≤ merge.left + most_used) × FillsPages merge.rest.behind
+  pub made : input ≡ None → merge.writer.component.weight + entries_weight (above merge.at table) + left_in merge.at merge.older ≤ total
+  pub told : settles ≡ false → input ≡ None → IsSome merge.closed
+      → (closed_of merge.writer).weight + entries_weight (above merge.at table) + merge.left ≤ total
+  pub begun : settles ≡ false → IsSome merge.at → 0 < merge.writer.component.pages
+  pub turned : settles ≡ false → IsSome merge.closed → 1 < merge.writer.component.pages
+  pub fits : length merge.writer.buffer.text ≤ most_used
 
 -- Of both lists, what is up to the greatest key taken was taken, folded key by key, settled where the merge settles, and pushed; what is above it is
 -- left. The open page, if there is one, has an entry; or, of components, more is to come than was pushed, as where the merge was taken up. The closed

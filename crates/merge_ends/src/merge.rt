@@ -1,7 +1,8 @@
 //! A merge of two inputs, a quantum at a time.
-ghost use Rattle.std.specs.Prelude.{◌≡◌, ◌≢◌, ◌↔◌, ◌⊎◌, ◌+◌, ◌/◌, ◌≤◌, ◌<◌, ◌^◌, [], ◌∷◌, ℕ, Bool, true, List, Option, None, Some, Ok, Err, length, if◌then◌else◌, IsTrue, IsErr, IfOk, OnOk};
+ghost use Rattle.std.specs.Prelude.{◌≡◌, ◌≢◌, ◌↔◌, ◌⊎◌, ◌+◌, ◌*◌, ◌/◌, ◌≤◌, ◌<◌, ◌^◌, [], ◌∷◌, ℕ, Bool, true, List, Option, None, Some, Ok, Err, length, if◌then◌else◌, IsTrue, IsErr, IfOk, IfSome, OnOk};
 ghost use Rattle.std.specs.List.{Contains, AllByRecursion};
 ghost use Rattle.blsm_model.specs.Components.{empty_component};
+ghost use Rattle.blsm_model.specs.Format.{least_full};
 ghost use Rattle.blsm_model.specs.Sizes.{Sizes};
 ghost use Rattle.blsm_model.specs.Geometry.{page_count, file_length};
 ghost use Rattle.bloom_bits.specs.BitSet.{BitState, cleared};
@@ -16,7 +17,7 @@ ghost use Rattle.run_cursor.specs.Cursor.{CursorState};
 ghost use Rattle.run_writer.specs.Writer.{IsCounted, IsInside, open_region, resumed as writer_resumed, HasPushed};
 ghost use Rattle.merge_ends.specs.Input.{left_in, IsInput};
 ghost use Rattle.merge_ends.specs.Newer.{component_left, newer_calls, IsNewer};
-ghost use Rattle.merge_ends.specs.Output.{HasRun, kept};
+ghost use Rattle.merge_ends.specs.Output.{HasRun, IsUpTo, kept};
 ghost use Rattle.merge_ends.specs.Quantum.{IsNext, NoneAbove, IsQuantum};
 ghost use Rattle.merge_ends.specs.Progress.{MayGoOn, MergesOn, TakesGroup, TakesQuantum, left_to_take, stage};
 ghost use Rattle.merge_ends.specs.Merge.{finished_of, resumed, HasFinished, IsFront};
@@ -203,9 +204,10 @@ impl Merge {
         self.behind
     }
 
-    /// What is on closed pages of the run; `None` where no page is closed.
+    /// What is on closed pages of the run; `None` where no page is closed. On any disk each of these pages is nearly full.
     pub fn finished(&self) -> Option<Finished>
-        ensures { result ≡ finished_of self.now }
+        ensures finished { result ≡ finished_of self.now }
+        ensures full { IfSome result (λ done. least_full * done.output.pages ≤ done.output.weight) }
     {
         if self.writer.component().pages <= 1 {
             return None;
@@ -253,7 +255,8 @@ impl Merge {
             → (n : ℕ) × (result ≡ Ok n) × IsMerging settles geo.now (D.state disk.new).bytes space.new self.new (N.run newer.new) (N.table newer.new) filter.new fences.new over_pages under_pages over under
             × AreSorted over × (IsNext self.old.at self.new.at over under n ⊎ (NoneAbove self.old.at over under × (self.new.at ≡ self.old.at) × (n ≡ 0))) }
         ensures numbers { MergesOn geo.now (group_calls (N.run newer.old)) TakesGroup (stage (progress self.old (N.run newer.old) (N.table newer.old)) space.old filter.old fences.old (D.state disk.old)) (stage (progress self.new (N.run newer.new) (N.table newer.new)) space.new filter.new fences.new (D.state disk.new)) result }
-        ensures covers { Covers settles self.old (N.run newer.old) (N.table newer.old) → OnOk result (Covers settles self.new (N.run newer.new) (N.table newer.new)) }
+        ensures covers { (total : ℕ) → Covers settles total self.old (N.run newer.old) (N.table newer.old)
+            → OnOk result (Covers settles total self.new (N.run newer.new) (N.table newer.new) × IsUpTo self.old.closed self.new.closed) }
         ensures same_table { N.table newer.new ≡ N.table newer.old }
         ensures same_kind { newer_calls (N.run newer.new) ≡ newer_calls (N.run newer.old) }
     {
@@ -316,8 +319,9 @@ impl Merge {
 
         // On any disk what was taken and what is left add up, and it is a quantum or all that was left, and less than one group more.
         ensures numbers { MergesOn geo.now (quantum_calls (N.run newer.old) geo.now.quantum) (TakesQuantum geo.now.quantum) (stage (progress self.old (N.run newer.old) (N.table newer.old)) space.old filter.old fences.old (D.state disk.old)) (stage (progress self.new (N.run newer.new) (N.table newer.new)) space.new filter.new fences.new (D.state disk.new)) result }
-        // What isn't on closed pages yet stays light.
-        ensures covers { Covers settles self.old (N.run newer.old) (N.table newer.old) → OnOk result (Covers settles self.new (N.run newer.new) (N.table newer.new)) }
+        // What isn't on closed pages yet stays light, and the key up to which all is on them never falls.
+        ensures covers { (total : ℕ) → Covers settles total self.old (N.run newer.old) (N.table newer.old)
+            → OnOk result (Covers settles total self.new (N.run newer.new) (N.table newer.new) × IsUpTo self.old.closed self.new.closed) }
         ensures kept { IsErr result → (self.new.at ≡ self.old.at) × (self.new.closed ≡ self.old.closed) × (self.new.left ≡ self.old.left)
             × (self.new.rest.behind ≡ self.old.rest.behind) }
         ensures same_table { N.table newer.new ≡ N.table newer.old }

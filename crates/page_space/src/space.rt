@@ -152,6 +152,17 @@ impl Space {
         pins.insert(u64::from(page));
     }
 
+    /// Whether a page has a role's tag; none has that isn't one of the map's.
+    pub fn has(&self, role: Role, page: u32) -> bool
+        ensures has { IsTrue result ↔ HasRole self.now role page }
+        ensures inside { IsTrue result → page < self.now.pages }
+    {
+        if page >= self.pages {
+            return false;
+        }
+        self.roles[role.number() as usize].has(u64::from(page))
+    }
+
     /// Drops all pins of a seat.
     pub fn unpin(&mut self, seat: u32)
         requires { seat < CALLERS }

@@ -255,6 +255,16 @@ fn part_at(rt: &impl Abort, guide: &Guide, number: u16, part: Component) {
     part_is(rt, guide, &THREE, &key_bytes(number), part);
 }
 
+// The fences of a part's pages: so many, from this page on.
+fn named_from(rt: &impl Abort, guide: &Guide, part: &Component, count: usize, first: u32) {
+    let fences = guide.fences.last_of(&THREE, part);
+    assert_same(rt, fences.len(), count);
+    match fences.first() {
+        Some(fence) => assert_same(rt, fence.page, first),
+        None => assert_same(rt, count, 0),
+    }
+}
+
 // The three pages from the second one on, and the last one.
 const TWO: Component = Component {
     first: 2,
@@ -285,6 +295,10 @@ fn the_part_that_may_have_a_key(rt: HostRuntime) {
     part_is(&rt, &guide, &THREE, b"l", LAST);
     part_is(&rt, &guide, &THREE, b"m", LAST);
     part_is(&rt, &guide, &no_component(), b"m", no_component());
+    named_from(&rt, &guide, &THREE, 3, THREE.first);
+    named_from(&rt, &guide, &TWO, 2, 2);
+    named_from(&rt, &guide, &LAST, 1, 9);
+    named_from(&rt, &guide, &no_component(), 0, 0);
     assert_same(&rt, walk(&rt, &mut disk, &geo, &TWO), (8, Ok(())));
     assert_same(&rt, walk(&rt, &mut disk, &geo, &LAST), (1, Ok(())));
 }

@@ -40,6 +40,7 @@ progress_of_pass snow a = record { writer = snow.writer; at = snow.at; newer = e
 abbrev pub IsPass : Sizes → List ℕ → SpaceState → SnowState → BitState → FencesState → List ℕ → Entries → Entries → Type 0
 IsPass sizes file space snow filter fences pages a c1 = IsMerging false sizes file space (merge_of snow) None a filter fences [] pages a c1
 
--- On any disk: what of table A was taken and isn't on closed pages weighs no more than the open page has.
-abbrev pub Covers : SnowState → Entries → Type 0
-Covers snow a = MergeCovers false (merge_of snow) None a
+-- On any disk: what of table A was taken and isn't on closed pages weighs no more than the open page has; and what was made and is left, or was left when
+-- the key of the closed pages was told, weighs no more than so much in all.
+abbrev pub Covers : ℕ → SnowState → Entries → Type 0
+Covers total snow a = MergeCovers false total (merge_of snow) None a

@@ -4,7 +4,7 @@ ghost use Rattle.std.specs.List.{Contains};
 ghost use Rattle.blsm_model.specs.Components.{empty_component};
 ghost use Rattle.blsm_model.specs.declared.key.Key.{Key};
 ghost use Rattle.blsm_model.specs.Keys.{key_cmp};
-ghost use Rattle.blsm_model.specs.Format.{least_weight, most_weight};
+ghost use Rattle.blsm_model.specs.Format.{least_full, least_weight, most_weight};
 ghost use Rattle.blsm_model.specs.Sizes.{Sizes};
 ghost use Rattle.blsm_model.specs.Geometry.{page_count, file_length};
 ghost use Rattle.bloom_bits.specs.BitSet.{BitState, cleared};
@@ -22,6 +22,7 @@ ghost use Rattle.page_file.specs.Component.{numbers_of, HasList};
 ghost use Rattle.page_file.specs.File.{Writes};
 ghost use Rattle.run_writer.specs.Writer.{IsInside, open_region};
 ghost use Rattle.merge_ends.specs.Merge.{finished_of};
+ghost use Rattle.merge_ends.specs.Output.{IsUpTo};
 ghost use Rattle.merge_ends.specs.Quantum.{IsNext, NoneAbove, IsQuantum};
 ghost use Rattle.merge_ends.specs.Progress.{IsRunning, MayGoOn, MergesOn, TakesGroup, TakesQuantum, left_to_take, stage};
 ghost use Rattle.snow_merge.specs.Pass.{started, Covers, IsPass, merge_of, progress_of_pass};
@@ -189,7 +190,7 @@ impl Snow {
         requires empty { c1.now.pages ≡ 0 → c1.now ≡ empty_component }
         requires bits { rounded bits ≤ filter.old.reserved }
         ensures started { result ≡ started role c1.now }
-        ensures covers { (a : Entries) → Covers result a }
+        ensures covers { (a : Entries) (total : ℕ) → entries_weight a + c1.now.weight ≤ total → Covers total result a }
         ensures running { (sizes : Sizes) (honest : Bool) (file : List ℕ) (space : SpaceState) → IsRunning sizes honest file space result.writer result.at (result.c1 ∷ []) filter.new fences.new }
         ensures reserves { KeepSized (rounded bits) filter.old filter.new fences.old fences.new }
         ensures filter { filter.new ≡ cleared filter.old.reserved (rounded bits) }
@@ -215,7 +216,8 @@ impl Snow {
     /// What is on closed pages of the run, which stay as they are, and up to which key: all that the pass took up to there. `None` where no page is
     /// closed.
     pub fn finished(&self) -> Option<Finished>
-        ensures { result ≡ finished_of (merge_of self.now) }
+        ensures finished { result ≡ finished_of (merge_of self.now) }
+        ensures full { IfSome result (λ done. least_full * done.output.pages ≤ done.output.weight) }
     {
         self.merge.finished()
     }
@@ -265,8 +267,8 @@ impl Snow {
         // On any disk what was taken and what is left add up, and it is a quantum or all that was left, and less than one group more. Each group
         // weighs 14 bytes at least, and makes two calls at most.
         ensures numbers { MergesOn geo.now (geo.now.quantum / 7 + 2) (TakesQuantum geo.now.quantum) (stage (progress_of_pass self.old a.now.entries) space.old filter.old fences.old (D.state disk.old)) (stage (progress_of_pass self.new a.now.entries) space.new filter.new fences.new (D.state disk.new)) result }
-        // What of the table was taken and isn't on closed pages yet weighs no more than a page.
-        ensures covers { Covers self.old a.now.entries → OnOk result (Covers self.new a.now.entries) }
+        // What of the table was taken and isn't on closed pages yet weighs no more than a page; and the key up to which all is on them never falls.
+        ensures covers { (total : ℕ) → Covers total self.old a.now.entries → OnOk result (Covers total self.new a.now.entries × IsUpTo self.old.closed self.new.closed) }
         ensures kept { IsErr result → self.new.at ≡ self.old.at }
     {
         let mut newer = InMemory { table: a };

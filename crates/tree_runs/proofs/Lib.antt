@@ -5,6 +5,7 @@ mod KeptMerges
 mod StayLemmas
 mod FinishedLemmas
 mod QuantumLemmas
+pub mod CoverLemmas
 pub mod ReleasedLemmas
 mod FindLemmas
 mod ToldLemmas
@@ -12,6 +13,9 @@ pub mod GuideLemmas
 pub mod BesideLemmas
 mod HoldLemmas
 mod PartLemmas
+mod SourceLemmas
+mod NamedPins
+mod FloorLemmas
 pub mod QuantaLemmas
 mod InstallLemmas
 mod CommitLemmas

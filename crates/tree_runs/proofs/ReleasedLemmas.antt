@@ -5,8 +5,8 @@ use Rattle.std.proofs.lemmas.Bool.Decides.{nat_tests}
 use Rattle.std.proofs.Common.{◌≡◌, ◌∙◌, Bool, cond, true, false, not, refl, ap, sym, subst, arith}
 use Rattle.std.proofs.lemmas.Cmp.{nat_list_cmp_total, tied_itself}
 use Rattle.std.proofs.lemmas.List.{append-nil}
-use Rattle.std.proofs.lemmas.List.Elements.{All-cons, All-nil}
-use Rattle.std.specs.List.{AllByRecursion}
+use Rattle.std.proofs.lemmas.List.Elements.{All-cons, All-nil, Contains-append_left}
+use Rattle.std.specs.List.{AllByRecursion, Contains}
 use Rattle.std.specs.List.Sorted.{IsStrictlySortedBy}
 use Rattle.std.specs.Ordering.{is_eq, is_lt, ordering_reverse}
 use Rattle.std.specs.declared.cmp.Ordering.TheVariants.{Less}
@@ -16,15 +16,15 @@ use Rattle.blsm_model.specs.Keys.{key_cmp}
 use Rattle.blsm_model.specs.Sizes.{Sizes}
 use Rattle.bloom_bits.specs.declared.fences.Fence.{Fence}
 use Rattle.bloom_bits.specs.Fences.{IsBelowAll}
-use Rattle.bloom_bits.specs.Guides.{fences_of}
+use Rattle.bloom_bits.specs.Guides.{Guide, fences_of}
 use Rattle.catalog_swap.specs.declared.catalog.Catalog.{Catalog}
 use Rattle.record_delta.specs.declared.record.Rec.{Rec}
 use Rattle.record_delta.specs.Entries.{AreSorted, Entries, above, folded_over, is_above, over_any, record_of_key, replayed, up_to}
-use Rattle.page_space.specs.Space.{SpaceState}
-use Rattle.page_file.specs.Component.{RunPage, ReadsAs, ReadsOn, entries_of}
+use Rattle.page_space.specs.Space.{SpaceState, HasRole}
+use Rattle.page_file.specs.Component.{RunPage, ReadsAs, ReadsOn, entries_of, numbers_of}
 use Rattle.page_file.specs.Entry.{AreRising, keys_of}
 use Rattle.page_file.proofs.ComponentLemmas.{entries_join}
-use Rattle.run_writer.specs.Run.{page_of}
+use Rattle.run_writer.specs.Run.{open_number, page_of}
 use Rattle.run_writer.specs.Writer.{closed_of}
 use Rattle.run_writer.proofs.ClosedLemmas.{closed_are, closed_reads}
 use Rattle.merge_ends.specs.declared.finished.Finished.{Finished}
@@ -33,9 +33,10 @@ use Rattle.tree_machine.proofs.FoldLemmas.{by_test, equal_of, find-folded_over, 
 use Rattle.tree_machine.proofs.CursorLemmas.{below_or_above, find-ahead, less_trans}
 use Rattle.tree_machine.proofs.WriteLemmas.{find-behind, sorted_behind}
 use Rattle.tree_file.specs.Tree.{Tree, HoldsTree}
-use Rattle.tree_runs.specs.Runs.{GuideState, RunsState, finished_by_pass, front_of, guide_at, released_by}
+use Rattle.tree_runs.specs.Runs.{GuideState, PassHasTag, RunsState, finished_by_pass, front_of, guide_at, released_by}
 use Rattle.tree_runs.specs.Holding.{AreGuided, IsGuidedBy, IsPassOver}
 use Rattle.tree_runs.specs.Lookups.{HasRecord, IsFloorOf, IsReleased, first_record, first_run, first_tag}
+use Rattle.tree_runs.proofs.BesideLemmas.{pass_has_it, tag_of_pass}
 
 -- ---- the key that is told
 
@@ -49,7 +50,7 @@ closed_by true None output next left floor is = absurd (cc is)
 closed_by false closed output next left floor is = absurd (cc is)
 
 -- it is the one up to which all is on closed pages, and these are told
-released_is : (snow : SnowState) (floor : Key) → released_by (Some snow) ≡ Some floor
+pub released_is : (snow : SnowState) (floor : Key) → released_by (Some snow) ≡ Some floor
     → (snow.closed ≡ Some floor) × (front_of (finished_by_pass (Some snow)) ≡ closed_of snow.writer)
 released_is snow floor is = closed_by (nat_lt 1 snow.writer.component.pages) snow.closed (closed_of snow.writer) snow.writer.number snow.left floor is
 
@@ -59,7 +60,7 @@ behind_of : (b : Bool) (n o : Option Rec) → over_any (cond (not b) n None) (co
 behind_of b n o = grind (arith, common_steps, nat_tests)
 
 -- what comes of both lists up to a key has the record of each key up to it
-find_fold : (at : Option Key) (newer older : Entries) → AreSorted newer → (key : Key)
+pub find_fold : (at : Option Key) (newer older : Entries) → AreSorted newer → (key : Key)
     → record_of_key key (folded_over (up_to at newer) (up_to at older))
     ≡ cond (is_above at key) None (over_any (record_of_key key newer) (record_of_key key older))
 find_fold at newer older sorted key =
@@ -132,12 +133,24 @@ below_open floor key number (e ∷ es) up all =
 
 -- ---- the finished pages
 
-module _ (sizes : Sizes) (file : List ℕ) (space : SpaceState) (guide : GuideState) (floor key : Key) (a : Entries) (c1 : List RunPage)
-    (up : is_above (Some floor) key ≡ false) where
-  front_has : (pass : Option SnowState) → released_by pass ≡ Some floor → IsPassOver sizes file space guide pass a c1
-      → HasRecord sizes (front_of (finished_by_pass pass)) guide key file (over_any (record_of_key key a) (record_of_key key (entries_of c1)))
-  front_has None is over = absurd (cc is)
-  front_has (Some snow) is over =
+-- In this file they read as what comes of both lists up to the floor, and go on; filter and fences are those of them and of pages behind, which begin with
+-- keys above the floor. They have the tag.
+pub record HasFinishedPages (sizes : Sizes) (file : List ℕ) (space : SpaceState) (tag : ℕ) (guide : GuideState) (floor : Key) (a c1 : Entries) (run : Component) : Type 0 where
+  pub pages : List RunPage
+  pub behind : List RunPage
+  pub next : ℕ
+  pub reads : ReadsOn sizes run pages (Some next) file
+  pub guide_is : Guide guide.filter guide.fences (pages ++ behind)
+  pub below : (key : Key) → is_above (Some floor) key ≡ false → IsBelowAll key (fences_of behind)
+  pub entries_are : entries_of pages ≡ folded_over (up_to (Some floor) a) (up_to (Some floor) c1)
+  pub sorted : AreSorted a
+  pub tagged : (n : ℕ) → Contains (numbers_of pages) n → HasRole space tag n
+
+module _ (sizes : Sizes) (file : List ℕ) (space : SpaceState) (guide : GuideState) (floor : Key) (a : Entries) (c1 : List RunPage) where
+  pub finished_pages : (tag : ℕ) (pass : Option SnowState) → PassHasTag tag pass → released_by pass ≡ Some floor → IsPassOver sizes file space guide pass a c1
+      → HasFinishedPages sizes file space tag guide floor a (entries_of c1) (front_of (finished_by_pass pass))
+  finished_pages tag None has_tag is over = absurd (cc is)
+  finished_pages tag (Some snow) has_tag is over =
       let told = released_is snow floor is in
       let out = over.run.out in
       let has = over.run.pushed in
@@ -151,15 +164,32 @@ module _ (sizes : Sizes) (file : List ℕ) (space : SpaceState) (guide : GuideSt
       record {
         pages = run.closed;
         behind = page_of run.number run.entries;
-        next = Some snow.writer.number;
+        next = snow.writer.number;
         reads = subst (λ (c : Component). ReadsOn sizes c run.closed (Some snow.writer.number) file) (sym told.1)
             (closed_reads sizes true file space snow.writer guide.filter guide.fences out has refl);
-        guided = λ some. has.guide;
-        below = below_open floor key run.number run.entries up
+        guide_is = has.guide;
+        below = λ key up. below_open floor key run.number run.entries up
             (λ e more is_more. beyond (Some floor) snow.at a (entries_of c1) (entries_of run.closed) more e over.newer_is.0
             (subst (λ (es : Entries). AreRising (entries_of run.closed ++ es)) is_more rise) front
             (ap (λ (es : Entries). entries_of run.closed ++ es) (sym is_more) ∙ all));
-        found_is = sym (ap (record_of_key key) front ∙ find_fold (Some floor) a (entries_of c1) over.newer_is.0 key
+        entries_are = front;
+        sorted = over.newer_is.0;
+        tagged = λ n among. subst (λ (r : ℕ). HasRole space r n) has_tag
+            (has.tagged n (Contains-append_left (numbers_of run.closed) (open_number run.closed run.number run.entries) n among));
+      }
+
+  front_has : (key : Key) → is_above (Some floor) key ≡ false → (pass : Option SnowState) → released_by pass ≡ Some floor → IsPassOver sizes file space guide pass a c1
+      → HasRecord sizes (front_of (finished_by_pass pass)) guide key file (over_any (record_of_key key a) (record_of_key key (entries_of c1)))
+  front_has key up pass is over =
+      let has = finished_pages (tag_of_pass pass) pass (pass_has_it pass) is over in
+      record {
+        pages = has.pages;
+        behind = has.behind;
+        next = Some has.next;
+        reads = has.reads;
+        guided = λ some. has.guide_is;
+        below = has.below key up;
+        found_is = sym (ap (record_of_key key) has.entries_are ∙ find_fold (Some floor) a (entries_of c1) has.sorted key
             ∙ ap (λ (b : Bool). cond b None (over_any (record_of_key key a) (record_of_key key (entries_of c1)))) up);
       }
 
@@ -199,7 +229,7 @@ first_has runs floor key tree file holds now guided = by floor
         (cond b (record_of_key key (entries_of tree.c1)) (over_any (record_of_key key list) (record_of_key key (entries_of tree.c1))))
     by_order low true is of = c1
     by_order low false is of =
-        front_has runs.sizes file runs.space (guide_at runs.guides runs.tags.pass) low key list tree.c1 is runs.pass of.floor_is of.over
+        front_has runs.sizes file runs.space (guide_at runs.guides runs.tags.pass) low list tree.c1 key is runs.pass of.floor_is of.over
 
     by : (low : Option Key) → IsFloorOf low runs tree file
         → HasRecord runs.sizes (first_run low key runs) (guide_at runs.guides (first_tag low key runs)) key file

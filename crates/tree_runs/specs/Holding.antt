@@ -1,6 +1,6 @@
 -- What the components and merges of a tree are on an honest disk, whose file holds the tree.
-use Rattle.std.specs.Prelude.{◌≡◌, ◌≢◌, ◌⊎◌, ⊤, ℕ, Bool, IsTrue, ◌+◌, List, [], ◌∷◌, Option, Some, None, Result, Ok, Err, OnOk, if◌then◌else◌, nat_le}
-use Rattle.std.specs.Prelude.{◌-◌, ◌<◌, ◌^◌, min, nat_eq, option_map}
+use Rattle.std.specs.Prelude.{◌≡◌, ◌≢◌, ◌↔◌, ◌⊎◌, ⊤, ℕ, Bool, IsTrue, ◌+◌, List, [], ◌∷◌, Option, Some, None, Result, Ok, Err, OnOk, if◌then◌else◌, nat_le}
+use Rattle.std.specs.Prelude.{◌-◌, ◌<◌, ◌≤◌, ◌^◌, length, map, min, nat_eq, nat_lt, option_map, true, false}
 use Rattle.std.specs.List.{Contains}
 use Rattle.disk_trait.specs.Region.{Region, span}
 use Rattle.disk_trait.specs.Disk.{DiskState, TellsFaultsBy}
@@ -8,20 +8,21 @@ use Rattle.disk_trait.specs.Effects.{Affects}
 use Rattle.disk_trait.specs.Moments.{LeavesOnly}
 use Rattle.blsm_model.specs.Sizes.{Sizes}
 use Rattle.blsm_model.specs.Components.{empty_component}
-use Rattle.blsm_model.specs.Geometry.{c1_mark, file_length}
+use Rattle.blsm_model.specs.Geometry.{c1_mark, capacity, file_length}
 use Rattle.blsm_model.specs.Lanes.{a_of, b_of, spare_of}
 use Rattle.blsm_model.specs.declared.key.Key.{Key}
 use Rattle.blsm_model.specs.declared.component.Component.{Component}
 use Rattle.gated_log.specs.Lane.{no_lane}
 use Rattle.catalog_swap.specs.declared.catalog.Catalog.{Catalog}
 use Rattle.catalog_swap.specs.declared.catalog.Progress.{Progress}
-use Rattle.record_delta.specs.Entries.{Entries, above, folded_over, replayed, settled_entries}
-use Rattle.page_space.specs.Space.{SpaceState, HasRole, IsFree, KeepsOtherPins}
+use Rattle.record_delta.specs.Entries.{Entries, above, folded_over, is_above, replayed, settled_entries}
+use Rattle.page_space.specs.Space.{SpaceState, HasRole, IsFree, IsPinnedBy, IsSpace, KeepsOtherPins, pin_size, role_size}
 use Rattle.page_file.specs.declared.file.Broken.{Broken}
 use Rattle.page_file.specs.declared.file.Broken.TheVariants.{Fault, Damaged}
 use Rattle.page_file.specs.Component.{RunPage, entries_of, numbers_of}
 use Rattle.run_cursor.specs.Lookup.{IsGuided}
-use Rattle.bloom_bits.specs.Parts.{IsPartFrom}
+use Rattle.bloom_bits.specs.declared.fences.Fence.{Fence}
+use Rattle.bloom_bits.specs.Parts.{IsPartFrom, last_fences}
 use Rattle.scan_view.specs.Hold.{HoldState, held_from}
 use Rattle.scan_view.specs.Pins.{Pins, beside_pins}
 use Rattle.catalog_swap.specs.Slots.{slot_of, slot_length}
@@ -36,7 +37,7 @@ use Rattle.snow_merge.specs.Pass.{SnowState, IsPass, progress_of_pass}
 use Rattle.deep_merge.specs.Merge.{DeepState, IsMerge, merge_of, progress_of_deep, started as deep_started}
 use Rattle.tree_file.specs.Tree.{Tree, HoldsTree}
 use Rattle.tree_file.specs.Places.{StandsOn, HoldsEither, StandsOnEither}
-use Rattle.tree_runs.specs.Runs.{GuideState, RunsState, Tags, AreRunning, deep_bits, emptied, fences_of_tag, guide_at, made_by_pass, made_by_deep}
+use Rattle.tree_runs.specs.Runs.{GuideState, RunsState, Tags, AreRunning, PassCovers, deep_bits, emptied, fences_of_tag, finished_by_pass, front_of, guide_at, made_by_pass, made_by_deep}
 
 -- each of these pages has the tag
 abbrev pub AreTagged : SpaceState → ℕ → List RunPage → Type 0
@@ -199,10 +200,6 @@ pub record Repins (seat : ℕ) (old new : RunsState) : Type 0 where
   pub roles : new.space.roles ≡ old.space.roles
   pub pages : new.space.pages ≡ old.space.pages
 
--- The seat pins just the pages of the components, and none that it pinned before. Nothing else of the map has changed.
-abbrev pub PinsComponents : ℕ → RunsState → RunsState → Type 0
-PinsComponents seat old new = Pins seat old.tags.c1 old.tags.c1x old.tags.c2 old.space new.space
-
 -- a quantum of the pass took so much, by the numbers, or as the lists have it
 abbrev pub PassTakes : ℕ → Option SnowState → Option SnowState → Entries → ℕ → Type 0
 PassTakes least (Some old) (Some new) a n = TakesQuantum least (progress_of_pass old a) (progress_of_pass new a) n
@@ -294,12 +291,85 @@ pub record LeavesSwapped (old new : RunsState) (one next : Tree) (done : Bool) (
 
 -- ---- holds
 
--- The hold of these lists and components of a range from low on: of each component it has the part from the page on that the fences name for low.
-pub record IsHeldFrom (runs : RunsState) (low high : Key) (b a : Entries) (hold : HoldState) : Type 0 where
+-- A hold of the components, or of what a pass has finished in place of a part of C1, has no more pages than a seat may pin: what was finished and what was
+-- left of C1 then, C1' and C2 weigh no more than the capacity.
+pub record HoldFits (runs : RunsState) (a : Entries) : Type 0 where
+  pub live : runs.catalogue.c1.weight + runs.catalogue.c1x.weight + runs.catalogue.c2.weight ≤ capacity runs.sizes
+  pub total : ℕ
+  pub covers : PassCovers total runs.pass a
+  pub room : total + runs.catalogue.c1x.weight + runs.catalogue.c2.weight ≤ capacity runs.sizes
+
+-- Of C1 the part from the page on that had the head of the pass's cursor when the key of the finished pages was told: what C1 has above that key is there.
+-- It counts where table A was dropped.
+abbrev pub part_behind : Option Key → Option SnowState → Option Component
+part_behind None pass = None
+part_behind (Some floor) None = None
+part_behind (Some floor) (Some snow) = Some snow.rest.behind
+
+-- Of two parts that both end where their component does, the one that begins later. One without pages is the empty component.
+abbrev pub later_part : Component → Option Component → Component
+later_part part None = part
+later_part part (Some behind) = if nat_lt behind.pages part.pages then (if nat_eq behind.pages 0 then empty_component else behind) else part
+
+-- What is read up to the floor in place of C1: of the pass's finished pages the part from the page on that the fences name for low. None is read where low
+-- is above the floor.
+abbrev pub IsFrontFrom : RunsState → Option Key → Key → Component → Type 0
+IsFrontFrom runs floor low front =
+    ((is_above floor low ≡ true) × (front ≡ empty_component))
+    ⊎ ((is_above floor low ≡ false) × IsPartFrom low (fences_of_tag runs runs.tags.pass).list (front_of (finished_by_pass runs.pass)) front)
+
+-- And what is read of C1: the part from the page on that the fences name for low; or that behind the finished pages, where this begins later.
+abbrev pub IsOlderFrom : RunsState → Option Key → Key → Component → Type 0
+IsOlderFrom runs floor low c1 =
+    (part : Component) × IsPartFrom low (fences_of_tag runs runs.tags.c1).list runs.catalogue.c1 part × (c1 ≡ later_part part (part_behind floor runs.pass))
+
+-- The hold of these lists and components of a range from low on, where table A was dropped up to the floor: of C1' and C2 it has the parts from the page on
+-- that the fences name for low.
+pub record IsHeldFrom (runs : RunsState) (floor : Option Key) (low high : Key) (b a : Entries) (hold : HoldState) : Type 0 where
+  pub front : Component
   pub c1 : Component
   pub c1x : Component
   pub c2 : Component
-  pub of_c1 : IsPartFrom low (fences_of_tag runs runs.tags.c1).list runs.catalogue.c1 c1
+  pub of_front : IsFrontFrom runs floor low front
+  pub of_c1 : IsOlderFrom runs floor low c1
   pub of_c1x : IsPartFrom low (fences_of_tag runs runs.tags.c1x).list runs.catalogue.c1x c1x
   pub of_c2 : IsPartFrom low (fences_of_tag runs runs.tags.c2).list runs.catalogue.c2 c2
-  pub hold_is : hold ≡ held_from low high b a empty_component None c1 c1x c2
+  pub hold_is : hold ≡ held_from low high b a front floor c1 c1x c2
+
+-- ---- what a hold pins
+
+-- one of these fences names the page, and it has the tag
+abbrev pub IsNamed : SpaceState → ℕ → List Fence → ℕ → Type 0
+IsNamed space tag fences page = Contains (map (λ f. f.page) fences) page × HasRole space tag page
+
+-- The seat pins, beside what it pinned, just the pages with this tag that these fences name.
+pub record PinsNamed (seat tag : ℕ) (fences : List Fence) (old new : SpaceState) : Type 0 where
+  pub others : KeepsOtherPins seat old new
+  pub roles : new.roles ≡ old.roles
+  pub pages : new.pages ≡ old.pages
+  pub shape : IsSpace new
+  pub pinned : (page : ℕ) → IsPinnedBy new seat page ↔ (IsPinnedBy old seat page ⊎ IsNamed old tag fences page)
+  pub freed : (page : ℕ) → IsFree new page → IsFree old page
+  pub size : pin_size new seat ≤ pin_size old seat + length fences
+
+-- The page is one of C1' or C2; or the fences name it as one of this part of the finished pages, or of this part of C1, and it has the tag of these.
+abbrev pub IsOfParts : RunsState → (front c1 : Component) → ℕ → Type 0
+IsOfParts runs front c1 page =
+    (HasRole runs.space runs.tags.c1x page ⊎ HasRole runs.space runs.tags.c2 page)
+    ⊎ (IsNamed runs.space runs.tags.pass (last_fences (front_of (finished_by_pass runs.pass)) front (fences_of_tag runs runs.tags.pass).list) page
+    ⊎ IsNamed runs.space runs.tags.c1 (last_fences runs.catalogue.c1 c1 (fences_of_tag runs runs.tags.c1).list) page)
+
+-- The seat pins just these, and none that it pinned before. Nothing else of the map has changed.
+pub record PinsParts (seat : ℕ) (front c1 : Component) (runs : RunsState) (new : SpaceState) : Type 0 where
+  pub others : KeepsOtherPins seat runs.space new
+  pub roles : new.roles ≡ runs.space.roles
+  pub pages : new.pages ≡ runs.space.pages
+  pub shape : IsSpace new
+  pub pinned : (page : ℕ) → IsPinnedBy new seat page ↔ IsOfParts runs front c1 page
+  pub freed : (page : ℕ) → IsFree new page → IsFree runs.space page ⊎ IsPinnedBy runs.space seat page
+  pub size : pin_size new seat ≤ role_size runs.space runs.tags.c1x + role_size runs.space runs.tags.c2 + front.pages + c1.pages
+
+-- What a hold pins: the pages of C1, C1' and C2; or, where table A was dropped, those of C1' and C2, and of what it reads of the finished pages and of C1.
+abbrev pub PinsFor : Option Key → ℕ → (front c1 : Component) → RunsState → SpaceState → Type 0
+PinsFor None seat front c1 runs new = Pins seat runs.tags.c1 runs.tags.c1x runs.tags.c2 runs.space new
+PinsFor (Some floor) seat front c1 runs new = PinsParts seat front c1 runs new

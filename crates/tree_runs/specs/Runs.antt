@@ -21,7 +21,7 @@ use Rattle.merge_ends.specs.Progress.{IsRunning, left_to_take}
 use Rattle.merge_ends.specs.declared.finished.Finished.{Finished}
 use Rattle.scan_view.specs.Pins.{IsUnpinned}
 use Rattle.snow_merge.specs.Pass as pass
-use Rattle.snow_merge.specs.Pass.{SnowState, progress_of_pass}
+use Rattle.snow_merge.specs.Pass.{SnowState, Covers, progress_of_pass}
 use Rattle.deep_merge.specs.Merge as deep
 use Rattle.deep_merge.specs.Merge.{DeepState, progress_of_deep, taken_up}
 use Rattle.tree_runs.specs.declared.resumable.Resumable.{Resumable}
@@ -199,6 +199,12 @@ left_for_pass (Some snow) a = left_to_take (progress_of_pass snow a)
 abbrev pub left_for_deep : Option DeepState → ℕ
 left_for_deep None = 0
 left_for_deep (Some merge) = left_to_take (progress_of_deep merge)
+
+-- On any disk: what a pass took of this table and isn't on finished pages weighs no more than a page; and what was made and is left, or was left when the
+-- key of the finished pages was told, weighs no more than so much in all.
+abbrev pub PassCovers : ℕ → Option SnowState → Entries → Type 0
+PassCovers total None a = ⊤
+PassCovers total (Some snow) a = Covers total snow a
 
 -- the pages in use by the components and the runs
 abbrev pub pages_in_use : RunsState → ℕ

@@ -1,5 +1,6 @@
 //! Lookups in the components.
-ghost use Rattle.std.specs.Prelude.{◌≡◌, ◌≢◌, ◌+◌, ◌↔◌, ℕ, Option, Some, Ok, Err, length, IsTrue, IfOk};
+ghost use Rattle.std.specs.Prelude.{◌≡◌, ◌≢◌, ◌+◌, ◌*◌, ◌≤◌, ◌↔◌, ℕ, Option, Some, Ok, Err, length, IsTrue, IfOk, IfSome};
+ghost use Rattle.blsm_model.specs.Format.{least_full};
 ghost use Rattle.blsm_model.specs.Geometry.{file_length};
 ghost use Rattle.record_delta.specs.Entries.{is_above as is_above_key, over_any, record_of_key};
 ghost use Rattle.page_space.specs.Space.{role_count};
@@ -8,7 +9,7 @@ ghost use Rattle.page_file.specs.File.{Reads};
 ghost use Rattle.record_delta.specs.declared.record.Rec.{Rec};
 ghost use Rattle.run_cursor.specs.Lookup.{IsDamaged};
 ghost use Rattle.tree_file.specs.Tree.{Tree, HoldsTree};
-ghost use Rattle.tree_runs.specs.Runs.{AreRuns, fences_of_tag, filter_of, finished_by_pass, front_of, guide_at};
+ghost use Rattle.tree_runs.specs.Runs.{AreRuns, fences_of_tag, filter_of, finished_by_pass, front_of, guide_at, released_by};
 ghost use Rattle.tree_runs.specs.Holding.{AreGuided};
 ghost use Rattle.tree_runs.specs.Lookups.{AreAsked, AreToldBy, CountsYes, HasRecord, HidesOlder, IsDamageBelow, IsFloorOf, IsToldBy, found_by};
 ghost use Rattle.tree_runs.specs.Lookups.{first_record, first_run, first_tag, from_newest};
@@ -41,7 +42,7 @@ fn hides_older(found: &Option<Rec>) -> bool
 }
 
 // Whether a key is above a floor.
-fn is_above(floor: &Option<Key>, key: &Key) -> bool
+pub(crate) fn is_above(floor: &Option<Key>, key: &Key) -> bool
     ensures { result ≡ is_above_key floor.now key.now }
 {
     match floor {
@@ -116,8 +117,9 @@ impl Runs {
 
     // The pages that the pass has finished. It stays a call, as a function zeroes all its locals at entry, and most keys are above the floor.
     #[inline(never)]
-    fn front(&self) -> Component
-        ensures { result ≡ front_of (finished_by_pass self.now.pass) }
+    pub(crate) fn front(&self) -> Component
+        ensures front { result ≡ front_of (finished_by_pass self.now.pass) }
+        ensures full { least_full * result.pages ≤ result.weight }
     {
         match self.finished() {
             Some(done) => done.output,
@@ -125,9 +127,20 @@ impl Runs {
         }
     }
 
+    /// The key up to which all that the pass took is on pages that it has finished. `None` where no page is, or no pass runs.
+    pub fn released(&self) -> Option<Key>
+        ensures { result ≡ released_by self.now.pass }
+    {
+        match self.finished() {
+            Some(done) => Some(done.key),
+            None => None,
+        }
+    }
+
     // What the pass has finished of its run, where a page of it is closed.
     fn finished(&self) -> Option<Finished>
-        ensures { result ≡ finished_by_pass self.now.pass }
+        ensures finished { result ≡ finished_by_pass self.now.pass }
+        ensures full { IfSome result (λ done. least_full * done.output.pages ≤ done.output.weight) }
     {
         match &self.merges.pass {
             Some(snow) => snow.finished(),

@@ -1,10 +1,11 @@
 //! Quanta of the merges.
-ghost use Rattle.std.specs.Prelude.{◌≡◌, ⊤, ◌+◌, ◌/◌, length, IsTrue, IsErr, IsSome, IfOk, OnOk};
+ghost use Rattle.std.specs.Prelude.{◌≡◌, ⊤, ◌+◌, ◌/◌, ℕ, length, IsTrue, IsErr, IsSome, IfOk, OnOk};
 ghost use Rattle.disk_trait.specs.Effects.{Affects};
 ghost use Rattle.blsm_model.specs.Geometry.{file_length};
 ghost use Rattle.record_delta.specs.Entries.{replayed};
 ghost use Rattle.page_file.specs.Component.{entries_of};
-ghost use Rattle.tree_runs.specs.Runs.{AreRunning, Fits};
+ghost use Rattle.merge_ends.specs.Output.{IsUpTo};
+ghost use Rattle.tree_runs.specs.Runs.{AreRunning, Fits, PassCovers, released_by};
 ghost use Rattle.tree_runs.specs.Damage.{PassMeetsDamage, DeepMeetsDamage};
 ghost use Rattle.tree_runs.specs.Writing.{region_of_pass, region_of_deep};
 ghost use Rattle.tree_runs.specs.Holding.{CountsMore, HasAllAhead, KeepsAllButPass, KeepsAllButDeep, PassTakes, PassTook, DeepTakes, DeepTook};
@@ -35,6 +36,9 @@ impl Runs {
             (self.old.sizes.quantum / 7 + 2) (D.state disk.old) (D.state disk.new) }
         // On any disk what was taken and what is left add up, and it is a quantum or all that was left.
         ensures takes { IfOk result (PassTakes self.old.sizes.quantum self.old.pass self.new.pass a.now.entries) }
+        // What was taken and isn't on finished pages stays light, and the key up to which all is on them never falls.
+        ensures covers { (total : ℕ) → PassCovers total self.old.pass a.now.entries
+            → OnOk result (PassCovers total self.new.pass a.now.entries × IsUpTo (released_by self.old.pass) (released_by self.new.pass)) }
         ensures kept { IsErr result → cursor_of_pass self.new.pass ≡ cursor_of_pass self.old.pass }
         ensures runs { IsSome self.new.pass }
         ensures others { KeepsAllButPass self.old self.new }

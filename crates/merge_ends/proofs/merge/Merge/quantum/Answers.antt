@@ -13,7 +13,7 @@ loop-taken-init g c = record {
   quantum = c.quantum-quantum.ensures.value;
   same_kind = refl;
   same_table = refl;
-  covers = λ covers. covers;
+  covers = λ total covers. (covers, λ key is. is);
   calls = omega arith;
   numbers =
       merged_start c.args.geo.now (quantum_calls (g.N.Newer.run c.args.newer.now) c.args.geo.now.quantum) (stage (progress c.args.self.now (g.N.Newer.run c.args.newer.now) (g.N.Newer.table c.args.newer.now)) c.args.space.now c.args.filter.now c.args.fences.now (g.D.Disk.state c.args.disk.now)) (g.met.D.Disk.timed c.args.disk.now)
@@ -77,7 +77,10 @@ loop-taken-preserved g c =
       quantum = inv.quantum;
       same_kind = c.step.ensures.same_kind ∙ inv.same_kind;
       same_table = c.step.ensures.same_table ∙ inv.same_table;
-      covers = λ covers. c.in-Ok.ensures.covers (inv.covers covers);
+      covers = λ total covers.
+          let was = inv.covers total covers in
+          let now = c.in-Ok.ensures.covers total was.0 in
+          (now.0, λ key is. was.1 key (now.1 key is));
       calls = spent_more input c.loop-taken.taken c.in-Ok.weight (g.D.Disk.state c.args.disk.now).clock (g.D.Disk.state c.loop-taken.disk).clock (g.D.Disk.state c.step.new.disk).clock (some_weight c.in-Ok.weight on.takes.some c.if-weight-eq0.false) inv.calls more;
       numbers = merged_more inv.numbers (g.met.D.Disk.timed c.loop-taken.disk) (spent_all input c.loop-taken.taken c.args.geo.now.quantum (g.D.Disk.state c.args.disk.now).clock (g.D.Disk.state c.loop-taken.disk).clock (g.D.Disk.state c.step.new.disk).clock few inv.calls more) few on;
       lists = λ overs unders over under honest merging.
@@ -98,4 +101,7 @@ returns-clause-lists g c = λ overs unders over under honest merging other.
     (c.loop-taken.taken, refl, was.0, record { has_taken = was.1; enough = inl (omega (arith, c.loop-taken.invariant.quantum)) })
 
 pub returns-then-weight-eq0-clause-covers : goal.returns-then-weight-eq0-clause-covers
-returns-then-weight-eq0-clause-covers g c = λ covers. c.in-Ok.ensures.covers (c.loop-taken.invariant.covers covers)
+returns-then-weight-eq0-clause-covers g c = λ total covers.
+    let was = c.loop-taken.invariant.covers total covers in
+    let now = c.in-Ok.ensures.covers total was.0 in
+    (now.0, λ key is. was.1 key (now.1 key is))

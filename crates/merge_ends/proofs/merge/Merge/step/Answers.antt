@@ -1,5 +1,5 @@
 use Rattle.std.specs.Prelude.{IfSome}
-use Rattle.std.proofs.Common.{rules, ◌≡◌, ◌∙◌, ◌+◌, ◌*◌, ◌≤◌, ◌⊎◌, ℕ, IsTrue, Bool, true, List, [], ◌∷◌, ◌++◌, Option, Some, None, Ok, Err, Result, length, refl, ap, sym, subst, inl, inr, arith}
+use Rattle.std.proofs.Common.{false, rules, ◌≡◌, ◌∙◌, ◌+◌, ◌*◌, ◌≤◌, ◌⊎◌, ℕ, IsTrue, Bool, true, List, [], ◌∷◌, ◌++◌, Option, Some, None, Ok, Err, Result, length, refl, ap, sym, subst, inl, inr, arith}
 use Rattle.std.proofs.lemmas.Result.{err_from_is_err_and}
 use Rattle.refusal.specs.Count.{HasRisen}
 use Rattle.disk_trait.proofs.ReadLemmas.{only_reads_same}
@@ -21,14 +21,14 @@ use Rattle.record_delta.specs.Records.{weight}
 use Rattle.merge_ends.specs.Input.{IsInput, left_in}
 use Rattle.merge_ends.specs.Merge.{MergeState, Covers, IsMerging, group_calls, progress}
 use Rattle.merge_ends.specs.Newer.{at_hand, component_left, components_above, cursors_with, newer_calls, newer_left, IsNewer}
-use Rattle.merge_ends.specs.Output.{HasRun, has_turned, kept}
+use Rattle.merge_ends.specs.Output.{IsUpTo, HasRun, has_turned, kept}
 use Rattle.merge_ends.specs.Quantum.{Counts, IsNext, NoneAbove, Grows}
 use Rattle.merge_ends.specs.Progress.{MayGoOn, MergesOn, TakesGroup, stage, pages_ahead}
 use Rattle.merge_ends.proofs.GroupLemmas.{behind_group, end_left, first_none, group_none, head_is, input_further, older_stays}
 use Rattle.merge_ends.proofs.InputLemmas.{input_kept}
 use Rattle.merge_ends.proofs.KeptLemmas.{kept_more, ends_kept}
-use Rattle.merge_ends.proofs.MergeLemmas.{begun_more, begun_read, closed_is_more, closed_up_more, gave_less, group_taken, light_more, still_table}
-use Rattle.merge_ends.proofs.LeftLemmas.{component_few, component_less, components_are, left_behind_is, left_covers, left_small, part_covers, part_told, same_above, same_left}
+use Rattle.merge_ends.proofs.MergeLemmas.{begun_more, begun_read, closed_is_more, closed_onward, closed_up_more, gave_less, group_taken, light_more, still_table}
+use Rattle.merge_ends.proofs.LeftLemmas.{closed_turned, component_few, component_less, components_are, left_behind_is, left_covers, left_small, made_more, more_pages, pages_begun, part_covers, part_told, same_above, same_left, table_less, told_more, weighs_something}
 use Rattle.merge_ends.proofs.NewerLemmas.{behind_both, counts_read, counts_written, group_is, newer_behind, newer_damage, newer_end, newer_first, newer_further, newer_kept, newer_less, newer_sorted, older_damage, ready_behind}
 use Rattle.merge_ends.proofs.OutputLemmas.{rising_more, turned_behind}
 use Rattle.merge_ends.proofs.ProgressLemmas.{takes_nothing, takes_group, told_ok, told_err, fault_is, not_both, calm_of, damage_is}
@@ -457,27 +457,45 @@ returns-clause-lists g c = λ overs unders over under honest merging other.
 -- ---- the closed pages
 
 pub returns-in_default-clause-covers : goal.returns-in_default-clause-covers
-returns-in_default-clause-covers g c = λ covers.
+returns-in_default-clause-covers g c = λ total covers.
     let inside = c.self.inside in
-    let old = subst (λ (s : MergeState). Covers c.args.settles s (g.N.Newer.run c.args.newer.now) (g.N.Newer.table c.args.newer.now)) (sym c.self.view_is) covers in
-    record {
-      up = old.up;
-      light = λ plain none.
-          subst (λ (l : Entries). entries_weight (above inside.closed l) ≤ entries_weight (above inside.at l) + length inside.writer.buffer.text) (sym c.go_above.ensures.same_table)
-          (old.light plain (still_table (g.N.Newer.run c.args.newer.now) (g.N.Newer.run c.go_above.new.self) c.go_above.ensures.same_kind none));
-      left = λ some.
-          omega (
-            arith,
-            old.left some,
-            c.in_ok-walk_above.ensures.ready.1,
-            same_left inside.at (g.N.Newer.run c.args.newer.now) (g.N.Newer.run c.go_above.new.self) (g.N.Newer.table c.args.newer.now) (g.N.Newer.table c.go_above.new.self) c.go_above.ensures.same_kind c.in_ok-go_above.ensures.ready.1,
-          );
-      here = (c.in_ok-walk_above.ensures.in_part old.here).0;
-      behind = old.behind;
-    }
+    let old = subst (λ (s : MergeState). Covers c.args.settles total s (g.N.Newer.run c.args.newer.now) (g.N.Newer.table c.args.newer.now)) (sym c.self.view_is) covers in (
+      record {
+        up = old.up;
+        light = λ plain none.
+            subst (λ (l : Entries). entries_weight (above inside.closed l) ≤ entries_weight (above inside.at l) + length inside.writer.buffer.text) (sym c.go_above.ensures.same_table)
+            (old.light plain (still_table (g.N.Newer.run c.args.newer.now) (g.N.Newer.run c.go_above.new.self) c.go_above.ensures.same_kind none));
+        left = λ some.
+            omega (
+              arith,
+              old.left some,
+              c.in_ok-walk_above.ensures.ready.1,
+              same_left inside.at (g.N.Newer.run c.args.newer.now) (g.N.Newer.run c.go_above.new.self) (g.N.Newer.table c.args.newer.now) (g.N.Newer.table c.go_above.new.self) c.go_above.ensures.same_kind c.in_ok-go_above.ensures.ready.1,
+            );
+        here = (c.in_ok-walk_above.ensures.in_part old.here).0;
+        behind = old.behind;
+        made = λ none.
+            omega (
+              arith,
+              old.made (still_table (g.N.Newer.run c.args.newer.now) (g.N.Newer.run c.go_above.new.self) c.go_above.ensures.same_kind none),
+              ap (λ (l : Entries). entries_weight (above inside.at l)) c.go_above.ensures.same_table,
+              c.in_ok-walk_above.ensures.ready.1,
+            );
+        told = λ plain none some.
+            omega (
+              arith,
+              old.told plain (still_table (g.N.Newer.run c.args.newer.now) (g.N.Newer.run c.go_above.new.self) c.go_above.ensures.same_kind none) some,
+              ap (λ (l : Entries). entries_weight (above inside.at l)) c.go_above.ensures.same_table,
+            );
+        begun = old.begun;
+        turned = old.turned;
+        fits = old.fits;
+      },
+      subst (λ (s : MergeState). IsUpTo s.closed inside.closed) c.self.view_is (λ key is. is),
+    )
 
 pub returns-clause-covers : goal.returns-clause-covers
-returns-clause-covers g c = λ covers.
+returns-clause-covers g c = λ total covers.
     let arm = (goal.at.returns-clause-covers g c).In-Some in
     let at = c.self.inside.at in
     let closed = c.self.inside.closed in
@@ -489,7 +507,7 @@ returns-clause-covers g c = λ covers.
     let table = g.N.Newer.table c.go_above.new.self in
     let hand = at_hand input table in
     let older = c.walk_above.new.walk.cursor in
-    let old = subst (λ (s : MergeState). Covers c.args.settles s (g.N.Newer.run c.args.newer.now) (g.N.Newer.table c.args.newer.now)) (sym c.self.view_is) covers in
+    let old = subst (λ (s : MergeState). Covers c.args.settles total s (g.N.Newer.run c.args.newer.now) (g.N.Newer.table c.args.newer.now)) (sym c.self.view_is) covers in
     let behind =
     turned_behind at closed _ c.component-pages.result.pages c.component.result.pages writer c.put.new.writer c.tell_closed.ensures
     (ap (λ (k : Component). k.pages) c.component-pages.ensures.component) (ap (λ (k : Component). k.pages) c.component.ensures.component) in
@@ -501,34 +519,70 @@ returns-clause-covers g c = λ covers.
     turned_behind c.walk_above.new.walk.here c.self.inside.behind _ c.component-pages.result.pages c.component.result.pages writer c.put.new.writer c.part_behind-self-inside.ensures
     (ap (λ (k : Component). k.pages) c.component-pages.ensures.component) (ap (λ (k : Component). k.pages) c.component.ensures.component) in
     let walked = c.in_ok-walk_above.ensures.in_part old.here in
-    subst (λ (k : Key). Covers c.args.settles (record {
-      writer = c.put.new.writer;
-      older = older;
-      at = Some k;
-      closed = c.tell_closed.new.closed;
-      left = c.left_behind-self-inside.result;
-      rest = record { here = c.walk_above.new.walk.here; behind = c.part_behind-self-inside.result };
-    }) input table) (sym c.copy.ensures)
-    (record {
-      up = closed_up_more turned at closed c.tell_closed.new.closed key behind (taken g arm).above_at old.up;
-      light = λ plain none.
-          light_more turned at closed c.tell_closed.new.closed key table (length c.put.new.writer.buffer.text) (length writer.buffer.text)
-          (weight key rec) behind (c.in_ok-put.ensures.here plain)
-          (subst (λ (l : Entries). entries_weight (above at l) ≤ entries_weight (above (Some key) l) + weight key rec) (ap (λ (i : Option CursorState). at_hand i table) none) less)
-          (subst (λ (l : Entries). entries_weight (above closed l) ≤ entries_weight (above at l) + length writer.buffer.text) (sym c.go_above.ensures.same_table)
-          (old.light plain (still_table (g.N.Newer.run c.args.newer.now) input c.go_above.ensures.same_kind none)));
-      left = left_covers turned at closed c.tell_closed.new.closed c.left_behind-self-inside.result (component_left at input + left_in at older)
-          c.self.inside.left (component_left (Some key) input + left_in (Some key) older)
-          (component_left at (g.N.Newer.run c.args.newer.now) + left_in at c.self.inside.older.cursor) behind
-          left_is
-          (omega (arith, component_less at key input table (taken g arm).of_newer (taken g arm).newer_left, (taken g arm).older_left))
-          (omega (
-            arith,
-            c.in_ok-walk_above.ensures.ready.1,
-            same_left at (g.N.Newer.run c.args.newer.now) input (g.N.Newer.table c.args.newer.now) table c.go_above.ensures.same_kind c.in_ok-go_above.ensures.ready.1,
-          ))
-          old.left;
-      here = walked.0;
-      behind = part_covers turned at closed c.tell_closed.new.closed c.left_behind-self-inside.result (component_left at input + left_in at older)
-          c.self.inside.left c.walk_above.new.walk.here c.self.inside.behind _ behind left_is part_is (omega (arith, walked.0.on_page)) walked.1 old.behind;
-    })
+    let run = read g arm in
+    let counted_now = (c.in_ok-put.ensures.pushed run.out (rises g arm) run.pushed).counted in
+    let has_here : c.args.settles ≡ false → weight key rec ≤ length c.put.new.writer.buffer.text =
+    λ plain. omega (arith, c.in_ok-put.ensures.here plain) in
+    let onward : writer.component.pages ≤ c.put.new.writer.component.pages =
+    omega (arith, c.in_ok-put.ensures.one_a_page, c.put.ensures.writes.effect.goes_on.clock) in
+    let made_before : input ≡ None → writer.component.weight + entries_weight (above at table) + left_in at older ≤ total =
+    λ none.
+    omega (
+      arith,
+      old.made (still_table (g.N.Newer.run c.args.newer.now) input c.go_above.ensures.same_kind none),
+      ap (λ (l : Entries). entries_weight (above at l)) c.go_above.ensures.same_table,
+      c.in_ok-walk_above.ensures.ready.1,
+    ) in (
+      subst (λ (k : Key). Covers c.args.settles total (record {
+        writer = c.put.new.writer;
+        older = older;
+        at = Some k;
+        closed = c.tell_closed.new.closed;
+        left = c.left_behind-self-inside.result;
+        rest = record { here = c.walk_above.new.walk.here; behind = c.part_behind-self-inside.result };
+      }) input table) (sym c.copy.ensures)
+          (record {
+            up = closed_up_more turned at closed c.tell_closed.new.closed key behind (taken g arm).above_at old.up;
+            light = λ plain none.
+                light_more turned at closed c.tell_closed.new.closed key table (length c.put.new.writer.buffer.text) (length writer.buffer.text)
+                (weight key rec) behind (c.in_ok-put.ensures.here plain)
+                (subst (λ (l : Entries). entries_weight (above at l) ≤ entries_weight (above (Some key) l) + weight key rec) (ap (λ (i : Option CursorState). at_hand i table) none) less)
+                (subst (λ (l : Entries). entries_weight (above closed l) ≤ entries_weight (above at l) + length writer.buffer.text) (sym c.go_above.ensures.same_table)
+                (old.light plain (still_table (g.N.Newer.run c.args.newer.now) input c.go_above.ensures.same_kind none)));
+            left = left_covers turned at closed c.tell_closed.new.closed c.left_behind-self-inside.result (component_left at input + left_in at older)
+                c.self.inside.left (component_left (Some key) input + left_in (Some key) older)
+                (component_left at (g.N.Newer.run c.args.newer.now) + left_in at c.self.inside.older.cursor) behind
+                left_is
+                (omega (arith, component_less at key input table (taken g arm).of_newer (taken g arm).newer_left, (taken g arm).older_left))
+                (omega (
+                  arith,
+                  c.in_ok-walk_above.ensures.ready.1,
+                  same_left at (g.N.Newer.run c.args.newer.now) input (g.N.Newer.table c.args.newer.now) table c.go_above.ensures.same_kind c.in_ok-go_above.ensures.ready.1,
+                ))
+                old.left;
+            here = walked.0;
+            behind = part_covers turned at closed c.tell_closed.new.closed c.left_behind-self-inside.result (component_left at input + left_in at older)
+                c.self.inside.left c.walk_above.new.walk.here c.self.inside.behind _ behind left_is part_is (omega (arith, walked.0.on_page)) walked.1 old.behind;
+            made = λ none. made_more at key input table total (weight key rec) (taken g arm).of_newer (taken g arm).of_older writer.component.weight
+                c.put.new.writer.component.weight (left_in at older) (left_in (Some key) older) none (taken g arm).newer_left (omega (arith, (taken g arm).older_left))
+                (omega (arith, (taken g arm).taken_is, (weighs_light g arm).1)) c.in_ok-put.ensures.light (made_before none);
+            told = λ plain none.
+                told_more turned at closed c.tell_closed.new.closed c.left_behind-self-inside.result (component_left at input + left_in at older) c.self.inside.left
+                writer.component.weight c.put.new.writer.component.weight (length writer.buffer.text) (length c.put.new.writer.buffer.text) (weight key rec) total
+                (entries_weight (above at table)) (entries_weight (above (Some key) table)) behind left_is (c.in_ok-put.ensures.here plain) c.in_ok-put.ensures.light
+                (table_less at key input table (taken g arm).of_newer none (taken g arm).newer_left)
+                (omega (arith, made_before none, ap (λ (i : Option CursorState). component_left at i) none))
+                (λ some.
+                omega (
+                  arith,
+                  old.told plain (still_table (g.N.Newer.run c.args.newer.now) input c.go_above.ensures.same_kind none) some,
+                  ap (λ (l : Entries). entries_weight (above at l)) c.go_above.ensures.same_table,
+                ));
+            begun = λ plain some. pages_begun c.put.new.writer (weight key rec) counted_now (weighs_something key rec) (has_here plain);
+            turned = λ plain.
+                closed_turned turned at closed c.tell_closed.new.closed writer.component.pages c.put.new.writer.component.pages behind
+                (λ more. more_pages writer.component.pages c.put.new.writer.component.pages more) onward (old.begun plain) (old.turned plain);
+            fits = counted_now.fits;
+          }),
+      subst (λ (s : MergeState). IsUpTo s.closed c.tell_closed.new.closed) c.self.view_is (closed_onward turned at closed c.tell_closed.new.closed behind old.up),
+    )

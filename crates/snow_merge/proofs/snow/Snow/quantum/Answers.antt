@@ -2,6 +2,7 @@ use Rattle.std.proofs.Common.{◌≡◌, ◌+◌, ◌/◌, [], false, None, refl
 use Rattle.std.specs.Prelude.{OnOk}
 use Rattle.record_delta.specs.Entries.{Entries, above}
 use Rattle.merge_ends.specs.Merge.{Covers as MergeCovers, IsMerging, progress}
+use Rattle.merge_ends.specs.Output.{IsUpTo}
 use Rattle.merge_ends.specs.Progress.{MergesOn, TakesQuantum, stage}
 use Rattle.merge_ends.specs.Quantum.{IsQuantum}
 use Rattle.merge_ends.proofs.MergeLemmas.{lent_merge}
@@ -41,7 +42,9 @@ returns-clause-pass g c = λ pages all c1 honest same pass other.
     )
 
 pub returns-clause-covers : goal.returns-clause-covers
-returns-clause-covers g c = λ covers.
+returns-clause-covers g c = λ total covers.
     let a = c.args.a.now.entries in
-    let old = subst (λ (s : SnowState). Covers s a) (sym c.self.view_is) covers in
-    subst (λ (t : Entries). OnOk c.quantum.result (MergeCovers false c.quantum.new.self None t)) c.quantum.ensures.same_table (c.quantum.ensures.covers old)
+    let old = subst (λ (s : SnowState). Covers total s a) (sym c.self.view_is) covers in
+    subst (λ (s : SnowState). OnOk c.quantum.result (MergeCovers false total c.quantum.new.self None a × IsUpTo s.closed c.quantum.new.self.closed)) c.self.view_is
+    (subst (λ (t : Entries). OnOk c.quantum.result (MergeCovers false total c.quantum.new.self None t × IsUpTo c.self.inside.merge.closed c.quantum.new.self.closed))
+    c.quantum.ensures.same_table (c.quantum.ensures.covers total old))

@@ -16,7 +16,7 @@ returns-then-is_above-clause-role c =
 
 pub returns-else-is_above-clause-run : goal.returns-else-is_above-clause-run
 returns-else-is_above-clause-run c =
-    c.front.ensures
+    c.front.ensures.front
     ∙ sym (ap (λ b. cond b c.args.self.now.catalogue.c1 (front_of (finished_by_pass c.args.self.now.pass)))
     (sym c.is_above.ensures ∙ c.if-is_above.false))
 

@@ -9,10 +9,11 @@ use Rattle.merge_ends.specs.Quantum.{Works}
 use Rattle.merge_ends.specs.Progress.{MayGoOn, stage}
 use Rattle.snow_merge.specs.Pass.{SnowState, progress_of_pass}
 use Rattle.tree_runs.proofs.PinLemmas.{grown_beside}
-use Rattle.tree_runs.specs.Runs.{GuideState, RunsState, AreRunning, PassRuns, PinsOfPass, guide_at, left_for_pass, run_most}
+use Rattle.tree_runs.specs.Runs.{GuideState, RunsState, AreRunning, PassCovers, PassRuns, PinsOfPass, guide_at, left_for_pass, run_most}
 use Rattle.tree_runs.specs.Damage.{PassMeetsDamage}
 use Rattle.tree_runs.specs.Writing.{region_of_pass}
 use Rattle.tree_runs.specs.Holding.{PassTakes, StandOver}
+use Rattle.tree_runs.proofs.CoverLemmas.{pass_covered}
 use Rattle.tree_runs.proofs.GuideLemmas.{WritesGuide, guide_named, pages_within, writes_guide}
 use Rattle.tree_runs.proofs.QuantumLemmas.{PassQuantum, counted_one, pass_has_room, pass_light, passed_is, pass_ran, pass_stands, pass_works, pass_stays}
 use Rattle.tree_runs.proofs.runs.Runs.pass_quantum.Goals as goal
@@ -94,6 +95,14 @@ returns-clause-takes g c =
     (goal.at.returns-clause-takes g c).After-pages-pages))
     (subst (λ (s : RunsState). IfOk c.quantum-taken.result (PassTakes s.sizes.quantum (Some c.in-Some.snow)
     (Some next) a)) c.self.view_is c.quantum-taken.ensures.numbers.takes)
+
+pub returns-clause-covers : goal.returns-clause-covers
+returns-clause-covers g c = λ total covers.
+    let arm = (goal.at.returns-clause-covers g c).After-pages-pages in
+    let next = c.quantum-taken.new.self in
+    let was = subst (λ (p : Option SnowState). PassCovers total p c.args.a.now.entries) (pass_is g arm) covers in
+    pass_covered total c.args.self.now.pass c.in-Some.snow next c.args.a.now.entries c.quantum-taken.result (pass_is g arm) was
+    (c.quantum-taken.ensures.covers total was)
 
 pub returns-clause-told : goal.returns-clause-told
 returns-clause-told g c =

@@ -1,4 +1,4 @@
-use Rattle.std.proofs.Common.{sym, subst}
+use Rattle.std.proofs.Common.{◌≡◌, sym, subst}
 use Rattle.tree_runs.specs.Runs.{RunsState, AreRunning}
 use Rattle.tree_runs.specs.Holding.{AreOf}
 use Rattle.tree_runs.proofs.HoldLemmas.{Repinned, Unpins, dropped_repinned, running_repinned, lists_repinned}
@@ -18,4 +18,4 @@ returns-clause-running c = λ honest file running.
 pub returns-clause-lists : goal.returns-clause-lists
 returns-clause-lists c = λ tree file of.
     subst (λ (s : RunsState). AreOf (record s { space = c.unpin.new.self }) tree file) (sym c.self.view_is)
-    (lists_repinned c.args.self.now c.unpin.new.self (repinned c) tree file of)
+    (lists_repinned c.args.self.now c.unpin.new.self (subst (λ (s : RunsState). c.unpin.new.self.roles ≡ s.space.roles) c.self.view_is c.unpin.ensures.roles) tree file of)
