@@ -12,3 +12,4 @@ pub mod DamageLemmas
 pub mod HoldLemmas
 pub mod ReplyLemmas
 pub mod ScanLemmas
+pub mod AlikeLemmas

@@ -6,3 +6,4 @@ pub mod Damage
 pub mod Holds
 pub mod Replies
 pub mod Scans
+pub mod Alike

@@ -16,7 +16,7 @@ use Rattle.tree_machine.specs.Steps.{one_if}
 use Rattle.tree_machine.specs.declared.step.Kind.{Kind}
 use Rattle.tree_machine.specs.declared.step.Kind.TheVariants as kind
 use Rattle.tree_machine.specs.declared.step.Step.{Step}
-use Rattle.tree_runs.specs.Runs.{page_share}
+use Rattle.tree_runs.specs.Runs.{hold_share}
 use Rattle.tree_core.specs.Causes.{pages_first, swaps_due_in}
 use Rattle.tree_core.specs.Core.{CoreState}
 use Rattle.tree_session.specs.Faults.{NamesStop, Reaches, TellsFaults, TellsNone, faults_told, is_by_fault}
@@ -32,7 +32,7 @@ abbrev pub calls_of : Sizes → ℕ → Kind → ℕ
 calls_of sizes due (kind.Admit op) = pages_first op + (4 + 9 * due)
 calls_of sizes due kind.Pay = sizes.quantum / 4 + 3
 calls_of sizes due (kind.Look op) = 3
-calls_of sizes due (kind.Next n) = page_share sizes
+calls_of sizes due (kind.Next n) = hold_share sizes
 calls_of sizes due kind.WorkTurn = sizes.quantum / 4 + 9
 calls_of sizes due kind.WorkerTurn = sizes.quantum / 4 + 9
 calls_of sizes due _ = 0

@@ -9,6 +9,7 @@ ghost use Rattle.tree_machine.specs.declared.step.Step.{Step};
 ghost use Rattle.tree_core.specs.Calls.{AreCalls};
 ghost use Rattle.tree_core.specs.Core.{CoreState, IsCore};
 ghost use Rattle.tree_core.specs.Holds.{StandsWhole};
+ghost use Rattle.core_chain.specs.Alike.{ReleaseShowsNothing};
 ghost use Rattle.core_chain.specs.Damage.{StopsAtPage};
 ghost use Rattle.core_chain.specs.Holds.{ChainTellsHolds, HoldsNone};
 ghost use Rattle.core_chain.specs.Quanta.{ChainHelps, ChainTakesFew};
@@ -81,4 +82,11 @@ pub fn calls_are_steps<D: Disk + Drop>(core: &Core<D>)
 pub fn rows_stay()
     ensures { (opening : List (Key × Value)) (seen history : List Entry) (seat : ℕ) → IsPrefix seen history → entries_of seat seen ≡ entries_of seat history
         → (object_after opening seen).held seat ≡ (object_after opening history).held seat }
+{}
+
+/// Where two cores stand for one state of the machine, over whatever honest disks and with whatever dropped of either's memory table, the same
+/// steps, if nothing fails on either, lead both to one state again: they have one book, with each reply and each quantum, and the same rows to come,
+/// and each image of either disk reads as the map of that history.
+pub fn release_shows_nothing<D: Disk + Drop, E: Disk + Drop>(one: &Core<D>, other: &Core<E>)
+    ensures { ReleaseShowsNothing D.state E.state one.now other.now }
 {}

@@ -6,5 +6,5 @@ mod laws;
 
 pub use laws::{
     calls_are_steps, calls_help, calls_meet_damage, calls_note, calls_take_few, calls_tell,
-    calls_tell_holds, nexts_read_once, rows_stay,
+    calls_tell_holds, nexts_read_once, release_shows_nothing, rows_stay,
 };

@@ -1,5 +1,5 @@
 -- A store that was opened stands at the machine's first state.
-use Rattle.std.proofs.Common.{◌≡◌, ◌∙◌, ℕ, ◌+◌, List, [], Option, refl, ap, sym, subst, arith}
+use Rattle.std.proofs.Common.{◌≡◌, ◌∙◌, ℕ, ◌+◌, List, [], Option, None, refl, ap, sym, subst, arith}
 use Rattle.std.proofs.lemmas.Grind.{common_steps}
 use Rattle.std.proofs.lemmas.Bool.Decides.{nat_tests}
 use Rattle.blsm_model.specs.Book.{Book}
@@ -21,7 +21,7 @@ use Rattle.tree_file.specs.Tree.{Tree, lists_of, map_of_tree}
 use Rattle.tree_file.proofs.ListLemmas.{sorted_component, lists_light}
 use Rattle.tree_log.specs.Log.{IsLogOf}
 use Rattle.tree_log.proofs.RestLemmas.{rest_whole}
-use Rattle.tree_runs.specs.Runs.{guide_at}
+use Rattle.tree_runs.specs.Runs.{guide_at, released_by}
 use Rattle.tree_runs.specs.Holding.{AreOf, IsDeepOver}
 use Rattle.core_moves.specs.declared.held.Held.{Held}
 use Rattle.core_moves.specs.Held.{IsOne}
@@ -59,6 +59,9 @@ module _ (annals : Book) (faults : ℕ) (held : Held) (tree : Tree) (file : List
   lists = same_lists first.lists (lists_of tree) (ap (λ (l : Lane). replayed l.entries) (sym lane_b))
       (ap (λ (l : Lane). replayed l.entries) (sym lane_a)) refl (ap entries_of (sym no_c1x)) refl
 
+  floor_none : held.log.a.floor ≡ None
+  floor_none = one.follows.floor ∙ ap released_by is.pass
+
   of_log : IsLogOf tree held.log
   of_log = record {
     roles = one.roles ∙ sym (ap (λ (k : Catalog). k.lanes) of.catalogue);
@@ -66,7 +69,7 @@ module _ (annals : Book) (faults : ℕ) (held : Held) (tree : Tree) (file : List
     end_b = is.end_b ∙ sym (ap (λ (l : Lane). l.end) lane_b);
     may_a = subst MayEnd (sym lane_a) (λ none. refl);
     may_b = subst MayEnd (sym lane_b) (λ none. refl);
-    a = rest_whole (replayed tree.lane_a.entries) held.log.a one.whole_a (is.a ∙ sym (ap (λ (l : Lane). replayed l.entries) lane_a));
+    a = rest_whole (replayed tree.lane_a.entries) held.log.a (floor_none, one.follows.whole floor_none) (is.a ∙ sym (ap (λ (l : Lane). replayed l.entries) lane_a));
     b = is.b ∙ sym (ap (λ (l : Lane). replayed l.entries) lane_b);
   }
 

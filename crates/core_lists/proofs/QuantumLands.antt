@@ -22,6 +22,8 @@ use Rattle.tree_machine.specs.Layers.{IsSound}
 use Rattle.tree_machine.specs.Machine.{Machine}
 use Rattle.tree_file.specs.Tree.{Tree}
 use Rattle.tree_log.specs.Log.{IsLogOf}
+use Rattle.tree_log.proofs.RestLemmas.{dropped_by_is_of}
+use Rattle.tree_runs.specs.Runs.{released_by}
 use Rattle.core_moves.specs.declared.held.Held.{Held}
 use Rattle.core_moves.specs.Held.{IsOne}
 use Rattle.core_moves.specs.Moves.{TakesOfPass, TakesOfDeep}
@@ -47,7 +49,7 @@ pass_quantum_lands seat n old new tree m file after at sound one positive moves 
     moved pass snow next is comes weighs =
         record {
           lists = grind (arith, common_steps, nat_tests);
-          of_log = subst (IsLogOf tree) (sym moves.log) at.holds.of_log;
+          of_log = subst (IsLogOf tree) (sym moves.log) (dropped_by_is_of (released_by new.runs.pass) tree old.log at.holds.of_log);
           pass = grind (arith, common_steps, nat_tests);
           deep = grind (arith, common_steps, nat_tests);
           gears = grind (arith, common_steps, nat_tests);

@@ -8,9 +8,11 @@ use Rattle.tree_machine.specs.Lists.{Lists, memory_weight}
 use Rattle.tree_machine.specs.Machine.{Machine}
 use Rattle.tree_file.specs.Tree.{Tree, lists_of}
 use Rattle.tree_log.specs.Log.{LogState, IsLogOf, listed_in_a, weight_of_tables}
-use Rattle.tree_log.proofs.RestLemmas.{rest_weighs, whole_list}
+use Rattle.tree_log.proofs.RestLemmas.{rest_weighs}
 use Rattle.tree_runs.specs.Holding.{HasAllAhead, cursor_of_pass}
+use Rattle.tree_runs.proofs.CoverLemmas.{above_again}
 use Rattle.core_moves.specs.Held.{IsOne}
+use Rattle.core_moves.proofs.WriteLemmas.{floor_below}
 use Rattle.core_moves.specs.declared.held.Held.{Held}
 use Rattle.core_lists.specs.Standing.{HoldsMachine}
 use Rattle.core_lists.proofs.Terms.{IsAt}
@@ -19,10 +21,11 @@ use Rattle.core_lists.proofs.Terms.{IsAt}
 pub list_a : (held : Held) (tree : Tree) (m : Machine) → HoldsMachine held tree m → m.lists.a ≡ replayed tree.lane_a.entries
 list_a held tree m holds = ap (λ (l : Lists). l.a) holds.lists
 
--- While nothing is dropped of it, it has all of that.
+-- The table has all of that above the pass's cursor.
 pub all_ahead : (held : Held) (tree : Tree) → IsOne held → IsLogOf tree held.log → HasAllAhead held.runs.pass held.log.a.entries tree
 all_ahead held tree one is =
-    ap (above (cursor_of_pass held.runs.pass)) (sym (whole_list (replayed tree.lane_a.entries) held.log.a one.whole_a is.a))
+    sym (ap (above (cursor_of_pass held.runs.pass)) is.a.entries
+    ∙ above_again held.log.a.floor (cursor_of_pass held.runs.pass) (replayed tree.lane_a.entries) (floor_below held one))
 
 -- the tables of a log weigh what its tree's lists do
 pub tables_weigh : (lists : Lists) (tree : Tree) (log : LogState) → lists ≡ lists_of tree → IsLogOf tree log → memory_weight lists ≡ weight_of_tables log

@@ -1,17 +1,25 @@
 -- What is read off what the core of a tree has in memory. Weights are in bytes.
-use Rattle.std.specs.Prelude.{◌≡◌, ℕ, ◌+◌, ◌≤◌, Bool, not, ◌&&◌, ◌||◌, ◌==◌, IsTrue, is_some, if◌then◌else◌}
+use Rattle.std.specs.Prelude.{◌≡◌, ℕ, ◌+◌, ◌≤◌, Option, None, Bool, not, ◌&&◌, ◌||◌, ◌==◌, IsTrue, is_some, if◌then◌else◌}
 use Rattle.blsm_model.specs.Geometry.{high_mark}
 use Rattle.blsm_model.specs.Lanes.{AreRoles}
 use Rattle.blsm_model.specs.declared.key.Key.{Key}
-use Rattle.mem_table.specs.Tables.{IsWhole}
-use Rattle.record_delta.specs.Entries.{AreSorted, is_above, record_of_key}
-use Rattle.tree_log.specs.Log.{weight_of_tables}
-use Rattle.tree_runs.specs.Runs.{made_by_pass, left_for_pass, left_for_deep}
+use Rattle.record_delta.specs.Entries.{AreSorted, above, is_above, record_of_key}
+use Rattle.tree_log.specs.Log.{LogState, listed_in_a, weight_of_tables}
+use Rattle.snow_merge.specs.Pass.{SnowState}
+use Rattle.tree_runs.specs.Runs.{PassCovers, made_by_pass, left_for_pass, left_for_deep, released_by}
 use Rattle.tree_runs.specs.Holding.{cursor_of_pass, is_full}
 use Rattle.core_moves.specs.declared.held.Held.{Held}
 
--- One geometry; the roles of the lanes are the catalogue's; the tables are sorted and may weigh as much as the high mark, and nothing was
--- dropped of table A.
+-- Table A was dropped up to the key up to which all that the pass took is on finished pages; where there is no such key, nothing was. What the pass took
+-- and isn't on finished pages is light, and so are these with what was left then: table A's list and a C1 of this weight weigh as much in all.
+pub record FollowsPass (pass : Option SnowState) (c1 : ℕ) (log : LogState) : Type 0 where
+  pub floor : log.a.floor ≡ released_by pass
+  pub whole : log.a.floor ≡ None → log.a.dropped ≡ 0
+  pub above_floor : above log.a.floor log.a.entries ≡ log.a.entries
+  pub covers : PassCovers (listed_in_a log + c1) pass log.a.entries
+
+-- One geometry; the roles of the lanes are the catalogue's; the tables are sorted and may weigh as much as the high mark; and table A was dropped up to
+-- what the pass has on finished pages.
 pub record IsOne (held : Held) : Type 0 where
   pub gears : held.gears.sizes ≡ held.runs.sizes
   pub lanes : held.log.lanes.sizes ≡ held.runs.sizes
@@ -21,7 +29,7 @@ pub record IsOne (held : Held) : Type 0 where
   pub reserved_b : high_mark held.runs.sizes ≤ held.log.b.reserved
   pub sorted_a : AreSorted held.log.a.entries
   pub sorted_b : AreSorted held.log.b.entries
-  pub whole_a : IsWhole held.log.a
+  pub follows : FollowsPass held.runs.pass held.runs.catalogue.c1.weight held.log
 
 -- ---- what is read off it
 

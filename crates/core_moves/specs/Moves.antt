@@ -9,9 +9,10 @@ use Rattle.seat_book.specs.State.{BookState, pass_counted_in, deep_counted_in, q
 use Rattle.gated_log.specs.Lane.{no_lane}
 use Rattle.tree_file.specs.Tree.{Tree}
 use Rattle.tree_file.specs.Places.{TurnsRoles}
-use Rattle.tree_log.specs.Log.{LogState, IsLogOf, Grows, Turns, turned_log, weight_of_tables, with_entry}
-use Rattle.tree_runs.specs.Runs.{made_by_pass, pass_begun}
-use Rattle.tree_runs.specs.Holding.{SwapsDeep, SwapsPass, Rotates, KeepsAllButPass, KeepsAllButDeep, PassTakes, DeepTakes}
+use Rattle.tree_log.specs.Log.{LogState, IsLogOf, Grows, Turns, dropped_by, turned_log, weight_of_tables, with_entry}
+use Rattle.merge_ends.specs.Output.{IsUpTo}
+use Rattle.tree_runs.specs.Runs.{PassCovers, made_by_pass, pass_begun, released_by}
+use Rattle.tree_runs.specs.Holding.{SwapsDeep, SwapsPass, Rotates, cursor_of_pass, KeepsAllButPass, KeepsAllButDeep, PassTakes, DeepTakes}
 use Rattle.core_moves.specs.declared.held.Held.{Held}
 use Rattle.core_moves.specs.Held.{IsPassDone, IsDeepDone, is_pass_over, is_deep_over, is_run_full, goes_ahead}
 
@@ -69,11 +70,14 @@ SettlesPass old new = (IsPassDone old × SwapsPassIn old new) ⊎ ((IsPassDone o
 
 -- ---- quanta
 
--- The seat's quantum of the pass took so much: a quantum's weight or all that was left, and no more than two entries beyond it.
+-- The seat's quantum of the pass took so much: a quantum's weight or all that was left, and no more than two entries beyond it. Table A is dropped up to
+-- the key up to which all that was taken is on finished pages, which never falls.
 pub record TakesOfPass (seat n : ℕ) (old new : Held) : Type 0 where
   pub takes : PassTakes old.runs.sizes.quantum old.runs.pass new.runs.pass old.log.a.entries n
+  pub covers : (total : ℕ) → PassCovers total old.runs.pass old.log.a.entries
+      → PassCovers total new.runs.pass old.log.a.entries × IsUpTo (released_by old.runs.pass) (released_by new.runs.pass)
   pub others : KeepsAllButPass old.runs new.runs
-  pub log : new.log ≡ old.log
+  pub log : new.log ≡ dropped_by (released_by new.runs.pass) old.log
   pub gears : new.gears ≡ took_first old.gears seat n
   pub spring : new.spring ≡ old.spring
   pub book : new.book ≡ quantum_counted_in seat old.book
@@ -119,6 +123,7 @@ pub record KeepsAllButMerges (failed : Type 0) (old new : Held) : Type 0 where
   pub spring : failed → new.spring ≡ old.spring
   pub book : failed → new.book ≡ old.book
   pub pins : failed → new.runs.space.pins ≡ old.runs.space.pins
+  pub cursor : failed → cursor_of_pass new.runs.pass ≡ cursor_of_pass old.runs.pass
 
 -- what a turn of the log says of its tree
 abbrev pub TurnsLog : LogState → LogState → Type 0

@@ -8,6 +8,8 @@ ghost use Rattle.record_delta.specs.Entries.{replayed};
 ghost use Rattle.page_file.specs.Component.{entries_of};
 ghost use Rattle.tree_machine.specs.Machine.{seats};
 ghost use Rattle.tree_runs.specs.Damage.{PassMeetsDamage, DeepMeetsDamage};
+ghost use Rattle.tree_log.specs.Log.{dropped_by};
+ghost use Rattle.tree_runs.specs.Runs.{released_by};
 ghost use Rattle.tree_runs.specs.Writing.{region_of_pass, region_of_deep};
 ghost use Rattle.tree_runs.specs.Holding.{HasAllAhead, PassTook, DeepTook, TellsQuantum};
 ghost use Rattle.core_moves.specs.Needs.{IsOn, IsReady};
@@ -17,6 +19,17 @@ use crate::Held;
 use disk_trait::Disk;
 use gear_sched::Plan;
 use page_file::Broken;
+use tree_log::LoggedTables;
+use tree_runs::Runs;
+
+// Drops table A up to the key up to which all that the pass took is on pages that it has finished: lookups and holds read these in its place.
+fn drop_released(runs: &Runs, log: &mut LoggedTables)
+    ensures { log.new ≡ dropped_by (released_by runs.now.pass) log.old }
+{
+    if let Some(key) = runs.released() {
+        log.drop_to(&key);
+    }
+}
 
 impl Held {
     /// The seat, a caller's or a worker's, does a quantum of the pass. Gives the weight that it took, in bytes.
@@ -38,6 +51,7 @@ impl Held {
     {
         match self.runs.pass_quantum(disk, self.log.a()) {
             Ok(taken) => {
+                drop_released(&self.runs, &mut self.log);
                 self.gears.took1(seat, taken);
                 self.book.count_quantum(seat);
                 Ok(taken)

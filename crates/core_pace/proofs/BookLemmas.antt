@@ -14,4 +14,14 @@ pub rebooked : (held : Held) (b : BookState) (pace : Pace) → b.counts ≡ held
 rebooked held b pace counts p = grind (arith, common_steps, nat_tests)
 
 pub one_rebooked : (held : Held) (b : BookState) → IsOne held → IsOne (with_book b held)
-one_rebooked held b one = grind (arith, common_steps, nat_tests)
+one_rebooked held b one = record {
+  gears = one.gears;
+  lanes = one.lanes;
+  roles = one.roles;
+  apart = one.apart;
+  reserved_a = one.reserved_a;
+  reserved_b = one.reserved_b;
+  sorted_a = one.sorted_a;
+  sorted_b = one.sorted_b;
+  follows = one.follows;
+}

@@ -18,6 +18,8 @@ use Rattle.record_delta.specs.Records.{weight}
 use Rattle.gear_sched.specs.Gears.{GearState}
 use Rattle.pacing.specs.Ends.{AreEnds}
 use Rattle.pacing.proofs.Ends.{ends_as, ends_turned, ends_begun, ends_written}
+use Rattle.blsm_model.specs.Lanes.{a_of, b_of}
+use Rattle.gated_log.specs.Lanes.{LanesState, end_of}
 use Rattle.tree_log.specs.Log.{LogState, end_of_a, end_of_b}
 use Rattle.std.proofs.lemmas.Bool.{and_parts, not-true}
 use Rattle.pacing.specs.Pace.{Pace, Written, rotations, with_deep_swapped, with_pass_swapped, with_swap_and_rotation, with_rotation, with_pass, with_write, deep_done, pass_done, with_forgiven}
@@ -43,6 +45,7 @@ use Rattle.core_pace.specs.Events.{MayWrite}
 use Rattle.core_pace.proofs.TestLemmas.{each_test_agrees, forgiving_has_pace}
 use Rattle.core_pace.proofs.SwapLemmas.{deep_swap_has_pace, pass_swap_has_pace, begin_has_pace}
 use Rattle.core_pace.proofs.WriteLemmas.{write_has_pace}
+use Rattle.core_pace.proofs.FollowLemmas.{no_pass, whole_at_rest}
 use Rattle.core_pace.proofs.OneLemmas.{each_move_keeps_one}
 use Rattle.core_pace.proofs.BookLemmas.{rebooked, one_rebooked}
 use Rattle.blsm_model.specs.declared.history.Reply.{Reply}
@@ -52,10 +55,17 @@ use Rattle.core_pace.proofs.Terms.{written_in, Admits, IsBetween, done_entry, Ke
 not_so : (b : Bool) → (b ≡ true → ⊥) → b ≡ false
 not_so b h1 = grind (arith, common_steps, nat_tests)
 
--- where the log is as it was, and what its bounds hang on
+-- where the lanes are as they were, and what their bounds hang on
+pub lanes_stay : (old new : Held) (p q : Pace) → new.log.lanes ≡ old.log.lanes → q.gears.pass ≡ p.gears.pass → q.gears.pass_admitted ≡ p.gears.pass_admitted
+    → q.gears.sizes ≡ p.gears.sizes → q.spring ≡ p.spring → AreEnds p (end_of_a old.log) (end_of_b old.log) → AreEnds q (end_of_a new.log) (end_of_b new.log)
+lanes_stay old new p q lanes pass admitted sizes spring ends =
+    subst (λ (l : LanesState). AreEnds q (end_of l (a_of l.roles)) (end_of l (b_of l.roles))) (sym lanes)
+    (ends_as p q (end_of_a old.log) (end_of_b old.log) pass admitted sizes spring ends)
+
 pub ends_stay : (old new : Held) (p q : Pace) → new.log ≡ old.log → q.gears.pass ≡ p.gears.pass → q.gears.pass_admitted ≡ p.gears.pass_admitted → q.gears.sizes ≡ p.gears.sizes → q.spring ≡ p.spring
     → AreEnds p (end_of_a old.log) (end_of_b old.log) → AreEnds q (end_of_a new.log) (end_of_b new.log)
-ends_stay old new p q log pass admitted sizes spring ends = subst (λ (l : LogState). AreEnds q (end_of_a l) (end_of_b l)) (sym log) (ends_as p q (end_of_a old.log) (end_of_b old.log) pass admitted sizes spring ends)
+ends_stay old new p q log pass admitted sizes spring ends =
+    lanes_stay old new p q (ap (λ (l : LogState). l.lanes) log) pass admitted sizes spring ends
 
 -- the numbers, the geometry, the lanes and the version
 pub record Stands (held : Held) (pace : Pace) : Type 0 where
@@ -120,8 +130,10 @@ begins w old pace paced s =
 
     by : (b : Bool) → (not (is_some old.runs.pass) && nat_lt old.runs.sizes.low (old.spring + w)) ≡ b → Stands (cond b (with_pass_begun old) old) (cond b (with_pass pace) pace)
     by true due =
-        let rests : pace.gears.pass ≡ false = s.numbers.in_pass ∙ not-true (is_some old.runs.pass) (and_parts (not (is_some old.runs.pass)) (nat_lt old.runs.sizes.low (old.spring + w)) due).0 in
-        record { numbers = begin_has_pace old pace s.numbers s.one.whole_a.1; one = (each_move_keeps_one old old s.one).begin; ends = ends_begun pace (end_of_a old.log) (end_of_b old.log) paced.within rests s.ends; version = s.version }
+        let none = not-true (is_some old.runs.pass) (and_parts (not (is_some old.runs.pass)) (nat_lt old.runs.sizes.low (old.spring + w)) due).0 in
+        let rests : pace.gears.pass ≡ false = s.numbers.in_pass ∙ none in
+        let gone = no_pass old.runs.pass none in
+        record { numbers = begin_has_pace old pace s.numbers (whole_at_rest old s.one gone); one = (each_move_keeps_one old old s.one).begin gone; ends = ends_begun pace (end_of_a old.log) (end_of_b old.log) paced.within rests s.ends; version = s.version }
     by false due = s
 
 stands : (held : Held) (pace : Pace) → IsPacedHeld held pace → Stands held pace

@@ -1,6 +1,7 @@
 pub mod Terms
 pub mod TestLemmas
 pub mod SwapLemmas
+pub mod FollowLemmas
 pub mod QuantumLemmas
 pub mod WriteLemmas
 pub mod OneLemmas

@@ -41,7 +41,8 @@ use Rattle.core_pace.proofs.TestLemmas.{each_test_agrees}
 use Rattle.core_pace.proofs.QuantumLemmas.{snow_has_pace, deep_has_pace, count_has_pace}
 use Rattle.core_pace.proofs.OneLemmas.{each_move_keeps_one}
 use Rattle.core_pace.proofs.BookLemmas.{rebooked, one_rebooked}
-use Rattle.core_pace.proofs.EventLemmas.{forgiving_is_paced, ends_stay}
+use Rattle.core_pace.proofs.EventLemmas.{forgiving_is_paced, ends_stay, lanes_stay}
+use Rattle.core_pace.proofs.FollowLemmas.{quantum_drops}
 use Rattle.core_pace.proofs.Terms.{snow_quantum, deep_quantum, PlansRun, MayPayIn, Pays, IsBetween}
 
 -- a merge that isn't over runs, and something is left
@@ -131,7 +132,7 @@ module _ (seat n : ℕ) (old taken new : Held) (pace : Pace) (k : IsPacedHeld ol
           fits = snow.0;
           numbers = count_has_pace seat taken (with_snow forgave seat (snow_quantum n lighter taken)) snow.1;
           one = (each_move_keeps_one lighter taken between.one).snow seat n takes;
-          ends = ends_stay lighter taken forgave (counted (with_snow forgave seat (snow_quantum n lighter taken)) seat) takes.log refl refl refl refl between.ends;
+          ends = lanes_stay lighter taken forgave (counted (with_snow forgave seat (snow_quantum n lighter taken)) seat) (quantum_drops seat n lighter taken between.one takes).lanes refl refl refl refl between.ends;
           version = omega (arith, between.version, ap (λ (c : Catalog). c.version) takes.others.catalogue);
           some = snow_some;
         },

@@ -1,11 +1,12 @@
 -- Quanta have the pace that the pacing makes of them.
-use Rattle.std.proofs.Common.{◌≡◌, ◌⊎◌, ⊎_elim, inl, inr, ℕ, ◌+◌, ◌*◌, ◌<◌, ◌≤◌, true, Option, refl, ap, sym, subst, arith}
+use Rattle.std.proofs.Common.{◌≡◌, ◌∙◌, ◌⊎◌, ⊎_elim, inl, inr, ℕ, ◌+◌, ◌*◌, ◌<◌, ◌≤◌, true, Option, refl, ap, sym, subst, arith}
 use Rattle.std.proofs.lemmas.Grind.{common_steps}
 use Rattle.std.proofs.lemmas.Bool.Decides.{nat_tests}
 use Rattle.std.specs.Prelude.{is_some}
 use Rattle.blsm_model.specs.Format.{most_weight}
 use Rattle.blsm_model.specs.Sizes.{Sizes}
-use Rattle.record_delta.specs.Entries.{Entries}
+use Rattle.mem_table.specs.Tables.{Contents}
+use Rattle.record_delta.specs.Entries.{Entries, entries_weight}
 use Rattle.pacing.specs.Pace.{with_snow, with_deep, Pace, counted}
 use Rattle.snow_merge.specs.Pass.{SnowState}
 use Rattle.deep_merge.specs.Merge.{DeepState}
@@ -17,6 +18,7 @@ use Rattle.pacing.specs.Steps.{IsSnow, IsDeep}
 use Rattle.core_moves.specs.declared.held.Held.{Held}
 use Rattle.core_moves.specs.Held.{IsOne}
 use Rattle.core_moves.specs.Moves.{TakesOfPass, TakesOfDeep}
+use Rattle.core_pace.proofs.FollowLemmas.{Dropped, quantum_drops}
 use Rattle.core_pace.proofs.Terms.{snow_quantum, deep_quantum}
 
 -- What a quantum of a pass took, of both inputs and of table A, by what is left.
@@ -95,12 +97,15 @@ snow_has_pace seat n old new pace p one within some m = (is_snow, has)
     taken_some : 0 < pace.gears.pass_taken + n
     taken_some = ⊎_elim (λ (more : pace.gears.sizes.quantum ≤ n). omega (arith, more, quantum)) (λ (full : pace.gears.pass_taken + n ≡ pace.a + pace.c1). omega (arith, full, left, some)) enough
 
+    d : Dropped new.runs.pass old.log new.log
+    d = quantum_drops seat n old new one m
+
     has : HasPace new (with_snow pace seat (snow_quantum n old new))
     has = record {
       gears = cc (p.gears, m.gears);
-      a = cc (p.a, m.log);
-      taken = let table : table_left new.runs.pass new.log.a.entries ≡ table_left new.runs.pass old.log.a.entries = cc m.log in omega (arith, table, p.taken, t.table);
-      b = cc (p.b, m.log);
+      a = p.a ∙ sym d.listed;
+      taken = omega (arith, d.table, p.taken, t.table);
+      b = p.b ∙ sym (ap (λ (c : Contents). entries_weight c.entries) d.b);
       c1 = cc (p.c1, m.others.catalogue);
       c1x = cc (p.c1x, m.others.catalogue);
       c2 = cc (p.c2, m.others.catalogue);
@@ -113,7 +118,7 @@ snow_has_pace seat n old new pace p one within some m = (is_snow, has)
       deeps = cc (p.deeps, m.book);
       in_pass = cc (runs, t.runs);
       in_deep = cc (p.in_deep, m.others.deep);
-      pass_left = λ _. let same_left : left_for_pass new.runs.pass new.log.a.entries ≡ left_for_pass new.runs.pass old.log.a.entries = cc m.log in omega (arith, same_left, left, t.left);
+      pass_left = λ _. omega (arith, d.left, left, t.left);
       deep_left = λ is. let was = p.deep_left (cc (is, m.others.deep)) in cc (was, m.others.deep);
       started = at_some new.runs.pass (pace.gears.pass_taken + n) taken_some;
     }

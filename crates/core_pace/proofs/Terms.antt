@@ -1,5 +1,5 @@
 -- What only lemmas say: no clause names these.
-use Rattle.std.specs.Prelude.{◌≡◌, ◌↔◌, ℕ, ◌-◌, Bool, IsTrue, ◌&&◌, ◌<◌, is_some, ◌+◌, ◌≤◌, true, false, length}
+use Rattle.std.specs.Prelude.{◌≡◌, ◌↔◌, ℕ, ◌-◌, Bool, IsTrue, ◌&&◌, ◌<◌, is_some, ◌+◌, ◌≤◌, true, false, None, length}
 use Rattle.blsm_model.specs.declared.key.Key.{Key}
 use Rattle.record_delta.specs.declared.record.Rec.{Rec}
 use Rattle.record_delta.specs.Records.{weight}
@@ -58,8 +58,8 @@ entry_to ahead key rec op held = entry_in key rec op ahead (with_entry ahead key
 pub record MovesKeepOne (old new : Held) : Type 0 where
   pub deep_swap : SwapsDeepIn old new → IsOne new
   pub pass_swap : SwapsPassIn old new → IsOne new
-  pub rotation : RotatesIn old new → IsOne new
-  pub begin : IsOne (with_pass_begun old)
+  pub rotation : old.runs.pass ≡ None → RotatesIn old new → IsOne new
+  pub begin : old.runs.pass ≡ None → IsOne (with_pass_begun old)
   pub forgiving : (seat : ℕ) → IsOne (with_debts_forgiven seat old)
   pub snow : (seat n : ℕ) → TakesOfPass seat n old new → IsOne new
   pub deep : (seat n : ℕ) → TakesOfDeep seat n old new → IsOne new

@@ -41,7 +41,8 @@ use Rattle.core_pace.proofs.QuantumLemmas.{snow_has_pace, deep_has_pace}
 use Rattle.core_pace.proofs.OneLemmas.{each_move_keeps_one}
 use Rattle.core_pace.proofs.BookLemmas.{rebooked, one_rebooked}
 use Rattle.core_pace.proofs.NeedLemmas.{way_is_free}
-use Rattle.core_pace.proofs.EventLemmas.{Stands, moved_on, deep_swapped, pass_swapped, room_taken, ends_stay}
+use Rattle.core_pace.proofs.EventLemmas.{Stands, moved_on, deep_swapped, pass_swapped, room_taken, ends_stay, lanes_stay}
+use Rattle.core_pace.proofs.FollowLemmas.{no_pass, quantum_drops, whole_at_rest}
 use Rattle.core_moves.specs.Held.{IsOne}
 use Rattle.core_pace.proofs.Terms.{snow_quantum, deep_quantum, MayWorkIn, MayHelpIn, Works, Helps}
 
@@ -79,9 +80,6 @@ move_is_turn is_worker held pace p one =
 
 some_left : (runs : Bool) (left : ℕ) → (runs && (left == 0)) ≡ false → runs ≡ true → 0 < left
 some_left runs left h1 h2 = grind (arith, common_steps, nat_tests)
-
-no_pass : (snow : Option SnowState) → is_some snow ≡ false → snow ≡ None
-no_pass snow h1 = grind (arith, common_steps, nat_tests)
 
 -- no deep merge runs where neither a pass nor a quantum of a deep merge is due
 no_deep : (deep : Option DeepState) (pass behind : Bool) → pass ≡ false → (is_some deep && (not pass || behind)) ≡ false → deep ≡ None
@@ -142,20 +140,20 @@ moved_by TakeSnow seat n old moved pace paced s need m =
         stands = record {
           numbers = snow.1;
           one = (each_move_keeps_one old moved s.one).snow seat n m;
-          ends = ends_stay old moved pace (with_snow pace seat (snow_quantum n old moved)) m.log refl refl refl refl s.ends;
+          ends = lanes_stay old moved pace (with_snow pace seat (snow_quantum n old moved)) (quantum_drops seat n old moved s.one m).lanes refl refl refl refl s.ends;
           version = omega (arith, s.version, ap (λ (c : Catalog). c.version) m.others.catalogue);
         };
       },
     )
 moved_by Begin seat n old moved pace paced s need m =
-    (no_quantum, record { fits = tt; stands = moved_on (with_pass_begun old) moved (turned_by Begin pace seat no_quantum) m (record { numbers = begin_has_pace old pace s.numbers s.one.whole_a.1; one = (each_move_keeps_one old old s.one).begin; ends = ends_begun pace (end_of_a old.log) (end_of_b old.log) paced.within (s.numbers.in_pass ∙ ap (λ (r : Option SnowState). is_some r) need) s.ends; version = s.version }) })
+    (no_quantum, record { fits = tt; stands = moved_on (with_pass_begun old) moved (turned_by Begin pace seat no_quantum) m (record { numbers = begin_has_pace old pace s.numbers (whole_at_rest old s.one need); one = (each_move_keeps_one old old s.one).begin need; ends = ends_begun pace (end_of_a old.log) (end_of_b old.log) paced.within (s.numbers.in_pass ∙ ap (λ (r : Option SnowState). is_some r) need) s.ends; version = s.version }) })
 moved_by Rotate seat n old moved pace paced s need m = (
   no_quantum,
   record {
     fits = tt;
     stands = record {
       numbers = rotation_has_pace old moved pace s.numbers need.0 m;
-      one = (each_move_keeps_one old moved s.one).rotation m;
+      one = (each_move_keeps_one old moved s.one).rotation need.0 m;
       ends = ends_stay old moved pace (with_rotation pace) m.log refl refl refl refl s.ends;
       version = omega (arith, s.version, ap (λ (c : Catalog). c.version) m.runs.catalogue, no_more pace.gears.deep pace.deeps (s.numbers.in_deep ∙ ap (λ (d : Option DeepState). is_some d) need.1));
     };

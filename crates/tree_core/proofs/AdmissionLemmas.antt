@@ -37,7 +37,8 @@ use Rattle.core_pace.specs.Events.{MayWrite}
 use Rattle.core_pace.proofs.EventLemmas.{deep_keeps, settled_between, moves_are_told, admission_is_paced, entry_is_told, stop_is_told}
 use Rattle.core_pace.proofs.CallLemmas.{paced_is_between, moves_keep_book}
 use Rattle.tree_core.specs.declared.admission.Taking.TheVariants.{Taken, Failed}
-use Rattle.tree_core.specs.Core.{IsTold, HoldsPace}
+use Rattle.tree_core.specs.Core.{IsLight, IsTold, HoldsPace}
+use Rattle.tree_core.proofs.ToldLemmas.{light_of}
 use Rattle.tree_core.specs.Steps.{MovesPace}
 use Rattle.tree_core.specs.Taking.{Takes}
 use Rattle.tree_core.proofs.QuietLemmas.{read_holds}
@@ -50,7 +51,9 @@ charge_of held pace p = cc (p.c1, p.c1x, p.c2, p.gears, p.a, p.b)
 -- ---- what is told, with another book
 
 told_of : (held : Held) (b : BookState) (pace : Pace) → IsBetween held pace → b.counts ≡ held.book.counts → IsRunBook b pace → IsTold (with_book b held) pace
-told_of held b pace between same told = grind (arith, common_steps, nat_tests)
+told_of held b pace between same told =
+    let light : IsLight held = light_of held between.one in
+    grind (arith, common_steps, nat_tests)
 
 -- a store that is stopped, or a write that is refused, keeps the pace
 pub refused_moves : (seat : ℕ) (op : Op) (reply : Reply) (held : Held) (pace : Pace) (d : DiskState) (b : BookState) → IsReplied reply seat op pace pace → is_done reply ≡ false
@@ -178,6 +181,7 @@ module _ (seat : ℕ) (op : Op) (write : Write) (old new : Held) (pace : Pace) (
         opening = made.2.numbers.opening;
         charge_is = charge_of noted made.0 made.2.numbers;
         sizes = ap (λ (g : GearState). g.sizes) made.2.numbers.gears ∙ made.2.one.gears;
+        light = light_of noted made.2.one;
       };
       live = λ runs. record { paced = made.2; on = record { running = is.3.running; long = is.3.long } };
     };

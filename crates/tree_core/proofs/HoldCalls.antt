@@ -17,6 +17,7 @@ use Rattle.disk_trait.specs.Moments.{IsTimed}
 use Rattle.disk_trait.specs.Reads.{OnlyReads}
 use Rattle.disk_trait.proofs.ReadLemmas.{only_reads_start}
 use Rattle.page_file.specs.Component.{entries_of}
+use Rattle.record_delta.specs.Entries.{above, replayed}
 use Rattle.scan_view.specs.Hold.{HoldState}
 use Rattle.scan_view.specs.Holds.{hold_of, pages_behind}
 use Rattle.scan_view.specs.Pins.{HasHeld}
@@ -35,7 +36,7 @@ use Rattle.core_moves.specs.Needs.{IsOn}
 use Rattle.tree_core.specs.declared.answers.Holding.{Holding}
 use Rattle.tree_core.specs.declared.answers.Holding.TheVariants as holding
 use Rattle.tree_core.specs.declared.answers.Release.{Release}
-use Rattle.tree_core.specs.Answers.{reply_to_drop, reply_to_hold, reply_to_next}
+use Rattle.tree_core.specs.Answers.{HasDropped, reply_to_drop, reply_to_hold, reply_to_next}
 use Rattle.tree_core.specs.Calls.{GoesOnAs, HoldsRange, LetsGo, ReadsOn}
 use Rattle.tree_core.specs.Causes.{DropsBecause, HoldsBecause, PassesPages, ScansBecause, ScansNone}
 use Rattle.tree_core.specs.Core.{CoreState, IsCore}
@@ -82,8 +83,10 @@ hold_goes {D} {end} {most} {k} {command} {mid} {after} state seat r old disk cor
 
 pub hold_does : {D : Type 0} {mid : Held} {after : List (Option HoldState)} (state : D → DiskState) (seat : ℕ) (low high : Key) (answer : Holding) (old : CoreState D) (b : BookState) → IsCore old.held (state old.disk) → IsTimed (state old.disk)
     → may_note_in seat 0 old.held.book ≡ true → MovesHold seat old.held mid old.holds after → HoldsBecause answer seat low high (undisked old.held old.holds) (undisked mid after)
-    → ((tree : Tree) (file : List ℕ) → answer ≡ holding.Held → AreOf old.held.runs tree file
-    → HasHeld old.held.runs.sizes mid.runs.space.pins seat (hold_of seat after) (Some (rows_in (record { b = old.held.log.b.entries; a = old.held.log.a.entries; c1 = entries_of tree.c1; c1x = entries_of tree.c1x; c2 = entries_of tree.c2 }) low high)) file)
+    → ((tree : Tree) (file : List ℕ) → answer ≡ holding.Held → AreOf old.held.runs tree file → HasDropped old.held tree file
+    → old.held.log.a.entries ≡ above old.held.log.a.floor (replayed tree.lane_a.entries)
+    → HasHeld old.held.runs.sizes mid.runs.space.pins seat (hold_of seat after)
+    (Some (rows_in (record { b = old.held.log.b.entries; a = replayed tree.lane_a.entries; c1 = entries_of tree.c1; c1x = entries_of tree.c1x; c2 = entries_of tree.c2 }) low high)) file)
     → b ≡ noted_in seat (op.Hold low high) (reply_to_hold answer) old.held.book → HoldsRange state seat low high answer old (record { disk = old.disk; held = with_book b mid; holds = after })
 hold_does {D} {mid} {after} state seat low high answer old b core timed can moves because rows is =
     subst (λ (x : BookState). HoldsRange state seat low high answer old (record { disk = old.disk; held = with_book x mid; holds = after })) (sym is) (record { goes = goes; cause = hold_cause mid after answer seat low high old old.disk noted because; others = leaves_others old old.disk noted moves; book = refl; untouched = refl })

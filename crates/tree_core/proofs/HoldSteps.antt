@@ -1,5 +1,5 @@
 -- A hold, the reading on in it and its drop: the seat's pins and its hold may change, and an entry is noted. All else stays.
-use Rattle.std.specs.Prelude.{◌≡◌, ℕ, ◌<◌, true, false, List, [], Option, Some, None, IsTrue, is_some, slice_index_or, slice_set, length}
+use Rattle.std.specs.Prelude.{◌≡◌, ℕ, ◌+◌, ◌<◌, ◌≤◌, Bool, if◌then◌else◌, true, false, List, [], Option, Some, None, IsTrue, is_some, slice_index_or, slice_set, length}
 use Rattle.std.proofs.lemmas.Grind.{common_steps}
 use Rattle.std.proofs.lemmas.Bool.Decides.{nat_tests}
 use Rattle.std.proofs.Common.{◌∙◌, inl, inr, refl, ap, sym, subst, arith}
@@ -8,7 +8,7 @@ use Rattle.std.proofs.lemmas.List.{get_or-set_same, get_or-set_other}
 use Rattle.blsm_model.specs.Book.{HasRoom}
 use Rattle.blsm_model.specs.Facts.{Follows}
 use Rattle.blsm_model.specs.Format.{callers}
-use Rattle.blsm_model.specs.Geometry.{file_length}
+use Rattle.blsm_model.specs.Geometry.{capacity, file_length}
 use Rattle.blsm_model.specs.Histories.{writes_of}
 use Rattle.blsm_model.specs.Legal.{is_write}
 use Rattle.blsm_model.specs.Sizes.{Sizes}
@@ -21,7 +21,9 @@ use Rattle.blsm_model.specs.declared.history.Entry.{Entry}
 use Rattle.blsm_model.specs.declared.history.Reply.{Reply}
 use Rattle.disk_trait.specs.Disk.{DiskState}
 use Rattle.disk_trait.specs.Reads.{OnlyReads}
-use Rattle.pacing.specs.Pace.{Pace}
+use Rattle.gear_sched.specs.Gears.{GearState}
+use Rattle.pacing.specs.Kept.{IsWithin}
+use Rattle.pacing.specs.Pace.{Pace, charge, held as counted_in}
 use Rattle.page_space.specs.PageSet.{Members}
 use Rattle.scan_view.specs.Hold.{HoldState}
 use Rattle.scan_view.specs.Holds.{hold_of}
@@ -38,10 +40,12 @@ use Rattle.tree_machine.specs.declared.step.Kind.{Kind}
 use Rattle.tree_machine.specs.declared.step.Kind.TheVariants as kind
 use Rattle.paced_tree.specs.Made.{IsMadeBy}
 use Rattle.tree_file.specs.Tree.{Tree}
-use Rattle.tree_runs.specs.Holding.{AreOf}
+use Rattle.tree_log.specs.Log.{listed_in_a}
+use Rattle.tree_runs.specs.Holding.{AreOf, HoldFits}
 use Rattle.core_moves.specs.declared.held.Held.{Held}
 use Rattle.core_moves.specs.Moves.{with_book}
 use Rattle.core_moves.specs.Needs.{IsOn}
+use Rattle.core_pace.specs.Pacing.{IsPacedHeld}
 use Rattle.core_pace.proofs.EventLemmas.{entry_is_told}
 use Rattle.core_lists.proofs.ShowingLemmas.{quiet_entry_counts_none}
 use Rattle.tree_core.specs.Core.{CoreState, HoldsPace, facts_of_held}
@@ -65,6 +69,29 @@ next_kind seat n = record { writes = refl; none = refl; fits = tt; made = λ r p
 
 pub release_kind : (seat : ℕ) → IsHoldKind seat kind.Release op.Release
 release_kind seat = record { writes = refl; none = refl; fits = tt; made = λ r pace. refl }
+
+-- ---- a hold has no more pages than a seat may pin
+
+-- table A's list counts in the charge
+table_charged : (pace : Pace) → IsWithin pace → pace.a ≤ counted_in pace
+table_charged pace within = by pace.gears.pass refl
+  where
+    by : (runs : Bool) → pace.gears.pass ≡ runs → pace.a ≤ (if runs then pace.gears.pass_memory + pace.gears.pass_admitted else pace.a + pace.b)
+    by true is = omega (arith, (within.running is).tables)
+    by false is = omega arith
+
+-- and the charge is no more than the capacity
+pub hold_fits : (held : Held) (pace : Pace) → IsPacedHeld held pace → HoldFits held.runs held.log.a.entries
+hold_fits held pace paced =
+    let n = paced.numbers in
+    let within = paced.told.paced.within in
+    let full = subst (λ (s : Sizes). charge pace ≤ capacity s) (ap (λ (g : GearState). g.sizes) n.gears ∙ paced.one.gears) within.full in
+    record {
+      live = omega (arith, full, n.c1, n.c1x, n.c2);
+      total = listed_in_a held.log + held.runs.catalogue.c1.weight;
+      covers = paced.one.follows.covers;
+      room = omega (arith, full, table_charged pace within, n.a, n.c1, n.c1x, n.c2);
+    }
 
 -- ---- by numbers
 

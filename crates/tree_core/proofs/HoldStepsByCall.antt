@@ -22,7 +22,7 @@ use Rattle.disk_trait.specs.Moments.{IsTimed}
 use Rattle.disk_trait.specs.Reads.{OnlyReads}
 use Rattle.disk_trait.proofs.ReadLemmas.{only_reads_start}
 use Rattle.page_file.specs.Component.{entries_of}
-use Rattle.record_delta.specs.Entries.{Entries, replayed}
+use Rattle.record_delta.specs.Entries.{Entries, above, replayed}
 use Rattle.scan_view.specs.Hold.{HoldState}
 use Rattle.scan_view.specs.Holds.{hold_of, AreGivenBy, IsDamageBehind}
 use Rattle.scan_view.specs.Pins.{HasHeld}
@@ -39,14 +39,14 @@ use Rattle.tree_file.specs.Tree.{Tree}
 use Rattle.tree_runs.specs.Holding.{AreOf}
 use Rattle.core_moves.specs.declared.held.Held.{Held}
 use Rattle.core_moves.specs.Held.{IsOne}
-use Rattle.tree_log.proofs.RestLemmas.{whole_list}
 use Rattle.tree_core.specs.declared.answers.Holding.{Holding}
 use Rattle.tree_core.specs.declared.answers.Holding.TheVariants as holds
 use Rattle.tree_core.specs.Scanned.{Scanned}
 use Rattle.tree_core.specs.Scanned as scanned
 use Rattle.tree_core.specs.declared.answers.Release.{Release}
 use Rattle.tree_core.specs.declared.answers.Release.TheVariants as release
-use Rattle.tree_core.specs.Answers.{reply_to_hold, reply_to_next, reply_to_drop}
+use Rattle.tree_core.specs.Answers.{HasDropped, reply_to_hold, reply_to_next, reply_to_drop}
+use Rattle.tree_core.proofs.LookupSteps.{dropped_in}
 use Rattle.tree_core.specs.Causes.{HoldsBecause, ScansBecause, DropsBecause}
 use Rattle.tree_core.specs.Core.{CoreState}
 use Rattle.tree_core.specs.HoldMoves.{MovesHold, undisked}
@@ -136,8 +136,10 @@ drop_steps state opening seat answer old mid after m timed honest below moves be
 pub hold_steps : {D : Type 0} (state : D → DiskState) (opening : List (Key × Value)) (seat : ℕ) (low high : Key) (answer : Holding) (old : CoreState D) (mid : Held) (after : List (Option HoldState)) (m : Machine)
     → (old.held.book.stopped ≡ None → IsOne old.held) → IsTimed (state old.disk)
     → IsTrue (state old.disk).is_honest → seat < callers → MovesHold seat old.held mid old.holds after → HoldsBecause answer seat low high (undisked old.held old.holds) (undisked mid after)
-    → ((tree : Tree) (file : List ℕ) → answer ≡ holds.Held → AreOf old.held.runs tree file
-    → HasHeld old.held.runs.sizes mid.runs.space.pins seat (hold_of seat after) (Some (rows_in (record { b = old.held.log.b.entries; a = old.held.log.a.entries; c1 = entries_of tree.c1; c1x = entries_of tree.c1x; c2 = entries_of tree.c2 }) low high)) file)
+    → ((tree : Tree) (file : List ℕ) → answer ≡ holds.Held → AreOf old.held.runs tree file → HasDropped old.held tree file
+    → old.held.log.a.entries ≡ above old.held.log.a.floor (replayed tree.lane_a.entries)
+    → HasHeld old.held.runs.sizes mid.runs.space.pins seat (hold_of seat after)
+    (Some (rows_in (record { b = old.held.log.b.entries; a = replayed tree.lane_a.entries; c1 = entries_of tree.c1; c1x = entries_of tree.c1x; c2 = entries_of tree.c2 }) low high)) file)
     → StandsWhole state opening old m → may m seat (kind.Hold low high) ≡ true
     → IsWholeStep state opening seat (kind.Hold low high) (Replied (reply_to_hold answer)) old (after_it old.disk mid after seat (op.Hold low high) (reply_to_hold answer) old.held) m
 hold_steps state opening seat low high answer old mid after m one timed honest below moves because has stands can = by answer because has
@@ -152,32 +154,34 @@ hold_steps state opening seat low high answer old mid after m one timed honest b
     by_stop outcome o is = ap (λ (o : Option Why). unless_stopped o seat (op.Hold low high) m (do_hold m seat low high outcome)) (stopped_is ∙ is)
 
     by : (a : Holding) → HoldsBecause a seat low high (undisked old.held old.holds) (undisked mid after)
-        → ((tree : Tree) (file : List ℕ) → a ≡ holds.Held → AreOf old.held.runs tree file
-        → HasHeld old.held.runs.sizes mid.runs.space.pins seat (hold_of seat after) (Some (rows_in (record { b = old.held.log.b.entries; a = old.held.log.a.entries; c1 = entries_of tree.c1; c1x = entries_of tree.c1x; c2 = entries_of tree.c2 }) low high)) file)
+        → ((tree : Tree) (file : List ℕ) → a ≡ holds.Held → AreOf old.held.runs tree file → HasDropped old.held tree file
+        → old.held.log.a.entries ≡ above old.held.log.a.floor (replayed tree.lane_a.entries)
+        → HasHeld old.held.runs.sizes mid.runs.space.pins seat (hold_of seat after)
+        (Some (rows_in (record { b = old.held.log.b.entries; a = replayed tree.lane_a.entries; c1 = entries_of tree.c1; c1x = entries_of tree.c1x; c2 = entries_of tree.c2 }) low high)) file)
         → IsWholeStep state opening seat (kind.Hold low high) (Replied (reply_to_hold a)) old (after_it old.disk mid after seat (op.Hold low high) (reply_to_hold a) old.held) m
     by holds.Held because has =
         let rows = Some (rows_in m.lists low high) in
         hold_step state opening seat (kind.Hold low high) (op.Hold low high) reply.Held Well old mid after old.disk (slice_set m.holds seat rows) m (hold_kind seat low high) moves reads honest stands can (by_stop Well None because.0) tt refl
         (λ runs. seat_rows seat old.held mid old.holds after m rows (state old.disk) (state old.disk) moves below stands.paced.stands.places refl (now runs) (stands.rows runs))
       where
-        -- the tables are what the lanes replay to
+        -- the lists are what the lanes replay to
         now : old.held.book.stopped ≡ None → HasHeld old.held.runs.sizes mid.runs.space.pins seat (hold_of seat after) (Some (rows_in m.lists low high)) (state old.disk).bytes
         now runs =
             let over = stands.runs runs in
             let log = over.holds.of_log in
             let tree = over.tree in
-            let lists : m.lists ≡ record { b = old.held.log.b.entries; a = old.held.log.a.entries; c1 = entries_of tree.c1; c1x = entries_of tree.c1x; c2 = entries_of tree.c2 } = over.holds.lists
+            let file = (state old.disk).bytes in
+            let lists : m.lists ≡ record { b = old.held.log.b.entries; a = replayed tree.lane_a.entries; c1 = entries_of tree.c1; c1x = entries_of tree.c1x; c2 = entries_of tree.c2 } =
+            over.holds.lists
             ∙ ap (λ (b : Entries). record {
               b = b;
               a = replayed tree.lane_a.entries;
               c1 = entries_of tree.c1;
               c1x = entries_of tree.c1x;
               c2 = entries_of tree.c2;
-            }) (sym log.b)
-            ∙ ap (λ (a : Entries). record { b = old.held.log.b.entries; a = a; c1 = entries_of tree.c1; c1x = entries_of tree.c1x; c2 = entries_of tree.c2 })
-            (sym (whole_list (replayed tree.lane_a.entries) old.held.log.a (one runs).whole_a log.a)) in
-            subst (λ (l : Lists). HasHeld old.held.runs.sizes mid.runs.space.pins seat (hold_of seat after) (Some (rows_in l low high)) (state old.disk).bytes) (sym lists)
-            (has tree (state old.disk).bytes refl over.over.are_of)
+            }) (sym log.b) in
+            subst (λ (l : Lists). HasHeld old.held.runs.sizes mid.runs.space.pins seat (hold_of seat after) (Some (rows_in l low high)) file) (sym lists)
+            (has tree file refl over.over.are_of (dropped_in old.held (one runs) tree file over.over.are_of) log.a.entries)
     by holds.NoMemory because has =
         hold_step state opening seat (kind.Hold low high) (op.Hold low high) reply.NoMemory NoRoom old mid after old.disk m.holds m (hold_kind seat low high) moves reads honest stands can (by_stop NoRoom None because.0)
         (ap (λ (o : Option Why). not (is_some o) && true) (stopped_is ∙ because.0)) refl

@@ -78,7 +78,7 @@ use Rattle.tree_machine.specs.Steps.{
   worker_turning,
 }
 use Rattle.tree_machine.proofs.FrameLemmas.{step_stays}
-use Rattle.tree_runs.specs.Runs.{page_share}
+use Rattle.tree_runs.specs.Runs.{hold_share}
 use Rattle.core_moves.specs.declared.held.Held.{Held}
 use Rattle.core_moves.specs.Moves.{KeepsAllButMerges, SettlesDeep, SettlesPass, begun_in, with_debts_forgiven, WritesIn, with_book}
 use Rattle.core_pace.specs.Events.{TakesByPlan}
@@ -216,7 +216,7 @@ pub few_at_first : (sizes : Sizes) (holds : List (Option HoldState)) → holds �
 few_at_first sizes holds none = grind (arith, common_steps, nat_tests)
 
 -- where one seat's hold alone is another, and has no more pages than it may
-pub few_by : (sizes : Sizes) (seat : ℕ) (old new : List (Option HoldState)) → ((other : ℕ) → other ≢ seat → hold_of other new ≡ hold_of other old) → pages_behind (hold_of seat new) ≤ page_share sizes
+pub few_by : (sizes : Sizes) (seat : ℕ) (old new : List (Option HoldState)) → ((other : ℕ) → other ≢ seat → hold_of other new ≡ hold_of other old) → pages_behind (hold_of seat new) ≤ hold_share sizes
     → AreFew sizes old → AreFew sizes new
 few_by sizes seat old new others bound few = grind (arith, common_steps, nat_tests)
 

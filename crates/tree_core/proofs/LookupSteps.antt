@@ -3,7 +3,7 @@ use Rattle.std.specs.declared.result.Result.{Result}
 use Rattle.std.specs.Prelude.{◌≡◌, ◌≢◌, ℕ, ◌+◌, ◌<◌, ◌≤◌, ◌^◌, true, false, List, Option, None, IsTrue, is_some, length, not, ◌&&◌, IsSome}
 use Rattle.std.proofs.lemmas.Grind.{common_steps}
 use Rattle.std.proofs.lemmas.Bool.Decides.{nat_tests}
-use Rattle.std.proofs.Common.{◌∙◌, inl, inr, refl, ap, sym, subst, arith}
+use Rattle.std.proofs.Common.{◌∙◌, Some, inl, inr, refl, ap, sym, subst, arith}
 use Rattle.blsm_model.specs.Geometry.{file_length}
 use Rattle.blsm_model.specs.declared.key.Key.{Key}
 use Rattle.blsm_model.specs.declared.row.Value.{Value}
@@ -30,9 +30,9 @@ use Rattle.tree_machine.specs.Plays.{may}
 use Rattle.tree_machine.specs.Steps.{Outcome, Well, FailedAfter, Replied, replied, reply_unless, unless_stopped, look}
 use Rattle.tree_machine.specs.declared.step.Kind.TheVariants as kind
 use Rattle.tree_file.specs.Tree.{Tree, HoldsTree}
-use Rattle.tree_runs.specs.Holding.{AreGuided}
+use Rattle.tree_runs.specs.Holding.{AreGuided, AreOf}
 use Rattle.tree_runs.specs.Lookups.{CountsYes, HidesOlder, IsFloorOf, first_tag}
-use Rattle.tree_runs.specs.Runs.{filter_of}
+use Rattle.tree_runs.specs.Runs.{filter_of, released_by}
 use Rattle.core_moves.specs.declared.held.Held.{Held}
 use Rattle.core_moves.specs.Held.{IsOne}
 use Rattle.core_moves.specs.Moves.{with_book}
@@ -77,9 +77,14 @@ asked_few {A} {result} {end} {d} {d2} key held floor is asks n counts =
 
 -- ---- on an honest one
 
--- nothing was dropped of a table that is whole
-pub none_dropped : (held : Held) → IsOne held → (tree : Tree) (file : List ℕ) → HasDropped held tree file
-none_dropped held one tree file = subst (λ (f : Option Key). IsFloorOf f held.runs tree file) (sym one.whole_a.0) tt
+-- what was dropped of table A is on the pass's finished pages
+pub dropped_in : (held : Held) → IsOne held → (tree : Tree) (file : List ℕ) → AreOf held.runs tree file → HasDropped held tree file
+dropped_in held one tree file of =
+    subst (λ (f : Option Key). IsFloorOf f held.runs tree file) (sym one.follows.floor) (by (released_by held.runs.pass) refl)
+  where
+    by : (key : Option Key) → released_by held.runs.pass ≡ key → IsFloorOf key held.runs tree file
+    by None is = tt
+    by (Some key) is = record { floor_is = is; over = of.pass }
 
 -- The machine's step, where it notes this reply.
 get_step : {end most : ℕ} {d d2 : DiskState} (opening : List (Key × Value)) (seat : ℕ) (key : Key) (r : Reply) (outcome : Outcome) (held : Held) (m : Machine) → OnlyReads end most d d2 → IsTrue d.is_honest
@@ -122,7 +127,8 @@ get_steps {end} {most} {d} {d2} opening seat key found held m one reads honest b
         → r ≡ answer_to_get (value_in m.lists key)
     there r none is =
         let over = s.runs none in
-        is over.tree over.over.stands.reads over.over.are_of.catalogue over.over.are_of.guided (none_dropped held (one none) over.tree d.bytes)
+        is over.tree over.over.stands.reads over.over.are_of.catalogue over.over.are_of.guided
+        (dropped_in held (one none) over.tree d.bytes over.over.are_of)
         ∙ ap answer_to_get (lookup_is_the_machines held over.tree m d.bytes key (record { are_of = over.over.are_of; holds = over.holds }))
 
     well : (r : Reply) → held.book.stopped ≡ None → r ≡ answer_to_get (value_in m.lists key)

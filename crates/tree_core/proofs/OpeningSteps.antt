@@ -24,6 +24,8 @@ use Rattle.core_moves.specs.declared.held.Held.{Held}
 use Rattle.core_moves.specs.declared.held.Settled.{Settled}
 use Rattle.core_moves.specs.Held.{IsOne}
 use Rattle.core_pace.specs.Opening.{IsOpened}
+use Rattle.core_pace.proofs.FollowLemmas.{follows_as, follows_none}
+use Rattle.core_pace.proofs.OneLemmas.{One, whole}
 use Rattle.core_pace.proofs.OpeningLemmas.{opening_is_paced}
 use Rattle.core_lists.specs.Standing.{catalogue_of}
 use Rattle.core_lists.proofs.OpeningLemmas.{opening_stands}
@@ -53,8 +55,11 @@ module _ {D : Type 0} (state : D → DiskState) (disk : D) (runs : RunsState) (l
   is_opened : IsOpened annals d.faults held
   is_opened = grind (arith, common_steps, nat_tests)
 
+  parts : One runs.sizes runs.catalogue.lanes log gears
+  parts = grind (arith, common_steps, nat_tests)
+
   one : IsOne held
-  one = grind (arith, common_steps, nat_tests)
+  one = whole held parts (follows_as settled.pass refl refl (follows_none runs.catalogue.c1.weight log settled.whole_a.0 settled.whole_a.1))
 
   paced : Rattle.core_pace.specs.Pacing.IsPacedHeld held pace
   paced = opening_is_paced annals d.faults held is_opened settled.components one settled.room settled.version

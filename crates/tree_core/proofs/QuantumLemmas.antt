@@ -1,5 +1,5 @@
 -- What a payment and a turn leave, of the numbers, of the other seats, and of what is told.
-use Rattle.std.proofs.Common.{◌≡◌, ◌≢◌, ℕ, ◌≤◌, Bool, Some, arith}
+use Rattle.std.proofs.Common.{◌≡◌, ◌≢◌, ◌+◌, ℕ, ◌≤◌, Bool, Option, Some, sym, subst, arith}
 use Rattle.std.proofs.lemmas.Grind.{common_steps}
 use Rattle.std.proofs.lemmas.Bool.Decides.{nat_tests}
 use Rattle.std.specs.Prelude.{⊤}
@@ -8,6 +8,11 @@ use Rattle.blsm_model.specs.Facts.{Follows}
 use Rattle.blsm_model.specs.declared.history.Why.{Why}
 use Rattle.disk_trait.specs.Disk.{DiskState}
 use Rattle.gear_sched.specs.Gears.{GearState, first_debt, second_debt, forgiven, took_first, took_second}
+use Rattle.blsm_model.specs.declared.key.Key.{Key}
+use Rattle.page_file.specs.Page.{most_used}
+use Rattle.record_delta.specs.Entries.{above, entries_weight}
+use Rattle.tree_log.specs.Log.{LogState}
+use Rattle.tree_runs.specs.Holding.{cursor_of_pass}
 use Rattle.pacing.specs.Pace.{Pace}
 use Rattle.seat_book.specs.State.{BookState}
 use Rattle.seat_book.specs.Seats.{KeepsSeats}
@@ -17,12 +22,13 @@ use Rattle.core_moves.specs.Held.{IsOne, charge_in}
 use Rattle.core_moves.specs.Needs.{IsOn}
 use Rattle.core_moves.specs.Moves.{KeepsAllButMerges, with_book}
 use Rattle.core_pace.specs.Pacing.{HasPace, IsRunBook, IsPacedHeld}
-use Rattle.tree_core.specs.Core.{IsTold, HoldsPace, beside_in, facts_of_held}
+use Rattle.tree_core.specs.Core.{IsLight, IsTold, HoldsPace, beside_in, facts_of_held}
+use Rattle.tree_core.proofs.ToldLemmas.{light_of, told_of}
 
 -- ---- numbers
 
 pub told_by : (held : Held) (pace : Pace) → HasPace held pace → IsOne held → IsRunBook held.book pace → IsTold held pace
-told_by held pace has one told = grind (arith, common_steps, nat_tests)
+told_by held pace has one told = told_of held pace has one told
 
 -- a store that runs on
 pub holds_running : (held : Held) (pace : Pace) (d : DiskState) → IsPacedHeld held pace → IsOn held d → HoldsPace held pace d
@@ -39,9 +45,17 @@ on_rebooked held b d on = record { running = on.running; long = on.long }
 pub charge_kept : (old failed : Held) → KeepsAllButMerges ⊤ old failed → charge_in failed ≡ charge_in old
 charge_kept old failed kept = grind (arith, common_steps, nat_tests)
 
+-- what failed took nothing
+light_failed : (old failed : Held) → KeepsAllButMerges ⊤ old failed → IsLight old → IsLight failed
+light_failed old failed kept light =
+    subst (λ (l : LogState). entries_weight l.a.entries ≤ entries_weight (above (cursor_of_pass failed.runs.pass) l.a.entries) + most_used) (sym (kept.log tt))
+    (subst (λ (k : Option Key). entries_weight old.log.a.entries ≤ entries_weight (above k old.log.a.entries) + most_used) (sym (kept.cursor tt)) light)
+
 -- What failed has the charge, the counts and the geometry that it had; its book is told otherwise.
 pub told_after_failure : (old failed : Held) (b : BookState) (pace : Pace) → KeepsAllButMerges ⊤ old failed → HasPace old pace → IsOne old → b.counts ≡ old.book.counts → IsRunBook b pace → IsTold (with_book b failed) pace
-told_after_failure old failed b pace kept has one counts told = grind (arith, common_steps, nat_tests)
+told_after_failure old failed b pace kept has one counts told =
+    let light : IsLight failed = light_failed old failed kept (light_of old one) in
+    grind (arith, common_steps, nat_tests)
 
 pub kept_once : {failed : Type 0} (old new : Held) → failed → KeepsAllButMerges failed old new → KeepsAllButMerges ⊤ old new
 kept_once old new is kept = grind (arith, common_steps, nat_tests)

@@ -65,7 +65,17 @@ mapped_numbers : (held : Held) (space : SpaceState) (pace : Pace) → HasPace he
 mapped_numbers held space pace numbers = grind (arith, common_steps, nat_tests)
 
 mapped_one : (held : Held) (space : SpaceState) → IsOne held → IsOne (mapped space held)
-mapped_one held space one = grind (arith, common_steps, nat_tests)
+mapped_one held space one = record {
+  gears = one.gears;
+  lanes = one.lanes;
+  roles = one.roles;
+  apart = one.apart;
+  reserved_a = one.reserved_a;
+  reserved_b = one.reserved_b;
+  sorted_a = one.sorted_a;
+  sorted_b = one.sorted_b;
+  follows = one.follows;
+}
 
 mapped_paced : (held : Held) (space : SpaceState) (pace : Pace) → IsPacedHeld held pace → IsPacedHeld (mapped space held) pace
 mapped_paced held space pace paced = record { numbers = mapped_numbers held space pace paced.numbers; told = paced.told; counted = paced.counted; one = mapped_one held space paced.one; ends = paced.ends; version = paced.version }

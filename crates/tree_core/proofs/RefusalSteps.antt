@@ -30,7 +30,7 @@ use Rattle.core_moves.specs.Held.{IsOne}
 use Rattle.core_moves.specs.Moves.{with_book}
 use Rattle.core_lists.proofs.LookupLemmas.{lookup_is_the_machines}
 use Rattle.core_lists.proofs.ShowingLemmas.{quiet_entry_counts_none}
-use Rattle.tree_runs.specs.Holding.{AreGuided}
+use Rattle.tree_runs.specs.Holding.{AreGuided, AreOf}
 use Rattle.tree_core.specs.Answers.{HasDropped, found_in}
 use Rattle.tree_core.specs.Causes.{Finds}
 use Rattle.tree_core.specs.Standing.{AnyRows, RunsOver, StandsFor}
@@ -39,7 +39,7 @@ use Rattle.tree_core.specs.declared.admission.Tried.{Tried}
 use Rattle.tree_core.specs.declared.admission.Tried.TheVariants as tried
 use Rattle.tree_core.proofs.BoundLemmas.{rose}
 use Rattle.tree_core.proofs.QuietLemmas.{quiet_step}
-use Rattle.tree_core.proofs.LookupSteps.{none_dropped}
+use Rattle.tree_core.proofs.LookupSteps.{dropped_in}
 
 -- what a lookup came to, over each tree that the file holds
 abbrev pub FindsOver : Tried → Op → Held → DiskState → Type 0
@@ -97,7 +97,7 @@ module _ {end most : ℕ} {d d2 : DiskState} (opening : List (Key × Value)) (se
 
     found : (result : Tried) → FindsOver result op held d → Finds result op (λ key. found_in key held over.tree)
     found result finds = finds over.tree honest over.over.stands.reads over.over.are_of.catalogue over.over.are_of.guided
-        (none_dropped held one over.tree d.bytes)
+        (dropped_in held one over.tree d.bytes over.over.are_of)
 
     -- its condition doesn't hold, by this value
     pub kept_steps : (value : Option Value) → FindsOver (tried.Kept value) op held d → IsRefused (Kept value)
@@ -133,4 +133,5 @@ met_behind {end} {most} {d} {d2} opening op held m reads honest s ran one finds 
     sym (met_same op (λ key. found_in key held over.tree) (value_in m.lists)
     (λ key. lookup_is_the_machines held over.tree m d2.bytes key (record { are_of = over.over.are_of; holds = over.holds })))
     ∙ finds over.tree before (subst (λ (file : List ℕ). HoldsTree held.runs.sizes over.tree file) (reads.same.same.bytes before)
-    over.over.stands.reads) over.over.are_of.catalogue over.over.are_of.guided (none_dropped held one over.tree d.bytes)
+    over.over.stands.reads) over.over.are_of.catalogue over.over.are_of.guided
+    (dropped_in held one over.tree d.bytes (subst (λ (file : List ℕ). AreOf held.runs over.tree file) (reads.same.same.bytes before) over.over.are_of))

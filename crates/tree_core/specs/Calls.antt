@@ -22,7 +22,7 @@ use Rattle.tree_machine.specs.declared.step.Kind.{Kind}
 use Rattle.tree_machine.specs.declared.step.Kind.TheVariants as kind
 use Rattle.tree_machine.specs.declared.step.Step.{Step}
 use Rattle.tree_runs.specs.Lookups.{HidesOlder}
-use Rattle.tree_runs.specs.Runs.{page_share}
+use Rattle.tree_runs.specs.Runs.{hold_share}
 use Rattle.core_moves.specs.Moves.{with_book}
 use Rattle.tree_core.specs.Answers.{answer_to_pay, newest_in, reply_to_drop, reply_to_get, reply_to_hold, reply_to_next, reply_to_write}
 use Rattle.tree_core.specs.Causes.{
@@ -176,7 +176,7 @@ pub record ReadsOn {D : Type 0} (state : D → DiskState) (seat n : ℕ) (answer
   pub book : new.held.book ≡ noted_in seat (op.Next n) (reply_to_next answer) old.held.book
   pub others : LeavesOthers seat old new
   pub runs : new.held.runs ≡ old.held.runs
-  pub few : pages_behind (hold_of seat old.holds) ≤ page_share old.held.runs.sizes
+  pub few : pages_behind (hold_of seat old.holds) ≤ hold_share old.held.runs.sizes
   pub reads : OnlyReads (file_length old.held.runs.sizes) (pages_behind (hold_of seat old.holds)) (state old.disk) (state new.disk)
   pub passes : PassesPages answer (hold_of seat old.holds) (hold_of seat new.holds) (state old.disk) (state new.disk)
   pub untouched : ScansNone answer → new.disk ≡ old.disk

@@ -15,6 +15,7 @@ use Rattle.std.specs.Prelude.{
   false,
   ◌&&◌,
   ◌==◌,
+  IfSome,
   IsTrue,
   is_some,
   List,
@@ -49,7 +50,7 @@ use Rattle.tree_machine.specs.Machine as machine
 use Rattle.seat_book.specs.State.{is_closed_in, noted_in}
 use Rattle.tree_runs.specs.Runs.{RunsState, filter_of, left_for_pass, left_for_deep}
 use Rattle.tree_runs.specs.Damage.{DeepMeetsDamage, PassMeetsDamage}
-use Rattle.tree_runs.specs.Holding.{IsHeldFrom, PinsComponents}
+use Rattle.tree_runs.specs.Holding.{IsHeldFrom, PinsFor}
 use Rattle.tree_runs.specs.Lookups.{AreToldBy, CountsYes, HidesOlder, IsDamageBelow, first_tag, from_newest}
 use Rattle.core_moves.specs.declared.held.Held.{Held}
 use Rattle.core_moves.specs.Held.{charge_in}
@@ -325,13 +326,15 @@ IsLookOn _ old before after = after.faults ≡ before.faults
 
 -- ---- holds
 
--- What holding a range is due to. A hold that was made is the one of this moment, and begins at low's page of each component; it pins just the components'
--- pages. One for which memory was refused leaves the earlier one, and its pins.
+-- What holding a range is due to. A hold that was made is the one of this moment, and begins at low's page of each component. It pins just the components'
+-- pages; or, where table A was dropped, of C1 only those that it reads, and beside them those that it reads of what the pass has finished. One for which
+-- memory was refused leaves the earlier one, and its pins.
 abbrev pub HoldsBecause : {D : Type 0} → Holding → ℕ → Key → Key → CoreState D → CoreState D → Type 0
 HoldsBecause holding.Held seat low high old new =
     (old.held.book.stopped ≡ None)
-    × ((hold : HoldState) × (hold_of seat new.holds ≡ Some hold) × IsHeldFrom old.held.runs low high old.held.log.b.entries old.held.log.a.entries hold)
-    × PinsComponents seat old.held.runs new.held.runs
+    × ((hold : HoldState) × (hold_of seat new.holds ≡ Some hold)
+    × IsHeldFrom old.held.runs old.held.log.a.floor low high old.held.log.b.entries old.held.log.a.entries hold)
+    × IfSome (hold_of seat new.holds) (λ hold. PinsFor old.held.log.a.floor seat hold.front hold.c1 old.held.runs new.held.runs.space)
 HoldsBecause holding.NoMemory seat low high old new = (old.held.book.stopped ≡ None) × (new.holds ≡ old.holds) × (new.held.runs ≡ old.held.runs)
 HoldsBecause (holding.Stopped why) seat low high old new = (old.held.book.stopped ≡ Some why) × (new.holds ≡ old.holds) × (new.held.runs ≡ old.held.runs)
 

@@ -10,7 +10,7 @@ use Rattle.page_space.specs.Space.{KeepsOtherPins}
 use Rattle.scan_view.specs.Hold.{HoldState}
 use Rattle.scan_view.specs.Holds.{hold_of, pages_behind}
 use Rattle.scan_view.specs.Pins.{HasHeld}
-use Rattle.tree_runs.specs.Runs.{page_share}
+use Rattle.tree_runs.specs.Runs.{hold_share}
 use Rattle.tree_machine.specs.Machine.{Machine}
 use Rattle.core_moves.specs.declared.held.Held.{Held}
 use Rattle.tree_core.specs.Core.{CoreState}
@@ -18,7 +18,7 @@ use Rattle.tree_core.specs.Standing.{StandsFor}
 
 -- Each hold has no more pages than a hold may pin.
 abbrev pub AreFew : Sizes → List (Option HoldState) → Type 0
-AreFew sizes holds = (seat : ℕ) → pages_behind (hold_of seat holds) ≤ page_share sizes
+AreFew sizes holds = (seat : ℕ) → pages_behind (hold_of seat holds) ≤ hold_share sizes
 
 -- Each caller's hold has those rows to give, from pages that the seat pins.
 abbrev pub HoldRows : Held → List (Option HoldState) → DiskState → List (Option (List Row)) → Type 0

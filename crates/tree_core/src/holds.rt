@@ -5,20 +5,21 @@ ghost use Rattle.blsm_model.specs.declared.row.Row.{Row};
 ghost use Rattle.blsm_model.specs.declared.op.Op.TheVariants as op;
 ghost use Rattle.blsm_model.specs.Book.{HasRoom};
 ghost use Rattle.blsm_model.specs.Format.{callers, most_rows};
-ghost use Rattle.blsm_model.specs.Geometry.{capacity, file_length};
+ghost use Rattle.blsm_model.specs.Geometry.{file_length};
 ghost use Rattle.blsm_model.specs.Stored.{as_reply};
 ghost use Rattle.disk_trait.specs.Reads.{OnlyReads};
 ghost use Rattle.page_file.specs.Component.{entries_of};
+ghost use Rattle.record_delta.specs.Entries.{above, replayed};
 ghost use Rattle.scan_view.specs.Holds.{hold_of, pages_behind};
 ghost use Rattle.scan_view.specs.Pins.{HasHeld};
 ghost use Rattle.seat_book.specs.State.{may_note_in, noted_in};
 ghost use Rattle.tree_machine.specs.Lists.{rows_in};
 ghost use Rattle.tree_file.specs.Tree.{Tree};
 ghost use Rattle.tree_runs.specs.Runs.{AreRuns};
-ghost use Rattle.tree_runs.specs.Holding.{AreOf};
+ghost use Rattle.tree_runs.specs.Holding.{AreOf, HoldFits};
 ghost use Rattle.core_moves.specs.Needs.{IsOn};
 ghost use Rattle.tree_core.specs.declared.answers.Holding.TheVariants as holding;
-ghost use Rattle.tree_core.specs.Answers.{reply_to_hold, reply_to_next, reply_to_drop};
+ghost use Rattle.tree_core.specs.Answers.{HasDropped, reply_to_hold, reply_to_next, reply_to_drop};
 ghost use Rattle.tree_core.specs.Calls.{HoldsRange, LetsGo, ReadsOn};
 ghost use Rattle.tree_core.specs.Causes.{HoldsBecause, PassesPages, ScansBecause, DropsBecause, ScansNone};
 ghost use Rattle.tree_core.specs.Holds.{AreFew};
@@ -47,14 +48,14 @@ fn take_hold(
 ) -> Holding
     requires seat { seat < callers }
     requires runs { held.old.book.stopped ≡ None → AreRuns held.old.runs }
-    requires live { held.old.book.stopped ≡ None
-        → held.old.runs.catalogue.c1.weight + held.old.runs.catalogue.c1x.weight + held.old.runs.catalogue.c2.weight ≤ capacity held.old.runs.sizes }
+    requires fits { held.old.book.stopped ≡ None → HoldFits held.old.runs held.old.log.a.entries }
     ensures moves { MovesHold seat held.old held.new holds.old holds.new }
     ensures cause { HoldsBecause result seat low.now high.now (undisked held.old holds.old) (undisked held.new holds.new) }
     ensures few { AreFew held.old.runs.sizes holds.old → AreFew held.new.runs.sizes holds.new }
-    ensures rows { (tree : Tree) (file : List ℕ) → result ≡ holding.Held → AreOf held.old.runs tree file
+    ensures rows { (tree : Tree) (file : List ℕ) → result ≡ holding.Held → AreOf held.old.runs tree file → HasDropped held.old tree file
+        → held.old.log.a.entries ≡ above held.old.log.a.floor (replayed tree.lane_a.entries)
         → HasHeld held.old.runs.sizes held.new.runs.space.pins seat (hold_of seat holds.new)
-        (Some (rows_in (record { b = held.old.log.b.entries; a = held.old.log.a.entries; c1 = entries_of tree.c1; c1x = entries_of tree.c1x; c2 = entries_of tree.c2 }) low.now high.now)) file }
+        (Some (rows_in (record { b = held.old.log.b.entries; a = replayed tree.lane_a.entries; c1 = entries_of tree.c1; c1x = entries_of tree.c1x; c2 = entries_of tree.c2 }) low.now high.now)) file }
 {
     if let Some(why) = held.book.stopped() {
         return Holding::Stopped(why);

@@ -1,7 +1,11 @@
 //! The store as one value.
-ghost use Rattle.std.specs.Prelude.{◌≡◌};
+ghost use Rattle.std.specs.Prelude.{◌≡◌, ◌+◌, ◌≤◌};
 ghost use Rattle.blsm_model.specs.Geometry.{high_mark};
 ghost use Rattle.seat_book.specs.State.{totals_in};
+ghost use Rattle.page_file.specs.Page.{most_used};
+ghost use Rattle.record_delta.specs.Entries.{above, entries_weight};
+ghost use Rattle.tree_log.specs.Log.{resident_in};
+ghost use Rattle.tree_runs.specs.Holding.{cursor_of_pass};
 ghost use Rattle.core_moves.specs.Held.{charge_in};
 ghost use Rattle.tree_core.specs.Core.{IsCore};
 ghost use Rattle.tree_core.specs.Holds.{AreFew};
@@ -50,6 +54,16 @@ impl<D: Disk + Drop> Core<D> {
         ensures { result ≡ charge_in self.now.held }
     {
         self.held.charge()
+    }
+
+    /// What is held of the memory table, in bytes of weight: table B, and what table A has above the key up to which it was dropped. Of what the pass
+    /// took that is a page's weight at most, whatever the disk does.
+    pub fn resident(&self) -> u64
+        ensures held { result ≡ resident_in self.now.held.log }
+        ensures light { result ≤ entries_weight self.now.held.log.b.entries
+            + (entries_weight (above (cursor_of_pass self.now.held.runs.pass) self.now.held.log.a.entries) + most_used) }
+    {
+        self.held.log.resident()
     }
 
     /// What settling took when the store was opened: the version of the newest catalogue behind it, the quanta, and how many they may be at most.

@@ -29,7 +29,7 @@ use Rattle.tree_machine.specs.Moves.{end_pass}
 use Rattle.tree_file.specs.Tree.{Tree}
 use Rattle.tree_file.specs.Places.{TurnsRoles}
 use Rattle.tree_log.specs.Log.{LogState, AreTables, IsAboveFloor, IsRestOf}
-use Rattle.tree_log.specs.Log.{IsLogOf, dropped_log, folded_into, turned_log, weight_of_tables, whole, with_entry}
+use Rattle.tree_log.specs.Log.{IsLogOf, dropped_by, dropped_log, folded_into, turned_log, weight_of_tables, whole, with_entry}
 
 -- ---- a record of a key above the floor
 
@@ -41,7 +41,7 @@ above_first : (floor : Option Key) (e : Key × Rec) (es : Entries) → is_above 
 above_first floor e es here = ap (λ b. cond b (e ∷ above floor es) (above floor es)) here
 
 -- it is put among what is above,
-put_above : (floor : Option Key) (key : Key) (rec : Rec) (es : Entries) → is_above floor key ≡ true
+pub put_above : (floor : Option Key) (key : Key) (rec : Rec) (es : Entries) → is_above floor key ≡ true
     → above floor (put key_cmp key rec es) ≡ put key_cmp key rec (above floor es)
 put_above floor key rec [] high = ap (λ b. cond b ((key, rec) ∷ []) []) high
 put_above floor key rec (e ∷ es) high =
@@ -164,6 +164,10 @@ dropped_is_of key tree log is = record {
 }
 
 -- the log of a tree with the same lanes
+pub dropped_by_is_of : (key : Option Key) (tree : Tree) (log : LogState) → IsLogOf tree log → IsLogOf tree (dropped_by key log)
+dropped_by_is_of None tree log is = is
+dropped_by_is_of (Some key) tree log is = dropped_is_of key tree log is
+
 pub log_keeps : (old new : Tree) (log : LogState) → new.catalogue.lanes ≡ old.catalogue.lanes → new.lane_a ≡ old.lane_a → new.lane_b ≡ old.lane_b
     → IsLogOf old log → IsLogOf new log
 log_keeps old new log roles a b is = record {

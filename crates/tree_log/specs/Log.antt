@@ -1,5 +1,5 @@
 -- The memory table of a tree, as contracts see it, and of which tree it is. Weights are in bytes.
-use Rattle.std.specs.Prelude.{◌≡◌, ⊤, ℕ, ◌+◌, ◌<◌, ◌^◌, Bool, true, false, IsTrue, None, if◌then◌else◌}
+use Rattle.std.specs.Prelude.{◌≡◌, ⊤, ℕ, ◌+◌, ◌<◌, ◌^◌, Bool, true, false, IsTrue, Option, Some, None, if◌then◌else◌}
 use Rattle.blsm_model.specs.Lanes.{a_of, b_of, AreRoles}
 use Rattle.blsm_model.specs.declared.key.Key.{Key}
 use Rattle.record_delta.specs.declared.record.Rec.{Rec}
@@ -79,6 +79,11 @@ with_entry false key rec log = record log { b = folded_into key rec log.b; lanes
 -- table A is dropped up to a key
 abbrev pub dropped_log : Key → LogState → LogState
 dropped_log key log = record log { a = dropped_to key log.a }
+
+-- or as it is, where there is no key
+abbrev pub dropped_by : Option Key → LogState → LogState
+dropped_by None log = log
+dropped_by (Some key) log = dropped_log key log
 
 -- as it is, with nothing dropped of it
 abbrev pub whole : Contents → Contents

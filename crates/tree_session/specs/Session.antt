@@ -19,7 +19,7 @@ use Rattle.seat_book.specs.State.{work_in}
 use Rattle.tree_machine.specs.Plays.{is_finished, is_help}
 use Rattle.tree_machine.specs.Steps.{last_write}
 use Rattle.tree_machine.specs.declared.step.Step.{Step}
-use Rattle.tree_runs.specs.Runs.{page_share}
+use Rattle.tree_runs.specs.Runs.{hold_share}
 use Rattle.core_moves.specs.declared.held.Held.{Held}
 use Rattle.tree_core.specs.Calls.{AreCalls}
 use Rattle.tree_core.specs.Causes.{pages_first, swaps_due_in}
@@ -47,7 +47,7 @@ most_quanta sizes op = work_bound sizes (total_weight (writes_of op))
 abbrev pub most_calls : Sizes → Op → ℕ → ℕ → ℕ
 most_calls sizes (Get key) quanta due = 3
 most_calls sizes (Hold low high) quanta due = 0
-most_calls sizes (Next n) quanta due = page_share sizes
+most_calls sizes (Next n) quanta due = hold_share sizes
 most_calls sizes Release quanta due = 0
 most_calls sizes (Work n) quanta due = n * (sizes.quantum / 4 + 9)
 most_calls sizes op quanta due = (pages_first op + (4 + 9 * due)) + (quanta + 1) * (sizes.quantum / 4 + 3)

@@ -3,7 +3,7 @@ use Rattle.std.proofs.Common.{◌∙◌, ◌*◌, ◌≤◌, ℕ, refl, ap, sym,
 use Rattle.std.proofs.lemmas.Grind.{common_steps}
 use Rattle.std.proofs.lemmas.Bool.Decides.{nat_tests}
 use Rattle.blsm_model.specs.Format.{most_weight}
-use Rattle.tree_runs.specs.Holding.{DeepTakes}
+use Rattle.tree_runs.specs.Holding.{DeepTakes, cursor_of_pass}
 use Rattle.core_moves.proofs.AffectLemmas.{stays_long}
 use Rattle.core_moves.proofs.held.Held.deep_quantum.Goals as goal
 
@@ -53,4 +53,5 @@ returns-in-Err-clause-kept g c = record {
   spring = λ failed. refl;
   book = λ failed. refl;
   pins = λ failed. c.deep_quantum.ensures.others.takes.pins;
+  cursor = λ failed. ap cursor_of_pass c.deep_quantum.ensures.others.pass;
 }

@@ -7,7 +7,9 @@ use Rattle.mem_table.specs.Tables.{Contents}
 use Rattle.snow_merge.specs.Pass.{SnowState}
 use Rattle.record_delta.specs.Entries.{Entries, replayed}
 use Rattle.page_file.specs.Component.{entries_of}
+use Rattle.merge_ends.specs.Output.{IsUpTo}
 use Rattle.tree_runs.specs.Damage.{PassMeetsDamage}
+use Rattle.tree_runs.specs.Runs.{PassCovers, released_by}
 use Rattle.tree_runs.specs.Holding.{HasAllAhead, PassTakes, PassTook, TellsQuantum}
 use Rattle.core_moves.proofs.AffectLemmas.{stays_long}
 use Rattle.core_moves.proofs.held.Held.pass_quantum.Goals as goal
@@ -35,8 +37,12 @@ returns-in-Ok-clause-told g c =
 pub returns-in-Ok-clause-takes : goal.returns-in-Ok-clause-takes
 returns-in-Ok-clause-takes g c = record {
   takes = subst (λ (t : Contents). PassTakes c.args.self.now.runs.sizes.quantum c.args.self.now.runs.pass c.pass_quantum.new.self.pass t.entries c.in-Ok.taken) c.a.ensures c.in-Ok.ensures.takes;
+  covers = λ total covers.
+      subst (λ (t : Contents). PassCovers total c.pass_quantum.new.self.pass t.entries
+      × IsUpTo (released_by c.args.self.now.runs.pass) (released_by c.pass_quantum.new.self.pass)) c.a.ensures
+      (c.in-Ok.ensures.covers total (subst (λ (t : Contents). PassCovers total c.args.self.now.runs.pass t.entries) (sym c.a.ensures) covers));
   others = c.pass_quantum.ensures.others;
-  log = refl;
+  log = c.drop_released.ensures;
   gears = c.took1.ensures;
   spring = refl;
   book = c.count_quantum.ensures;
@@ -70,4 +76,5 @@ returns-in-Err-clause-kept g c = record {
   spring = λ failed. refl;
   book = λ failed. refl;
   pins = λ failed. c.pass_quantum.ensures.others.takes.pins;
+  cursor = λ failed. c.in-Err.ensures.kept failed;
 }

@@ -25,7 +25,8 @@ none_runs None none = refl
 none_runs (Some snow) some = absurd (false≢true (sym some))
 
 pub append-requires-clause-above : goal.append-requires-clause-above
-append-requires-clause-above g c = above_floor c.goes_ahead-ahead.result c.args.key.now c.args.self.now c.requires.one
+append-requires-clause-above g c =
+    above_floor c.goes_ahead-ahead.result c.args.key.now c.args.self.now c.requires.one (sym c.goes_ahead-ahead.ensures)
 
 pub append-requires-clause-length : goal.append-requires-clause-length
 append-requires-clause-length g c = λ tells. c.requires.on.long tells ∙ ap file_length (sym c.requires.one.lanes)
