@@ -151,9 +151,9 @@ module _ {D : Type 0} (state : D → DiskState) (honest_tells : (d : D) → IsTr
         (refused_opening (unreadable.Worn version) tt was.name (can (settle was.name) was.asked) was.settles)
     completes (refused refusal.NoMemory) status lines cause is = inr is
     completes (made length) status lines cause is = inl is
-    completes (ran first history end) status lines (ls, a, same, runs) is =
+    completes (ran options history end) status lines (ls, a, same, runs) is =
         let well = is_well a.name ls a.options.workers a.options.turns (λ room. IsRoomOf room ls) history end (can (run a.name a.options) a.asked).0 runs in
-        inl (is ∙ ap (λ (e : Ending). status_of (ran first history e)) well)
+        inl (is ∙ ap (λ (e : Ending). status_of (ran options history e)) well)
     completes (served history end closing.SinkFault) status (cut, (no_fall, risen, once)) (a, s) is = absurd (quiet_is_no_rise granted.sink_quiet risen)
     completes (served history end closing.SourceFault) status lines (a, s) is = absurd (quiet_is_no_rise granted.source_quiet s.takes.counts.1)
     completes (served history end (closing.BadLine n)) status lines (a, s) is =

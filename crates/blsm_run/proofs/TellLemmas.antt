@@ -108,7 +108,9 @@ HasAnswered outcome before new = Tells before new outcome (status_of outcome) ×
 pub told_ok : (outcome : Outcome) (before old new : SinkState) → HasTold outcome before old → WritesAnswer outcome (Ok tt) old new → HasAnswered outcome before new
 told_ok (refused why) before old new same writes = let did = plain_ok (text_of (refused why)) before old new same writes in (inl (refl, did.0, did.1), tt)
 told_ok (made n) before old new same writes = let did = plain_ok (text_of (made n)) before old new same writes in (inl (refl, did.0, did.1), tt)
-told_ok (ran first run end) before old new same writes = let did = plain_ok (text_of (ran first run end)) before old new same writes in (inl (refl, did.0, did.1), tt)
+told_ok (ran options run end) before old new same writes =
+    let did = plain_ok (text_of (ran options run end)) before old new same writes in
+    (inl (refl, did.0, did.1), tt)
 told_ok (served run end closing.Ended) before old new told writes = let did = lines_ok run closing.Ended before old new told writes in (inl (refl, did.0, did.1), did.2)
 told_ok (served run end (closing.BadLine n)) before old new told writes = let did = lines_ok run (closing.BadLine n) before old new told writes in (inl (refl, did.0, did.1), did.2)
 told_ok (served run end (closing.NoRoom n)) before old new told writes = let did = lines_ok run (closing.NoRoom n) before old new told writes in (inl (refl, did.0, did.1), did.2)
@@ -123,7 +125,9 @@ told_ok (tried seed count run) before old new same writes = let did = plain_ok (
 pub told_err : (outcome : Outcome) (failed : Failed) (before old new : SinkState) → HasTold outcome before old → WritesAnswer outcome (Err failed) old new → Tells before new outcome SinkFault × TellsLines outcome before new
 told_err (refused why) failed before old new same writes = let did = plain_err (text_of (refused why)) failed before old new same writes in (inr (refl, did.0, did.1), tt)
 told_err (made n) failed before old new same writes = let did = plain_err (text_of (made n)) failed before old new same writes in (inr (refl, did.0, did.1), tt)
-told_err (ran first run end) failed before old new same writes = let did = plain_err (text_of (ran first run end)) failed before old new same writes in (inr (refl, did.0, did.1), tt)
+told_err (ran options run end) failed before old new same writes =
+    let did = plain_err (text_of (ran options run end)) failed before old new same writes in
+    (inr (refl, did.0, did.1), tt)
 told_err (served run end closing.Ended) failed before old new told writes = let did = lines_err run closing.Ended failed before old new told writes in (inr (refl, did.0, did.1), did.2)
 told_err (served run end (closing.BadLine n)) failed before old new told writes = let did = lines_err run (closing.BadLine n) failed before old new told writes in (inr (refl, did.0, did.1), did.2)
 told_err (served run end (closing.NoRoom n)) failed before old new told writes = let did = lines_err run (closing.NoRoom n) failed before old new told writes in (inr (refl, did.0, did.1), did.2)

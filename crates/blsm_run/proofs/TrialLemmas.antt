@@ -56,7 +56,7 @@ module _ {D : Type 0} (state : D → DiskState) (o : Outside D) (seed count : �
   ends_trial sink sink_after (refused (refusal.Worn version)) status cause tells = absurd (not_stopped (unreadable.Worn version) cause)
   ends_trial sink sink_after (refused refusal.NoMemory) status cause tells = elim (by_tells sink sink_after (refused refusal.NoMemory) status tells) [ inl is ↦ inr (inr is) | inr is ↦ inr (inl is) ]
   ends_trial sink sink_after (made n) status cause tells = absurd (not_made_so cause)
-  ends_trial sink sink_after (ran first history end) status cause tells = absurd (not_run cause.1)
+  ends_trial sink sink_after (ran options history end) status cause tells = absurd (not_run cause.1)
   ends_trial sink sink_after (served history end closing) status cause tells = absurd (not_served cause.0)
   ends_trial sink sink_after (checked report) status cause tells = absurd (not_checked cause)
   ends_trial sink sink_after (settled counts) status cause tells = absurd (not_settled cause)

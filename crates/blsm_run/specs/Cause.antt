@@ -89,7 +89,9 @@ Cause state o (refused (refusal.Damaged place)) = WasStopped state o (unreadable
 Cause state o (refused (refusal.Worn version)) = WasStopped state o (unreadable.Worn version)
 Cause state o (refused refusal.NoMemory) = ((o.source_after ≡ o.source) × (o.shelf_after ≡ o.shelf)) ⊎ AsksInVain o refusal.NoMemory ⊎ WasStopped state o unreadable.NoMemory
 Cause state o (made length) = HasMade state o (Ok length)
-Cause state o (ran first history end) = (lines : List Line) × (a : AsksToRun o (Ok lines)) × (first ≡ a.options.ships) × IsRunOnShelf state a.name lines a.options.workers a.options.turns (λ room. IsRoomOf room lines) history end o.shelf o.shelf_after
+Cause state o (ran options history end) =
+    (lines : List Line) × (a : AsksToRun o (Ok lines)) × (options ≡ a.options)
+    × IsRunOnShelf state a.name lines a.options.workers a.options.turns (λ room. IsRoomOf room lines) history end o.shelf o.shelf_after
 Cause state o (served history end closing) = (a : AsksToServe o) × IsServedOnShelf state a.name a.callers history end closing o.shelf o.shelf_after o.source o.source_after
 Cause state o (checked report) = HasChecked state o (Ok report)
 Cause state o (settled counts) = HasSettled state o (Ok counts)

@@ -1,5 +1,6 @@
 -- How a call ends, and what it writes then.
-use Rattle.std.specs.Prelude.{◌≡◌, ◌⊎◌, ◌≤◌, ⊤, ℕ, List, [], ◌∷◌, ◌++◌, Option, Some, IfSome, codes, decimal, Result, Ok, Err, IsErr}
+use Rattle.std.specs.Prelude.{◌≡◌, ◌⊎◌, ◌≤◌, ⊤, ℕ, Bool, true, false, List, [], ◌∷◌, ◌++◌, Option, Some, IfSome, codes, decimal}
+use Rattle.std.specs.Prelude.{Result, Ok, Err, IsErr}
 use Rattle.std.specs.List.{All}
 use Rattle.refusal.specs.declared.Failed.{Failed}
 use Rattle.text_io.specs.Text.{Adds, AddsFront, SinkState, Writes}
@@ -23,6 +24,7 @@ use Rattle.store_run.specs.Run.{Run, run_of}
 use Rattle.store_serve.specs.Told.{IsTold, closing_text, front_text, served_text}
 use Rattle.store_serve.specs.declared.closing.Closing.{Closing}
 use Rattle.store_serve.specs.declared.closing.Closing.TheVariants as closing
+use Rattle.program_words.specs.declared.request.Options.{Options}
 use Rattle.program_words.specs.declared.request.Unread.{Unread}
 use Rattle.program_words.specs.declared.request.Unread.TheVariants as unread
 use Rattle.blsm_run.specs.declared.outcome.Answer.{Answer}
@@ -38,8 +40,8 @@ pub data Outcome : Type 0 where
   refused : Refusal → Outcome
   -- a store of this length was made
   made : ℕ → Outcome
-  -- the script was run, its first ship was to have this number, and how the run ended
-  ran : ℕ → Run → Ending → Outcome
+  -- the script was run as the options say, and how the run ended
+  ran : Options → Run → Ending → Outcome
   -- a session was served, how its run ended, and why it did
   served : Run → Ending → Closing → Outcome
   checked : Report → Outcome
@@ -70,7 +72,7 @@ refusal_of_making not_made.Fault = refusal.DiskFault
 
 abbrev pub outcome_of : Result Answer Refusal → Outcome
 outcome_of (Ok (answer.Made length)) = made length
-outcome_of (Ok (answer.Ran first finished)) = ran first (run_of finished) finished.ending
+outcome_of (Ok (answer.Ran options finished)) = ran options (run_of finished) finished.ending
 outcome_of (Ok (answer.Served s)) = served (run_of s.finished) s.finished.ending s.closing
 outcome_of (Ok (answer.Checked report)) = checked report
 outcome_of (Ok (answer.Settled counts)) = settled counts
@@ -80,7 +82,7 @@ outcome_of (Err why) = refused why
 -- the keys of a trial's history are the generator's, by which its summary counts, and no number of a ship is too great
 abbrev pub HasMadeAnswer : Answer → Type 0
 HasMadeAnswer (answer.Tried seed count finished) = All (λ e. HasMadeKeys e.op) finished.annals.entries
-HasMadeAnswer (answer.Ran first finished) = first ≤ most_first
+HasMadeAnswer (answer.Ran options finished) = options.ships ≤ most_first
 HasMadeAnswer _ = ⊤
 
 -- ---- statuses
@@ -126,7 +128,7 @@ status_of (refused (refusal.Damaged place)) = Damaged
 status_of (refused (refusal.Worn version)) = Damaged
 status_of (refused refusal.NoMemory) = NoMemory
 status_of (made length) = Done
-status_of (ran first run end) = status_of_ending end
+status_of (ran options run end) = status_of_ending end
 status_of (served run end closing) = status_of_session end closing
 status_of (checked report) = Done
 status_of (settled counts) = Done
@@ -160,9 +162,16 @@ settled_text counts =
     named_number (codes "settled version") counts.version ++ named_number (codes " quanta") counts.quanta ++ named_number (codes " of") counts.bound
     ++ newline
 
--- the history of a run, and its ships behind it
-abbrev pub run_text : ℕ → Run → List ℕ
-run_text first run = history_text run.charge run.entries run.quanta run.totals ++ printed_ships first run.entries
+-- the line with what was held of the memory table in the end, where it is asked for
+abbrev pub resident_text : Bool → ℕ → List ℕ
+resident_text true weight = codes "resident " ++ decimal weight ++ newline
+resident_text false weight = []
+
+-- the history of a run, and behind it what the options ask for: what was held in the end, and the ships
+abbrev pub run_text : Options → Run → List ℕ
+run_text options run =
+    history_text run.charge run.entries run.quanta run.totals ++ resident_text options.resident run.resident
+    ++ printed_ships options.ships run.entries
 
 abbrev pub text_of : Outcome → List ℕ
 text_of (refused refusal.Usage) = codes "usage" ++ newline
@@ -176,7 +185,7 @@ text_of (refused (refusal.Damaged place)) = place_text place
 text_of (refused (refusal.Worn version)) = codes "worn " ++ decimal version ++ newline
 text_of (refused refusal.NoMemory) = codes "no memory" ++ newline
 text_of (made length) = codes "made " ++ decimal length ++ newline
-text_of (ran first run end) = run_text first run
+text_of (ran options run end) = run_text options run
 text_of (served run end closing) = served_text run.charge run.entries run.quanta run.totals closing
 text_of (checked report) = report_text report
 text_of (settled counts) = settled_text counts

@@ -15,6 +15,7 @@ ghost use Rattle.blsm_run.specs.Outcome.{
   outcome_of,
   place_text,
   report_text,
+  resident_text,
   run_text,
   settled_text,
   status_of,
@@ -26,6 +27,7 @@ ghost use Rattle.blsm_run.specs.Outcome.{
 use crate::Status;
 use crate::outcome::{Answer, Refusal};
 use blsm_model::Component;
+use program_words::Options;
 use recover_open::{Place, Report};
 use refusal::Failed;
 use script_text::{LONGEST, Piece, print_end, print_history, print_summary};
@@ -121,13 +123,25 @@ fn print_rest<K: Sink>(sink: &mut K, served: &Served) -> Result<(), Failed>
     }
 }
 
-// The history of a run, and its ships behind it, of which the first has this number. With 0 there are none.
-fn print_run<K: Sink>(sink: &mut K, first: u64, run: &Finished) -> Result<(), Failed>
-    requires { first ≤ most_first }
-    ensures { Writes (run_text first (run_of run.now)) result (K.state sink.old) (K.state sink.new) }
+// The line with what was held of the memory table in the end, in bytes of weight, where it is asked for.
+fn print_resident<K: Sink>(sink: &mut K, is_asked: bool, weight: u64) -> Result<(), Failed>
+    ensures { Writes (resident_text is_asked weight) result (K.state sink.old) (K.state sink.new) }
+{
+    if is_asked {
+        print_numbered(sink, b"resident ", weight)
+    } else {
+        write_all(sink, b"")
+    }
+}
+
+// The history of a run, and behind it what the options ask for: what was held in the end, and the ships.
+fn print_run<K: Sink>(sink: &mut K, options: Options, run: &Finished) -> Result<(), Failed>
+    requires { options.ships ≤ most_first }
+    ensures { Writes (run_text options (run_of run.now)) result (K.state sink.old) (K.state sink.new) }
 {
     print_history(sink, run.charge, &run.annals, &run.totals)?;
-    print_ships(sink, first, &run.annals)
+    print_resident(sink, options.resident, run.resident)?;
+    print_ships(sink, options.ships, &run.annals)
 }
 
 // What was done: the length of a store that was made, the history of a run, the end of a session, the report of a check, the counts of a
@@ -138,7 +152,7 @@ fn print_done<K: Sink>(sink: &mut K, answer: &Answer) -> Result<(), Failed>
 {
     match answer {
         Answer::Made(length) => print_numbered(sink, b"made ", *length),
-        Answer::Ran(first, run) => print_run(sink, *first, run),
+        Answer::Ran(options, run) => print_run(sink, *options, run),
         Answer::Served(served) => print_rest(sink, served),
         Answer::Checked(report) => print_report(sink, report),
         Answer::Settled(settled) => print_settled(sink, settled),

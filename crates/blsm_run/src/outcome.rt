@@ -1,7 +1,7 @@
 //! How a call ends.
 ghost use Rattle.std.specs.Prelude.{◌≡◌};
 
-use program_words::Unread;
+use program_words::{Options, Unread};
 use recover_open::{NotMade, Place, Report, Unreadable};
 use refusal::NoMemory;
 use store_run::{Finished, Settled};
@@ -12,8 +12,8 @@ use store_serve::Served;
 pub(crate) enum Answer {
     /// A store was made, whose file has this length in bytes.
     Made(u64),
-    /// A script was run, of whose history the first ship has this number, if any is printed: with 0 none is.
-    Ran(u64, Finished),
+    /// A script was run, of which is printed what the options say.
+    Ran(Options, Finished),
     /// A session was served, and all up to its end was told but where the sink failed.
     Served(Served),
     /// A store was checked.

@@ -47,7 +47,7 @@ fn run<R: Threads + Wait + Sync, S: Source, H: Shelf, G: Gate + Sync>(
         options.turns,
         gate,
     )?;
-    Ok(Answer::Ran(options.ships, finished))
+    Ok(Answer::Ran(options, finished))
 }
 
 // Serves the lines of the source over the store on the disk of a name, with room for the callers for which the words ask.

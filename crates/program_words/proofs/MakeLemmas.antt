@@ -1,7 +1,7 @@
 -- The geometry that four numbers make, if any, and what a file and numbers ask for.
 use Rattle.std.proofs.lemmas.Bool.Decides.{nat_tests}
 use Rattle.std.proofs.lemmas.Grind.{common_steps}
-use Rattle.std.proofs.Common.{◌≡◌, ℕ, Option, Some, None, ap, ◌∙◌, arith}
+use Rattle.std.proofs.Common.{◌≡◌, ℕ, ◌==◌, Option, Some, None, ap, ◌∙◌, arith}
 use Rattle.clap.specs.Words.{Text}
 use Rattle.blsm_model.specs.Sizes.{Sizes, IsGeometry}
 use Rattle.program_words.specs.Words.{geometry_by, make_by, run_by, serve_by, make, run, serve}
@@ -24,12 +24,13 @@ both_found name sizes n s named sized = ap (λ (o : Option Text). make_by o (Som
 
 -- ---- a run
 
-pub no_file : (name : Option Text) (workers turns ships : Option ℕ) → None ≡ name → None ≡ run_by name workers turns ships
-no_file name workers turns ships h1 = grind (arith, common_steps, nat_tests)
+pub no_file : (name : Option Text) (workers turns ships resident : Option ℕ) → None ≡ name → None ≡ run_by name workers turns ships resident
+no_file name workers turns ships resident h1 = grind (arith, common_steps, nat_tests)
 
-pub all_given : (name : Option Text) (workers turns ships : Option ℕ) (n : Text) (w t s : ℕ) → Some n ≡ name → Some w ≡ workers → Some t ≡ turns
-    → Some s ≡ ships → Some (run n (record { workers = w; turns = t; ships = s })) ≡ run_by name workers turns ships
-all_given name workers turns ships n w t s h1 h2 h3 h4 = grind (arith, common_steps, nat_tests)
+pub all_given : (name : Option Text) (workers turns ships resident : Option ℕ) (n : Text) (w t s r : ℕ) → Some n ≡ name → Some w ≡ workers
+    → Some t ≡ turns → Some s ≡ ships → Some r ≡ resident
+    → Some (run n (record { workers = w; turns = t; ships = s; resident = r == 1 })) ≡ run_by name workers turns ships resident
+all_given name workers turns ships resident n w t s r h1 h2 h3 h4 h5 = grind (arith, common_steps, nat_tests)
 
 -- what `serve` asks for
 pub nobody_served : (name : Option Text) (callers : Option ℕ) → None ≡ name → None ≡ serve_by name callers

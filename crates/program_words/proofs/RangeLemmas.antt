@@ -27,6 +27,7 @@ use Rattle.program_words.specs.Words.{
   trial_by,
   trial_in,
   callers_number,
+  resident_number,
   ships_number,
   workers_number,
   turns_number,
@@ -66,9 +67,9 @@ make_fits name found asked h1 h2 = grind (arith, common_steps, nat_tests)
 trial_fits : (seed count : Option ℕ) (asked : Asked) → Bounds seed_number seed → Bounds count_number count → trial_by seed count ≡ Some asked → IsInRange asked
 trial_fits seed count asked h1 h2 h3 = grind (arith, common_steps, nat_tests)
 
-run_fits : (name : Option Text) (workers turns ships : Option ℕ) (asked : Asked) → Bounds workers_number workers → Bounds turns_number turns
-    → Bounds ships_number ships → run_by name workers turns ships ≡ Some asked → IsInRange asked
-run_fits name workers turns ships asked h1 h2 h3 h4 = grind (arith, common_steps, nat_tests)
+run_fits : (name : Option Text) (workers turns ships resident : Option ℕ) (asked : Asked) → Bounds workers_number workers → Bounds turns_number turns
+    → Bounds ships_number ships → run_by name workers turns ships resident ≡ Some asked → IsInRange asked
+run_fits name workers turns ships resident asked h1 h2 h3 h4 = grind (arith, common_steps, nat_tests)
 
 serve_fits : (name : Option Text) (callers : Option ℕ) (asked : Asked) → Bounds callers_number callers → serve_by name callers ≡ Some asked → IsInRange asked
 serve_fits name callers asked h1 h2 = grind (arith, common_steps, nat_tests)
@@ -91,7 +92,8 @@ command_fits name rows asked is =
     (make_fits (file_in rows) (geometry_in rows) asked (λ sizes. geometry_fits (number_in half_number rows) (number_in ratio_number rows) (number_in low_number rows) (number_in quantum_number rows) sizes
     (bounded half_number rows) (bounded ratio_number rows) (bounded quantum_number rows)))
     (λ other. either (bytes_eq name (codes "run")) (run_in rows) _ asked other
-    (run_fits (file_in rows) (number_in workers_number rows) (number_in turns_number rows) (number_in ships_number rows) asked
+    (run_fits (file_in rows) (number_in workers_number rows) (number_in turns_number rows) (number_in ships_number rows)
+    (number_in resident_number rows) asked
     (bounded workers_number rows) (bounded turns_number rows) (bounded ships_number rows))
     (λ third. either (bytes_eq name (codes "check")) (option_map check (file_in rows)) _ asked third (check_fits (file_in rows) asked)
     (λ fourth. either (bytes_eq name (codes "trial")) (trial_in rows) _ asked fourth

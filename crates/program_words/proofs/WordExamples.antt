@@ -1,5 +1,5 @@
 -- Words that are accepted, and what is wrong with others.
-use Rattle.std.proofs.Common.{◌≡◌, ℕ, List, [], ◌∷◌, Option, Some, None, codes, refl}
+use Rattle.std.proofs.Common.{◌≡◌, ℕ, true, false, List, [], ◌∷◌, Option, Some, None, codes, refl}
 use Rattle.clap.specs.Words.{Text, Kinds, fault_of}
 use Rattle.clap.specs.declared.error.kind.ErrorKind.TheVariants as kind
 use Rattle.clap.proofs.OnLiterals.{clap_on_literals}
@@ -24,7 +24,7 @@ abbrev on_file : Text → List Text → List Text
 on_file command options = command ∷ codes "F" ∷ options
 
 abbrev options : ℕ → ℕ → ℕ → Options
-options workers turns ships = record { workers = workers; turns = turns; ships = ships }
+options workers turns ships = record { workers = workers; turns = turns; ships = ships; resident = false }
 
 -- ---- accepted
 
@@ -52,6 +52,15 @@ run_with_most = (refl, refl)
 run_with_ships : AskFor (on_file (codes "run") (codes "--ships" ∷ codes "9223372036854775808" ∷ [])) (run (codes "F") (options 2 1000 9223372036854775808))
 unfolding clap_on_literals
 run_with_ships = (refl, refl)
+
+run_with_resident : AskFor (on_file (codes "run") (codes "--resident" ∷ codes "1" ∷ []))
+    (run (codes "F") (record (options 2 1000 0) { resident = true }))
+unfolding clap_on_literals
+run_with_resident = (refl, refl)
+
+run_without : AskFor (on_file (codes "run") (codes "--resident=0" ∷ [])) (run (codes "F") (options 2 1000 0))
+unfolding clap_on_literals
+run_without = (refl, refl)
 
 make_plain : AskFor (on_file (codes "make") []) (make (codes "F") default_sizes)
 unfolding clap_on_literals
@@ -148,6 +157,14 @@ too_many_turns = refl
 ship_too_great : fault (on_file (codes "run") (codes "--ships" ∷ codes "9223372036854775809" ∷ [])) ≡ kind.ValueValidation ∷ []
 unfolding clap_on_literals
 ship_too_great = refl
+
+resident_two : fault (on_file (codes "run") (codes "--resident" ∷ codes "2" ∷ [])) ≡ kind.ValueValidation ∷ []
+unfolding clap_on_literals
+resident_two = refl
+
+resident_served : fault (on_file (codes "serve") (codes "--resident" ∷ codes "1" ∷ [])) ≡ kind.UnknownArgument ∷ []
+unfolding clap_on_literals
+resident_served = refl
 
 some_workers : fault (on_file (codes "run") (codes "--workers" ∷ codes "some" ∷ [])) ≡ kind.ValueValidation ∷ []
 unfolding clap_on_literals

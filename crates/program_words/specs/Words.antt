@@ -1,5 +1,6 @@
 -- The words of the command line, as `clap` reads them. The first word is the program's name.
-use Rattle.std.specs.Prelude.{◌≡◌, ⊤, ℕ, ◌≤◌, ◌<◌, ◌^◌, List, [], ◌∷◌, false, Option, Some, None, IsSome, true, if◌then◌else◌, nat_le, option_and_then, option_map, codes, Result, Ok, Err}
+use Rattle.std.specs.Prelude.{◌≡◌, ⊤, ℕ, ◌≤◌, ◌<◌, ◌^◌, ◌==◌, List, [], ◌∷◌, false, Option}
+use Rattle.std.specs.Prelude.{Some, None, IsSome, true, if◌then◌else◌, nat_le, option_and_then, option_map, codes, Result, Ok, Err}
 use Rattle.std.specs.Str.{bytes_eq}
 use Rattle.std.specs.Str.Parse.{digits_value, without_leading_plus}
 use Rattle.clap.specs.Words.{App, app_of, rule_of, Row, Rule, Text, new_app, new_rule, with_rule, with_subcommand, subcommand_of, first_of, one_of, fault_of}
@@ -68,6 +69,10 @@ turns_number = record { id = codes "turns"; least = 0; most = most_turns }
 abbrev pub ships_number : Number
 ships_number = record { id = codes "ships"; least = 0; most = most_ship }
 
+-- whether the resident weight is printed: with 1 it is, with 0 it isn't
+abbrev pub resident_number : Number
+resident_number = record { id = codes "resident"; least = 0; most = 1 }
+
 abbrev pub callers_number : Number
 callers_number = record { id = codes "callers"; least = 1; most = most_callers }
 
@@ -99,13 +104,15 @@ make_command = with_rule
     (with_default (codes "16384") (number_rule low_number)))
     (with_default (codes "4096") (number_rule quantum_number))
 
--- `run FILE`, with merge workers and their turns, and the number of the first ship
+-- `run FILE`, with merge workers and their turns, the number of the first ship, and whether the resident weight is printed
 abbrev pub run_command : App
 run_command = with_rule
     (with_rule
+    (with_rule
     (with_rule (on_file (codes "run")) (with_default (codes "2") (number_rule workers_number)))
     (with_default (codes "1000") (number_rule turns_number)))
-    (with_default (codes "0") (number_rule ships_number))
+    (with_default (codes "0") (number_rule ships_number)))
+    (with_default (codes "0") (number_rule resident_number))
 
 -- `trial`, with a seed and a count
 abbrev pub trial_command : App
@@ -193,12 +200,14 @@ make_by _ _ = None
 abbrev pub make_in : List Row → Option Asked
 make_in rows = make_by (file_in rows) (geometry_in rows)
 
-abbrev pub run_by : Option Text → Option ℕ → Option ℕ → Option ℕ → Option Asked
-run_by (Some name) (Some workers) (Some turns) (Some ships) = Some (run name (record { workers = workers; turns = turns; ships = ships }))
-run_by _ _ _ _ = None
+abbrev pub run_by : Option Text → Option ℕ → Option ℕ → Option ℕ → Option ℕ → Option Asked
+run_by (Some name) (Some workers) (Some turns) (Some ships) (Some resident) =
+    Some (run name (record { workers = workers; turns = turns; ships = ships; resident = resident == 1 }))
+run_by _ _ _ _ _ = None
 
 abbrev pub run_in : List Row → Option Asked
-run_in rows = run_by (file_in rows) (number_in workers_number rows) (number_in turns_number rows) (number_in ships_number rows)
+run_in rows =
+    run_by (file_in rows) (number_in workers_number rows) (number_in turns_number rows) (number_in ships_number rows) (number_in resident_number rows)
 
 abbrev pub serve_by : Option Text → Option ℕ → Option Asked
 serve_by (Some name) (Some callers) = Some (serve name callers)

@@ -72,7 +72,7 @@ fn make<'a>(alloc: Global) -> Result<Command<'a>, AllocError>
     with_arg(with_low, quantum)
 }
 
-// `run`, with its merge workers, their turns and the number of its first ship.
+// `run`, with its merge workers, their turns, the number of its first ship, and whether the resident weight is printed.
 #[inline(never)]
 fn run<'a>(alloc: Global) -> Result<Command<'a>, AllocError>
     ensures { IfOk result (IsCommand run_app) }
@@ -82,7 +82,9 @@ fn run<'a>(alloc: Global) -> Result<Command<'a>, AllocError>
     let turns = number(alloc, "turns", 0, MAX_TURNS).default_value("1000");
     let with_turns = with_arg(with_workers, turns);
     let ships = number(alloc, "ships", 0, MAX_SHIP).default_value("0");
-    with_arg(with_turns, ships)
+    let with_ships = with_arg(with_turns, ships);
+    let resident = number(alloc, "resident", 0, 1).default_value("0");
+    with_arg(with_ships, resident)
 }
 
 // `serve`, with its callers.

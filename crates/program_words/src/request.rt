@@ -11,6 +11,8 @@ pub struct Options {
     pub turns: u32,
     /// The number of the first ship that is printed behind the history, at most 2^63. With 0 none is printed.
     pub ships: u64,
+    /// Whether what is held of the memory table in the end is printed behind the history.
+    pub resident: bool,
 }
 
 /// What the words of the command line ask for.

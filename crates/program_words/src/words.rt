@@ -61,12 +61,14 @@ fn run_of<'a>(matches: &ArgMatches<'a>) -> Option<Request<'a>>
     let workers = number_of(matches, "workers", 0, MAX_WORKERS)?;
     let turns = number_of(matches, "turns", 0, MAX_TURNS)?;
     let ships = number_of(matches, "ships", 0, MAX_SHIP)?;
+    let resident = number_of(matches, "resident", 0, 1)?;
     Some(Request::Run {
         name,
         options: Options {
             workers: workers as u32,
             turns: turns as u32,
             ships,
+            resident: resident == 1,
         },
     })
 }

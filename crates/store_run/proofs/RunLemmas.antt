@@ -25,6 +25,7 @@ use Rattle.core_pace.specs.Opening.{IsOpened}
 use Rattle.disk_trait.specs.Disk.{DiskState}
 use Rattle.recover_open.specs.Opening.{HasLengthOf}
 use Rattle.seat_book.specs.State.{BookState, totals_in}
+use Rattle.tree_log.specs.Log.{resident_in}
 use Rattle.tree_core.specs.Core.{CoreState, IsCore}
 use Rattle.tree_core.specs.Steps.{StandsSince}
 use Rattle.tree_machine.specs.Machine.{WorkSoFar, no_work, seats}
@@ -37,13 +38,15 @@ use Rattle.tree_session.proofs.AloneLemmas.{quanta_alone}
 use Rattle.tree_shared.specs.Runs.{IsFresh, RunsAll}
 use Rattle.store_run.specs.Run.{CameToEnd, HaveEnded, IsRunOf, Run, run_at}
 
-abbrev pub run_with : ℕ → Book → Totals → Run
-run_with charge annals totals = record { charge = charge; entries = annals.entries; quanta = annals.quanta; totals = totals }
+abbrev pub run_with : ℕ → Book → Totals → ℕ → Run
+run_with charge annals totals resident =
+    record { charge = charge; entries = annals.entries; quanta = annals.quanta; totals = totals; resident = resident }
 
 -- so it is, by what ending a core gives
-pub run_is : (charge first : ℕ) (annals : Book) (totals : Totals) (held : Held) → charge ≡ first → annals ≡ held.book.book → totals ≡ totals_in (high_mark held.runs.sizes) (charge_in held) held.book
-    → run_with charge annals totals ≡ run_at first held
-run_is charge first annals totals held same is are = grind (arith, common_steps, nat_tests)
+pub run_is : (charge first : ℕ) (annals : Book) (totals : Totals) (resident : ℕ) (held : Held) → charge ≡ first → annals ≡ held.book.book
+    → totals ≡ totals_in (high_mark held.runs.sizes) (charge_in held) held.book → resident ≡ resident_in held.log
+    → run_with charge annals totals resident ≡ run_at first held
+run_is charge first annals totals resident held same is are left = grind (arith, common_steps, nat_tests)
 
 -- works of which none is open have no quanta
 no_quanta : (works : List WorkSoFar) → ((seat : ℕ) → slice_index_or works seat no_work ≡ no_work) → sum_by (λ w. w.quanta) works ≡ 0

@@ -156,7 +156,7 @@ pub record LeavesHistory {D : Type 0} (state : D → DiskState) (calls : List (S
   pub whole : (c : List ℕ) → last.images c → ShowsHistory sizes opening run.entries (length run.entries) c
   pub shown : ShowsHistory sizes opening run.entries (length run.entries) last.bytes
 
--- what is printed is what this state of the machine has
+-- the history that is printed is what this state of the machine has
 pub record IsPrinted (run : Run) (m : Machine) : Type 0 where
   pub entries : run.entries ≡ m.book.entries
   pub quanta : run.quanta ≡ m.book.quanta
@@ -167,7 +167,8 @@ pub record IsCalm (run : Run) : Type 0 where
   pub replies : AllByRecursion (λ e. is_trouble e.reply ≡ false) run.entries
   pub runs : run.totals.stopped ≡ None
 
--- With one caller and no worker, and where all went well, what is printed is one function of the state that the run begins with and the script.
+-- With one caller and no worker, and where all went well, the history that is printed is one function of the state that the run begins with and the
+-- script. What is held of the memory table isn't: the machine has no word of it.
 abbrev pub Solo : List Line → ℕ → Run → Machine → Type 0
 Solo lines workers run begin = (seat : ℕ) → seat < callers → AllByRecursion (λ l. l.seat ≡ seat) lines → workers ≡ 0 → IsCalm run → IsPrinted run (alone seat begin (lines_of seat lines))
 

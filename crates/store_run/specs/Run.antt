@@ -17,6 +17,7 @@ use Rattle.disk_trait.specs.Disk.{DiskState, GoesOn}
 use Rattle.gear_sched.specs.Gears.{GearState, first_debt, second_debt}
 use Rattle.seat_book.specs.Seats.{turns_in}
 use Rattle.seat_book.specs.State.{BookState, totals_in, work_in}
+use Rattle.tree_log.specs.Log.{resident_in}
 use Rattle.tree_core.specs.Calls.{AreCalls}
 use Rattle.tree_core.specs.Core.{CoreState}
 use Rattle.tree_core.specs.Notes.{HasLeft}
@@ -39,15 +40,16 @@ use Rattle.store_run.specs.declared.run.Ending.{Ending}
 use Rattle.store_run.specs.declared.run.Ending.TheVariants.{Well, Faulted, Damaged}
 use Rattle.store_run.specs.declared.run.Finished.{Finished}
 
--- The charge at the opening, the history, the quanta of each entry, and the totals.
+-- The charge at the opening, the history, the quanta of each entry, the totals, and how much of the memory table was held in the end.
 pub record Run : Type 0 where
   pub charge : ℕ
   pub entries : List Entry
   pub quanta : List ℕ
   pub totals : Totals
+  pub resident : ℕ
 
 abbrev pub run_of : Finished → Run
-run_of f = record { charge = f.charge; entries = f.annals.entries; quanta = f.annals.quanta; totals = f.totals }
+run_of f = record { charge = f.charge; entries = f.annals.entries; quanta = f.annals.quanta; totals = f.totals; resident = f.resident }
 
 -- what a core leaves to be printed that began with this charge
 abbrev pub run_at : ℕ → Held → Run
@@ -56,6 +58,7 @@ run_at charge held = record {
   entries = held.book.book.entries;
   quanta = held.book.book.quanta;
   totals = totals_in (high_mark held.runs.sizes) (charge_in held) held.book;
+  resident = resident_in held.log;
 }
 
 -- a page was found damaged, by a lookup, by a next or by a merge

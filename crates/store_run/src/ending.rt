@@ -49,7 +49,8 @@ fn stopped_by_page(totals: &Totals) -> bool
 
 /// How a run ended that leaves these annals and totals and a disk with so many faults.
 pub(crate) fn ending(faults: u64, annals: &Annals, totals: &Totals) -> Ending
-    ensures { IsEnding result (record { charge = 0; entries = annals.now.entries; quanta = annals.now.quanta; totals = totals.now }) faults }
+    ensures { IsEnding result
+        (record { charge = 0; entries = annals.now.entries; quanta = annals.now.quanta; totals = totals.now; resident = 0 }) faults }
 {
     if faults > 0 {
         Ending::Faulted

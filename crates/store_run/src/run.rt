@@ -46,6 +46,8 @@ pub struct Finished {
     pub charge: u64,
     pub annals: Annals,
     pub totals: Totals,
+    /// What was held of the memory table in the end, in bytes of weight.
+    pub resident: u64,
     pub ending: Ending,
 }
 
@@ -55,6 +57,7 @@ pub fn finish<D: Disk + Drop>(core: Core<D>, charge: u64) -> (D, Finished)
     ensures finished { run_of result.1 ≡ run_at charge core.held }
     ensures ending { IsEnding result.1.ending (run_of result.1) (D.state core.disk).faults }
 {
+    let resident = core.resident();
     let (disk, annals, totals) = core.end();
     let faults = disk.faults();
     let ended = ending(faults, &annals, &totals);
@@ -62,6 +65,7 @@ pub fn finish<D: Disk + Drop>(core: Core<D>, charge: u64) -> (D, Finished)
         charge,
         annals,
         totals,
+        resident,
         ending: ended,
     };
     (disk, finished)

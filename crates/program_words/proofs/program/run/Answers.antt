@@ -1,6 +1,7 @@
 use Rattle.std.proofs.Common.{IfOk, codes}
 use Rattle.clap.specs.Words.{App, Rule, with_rule}
-use Rattle.program_words.specs.Words.{IsCommand, ships_number, workers_number, turns_number, number_rule, with_default, on_file as on_file_app}
+use Rattle.program_words.specs.Words.{IsCommand, resident_number, ships_number, turns_number, workers_number}
+use Rattle.program_words.specs.Words.{number_rule, with_default, on_file as on_file_app}
 use Rattle.program_words.proofs.ProgramLemmas.{defaulted}
 use Rattle.program_words.proofs.program.run.Goals as goal
 
@@ -13,7 +14,12 @@ returns c =
     let turns = defaulted c.number-2.result c.default_value-turns.result _ (number_rule turns_number) c.number-2.ensures c.default_value-turns.ensures in
     let ships_rule : Rule = with_default (codes "0") (number_rule ships_number) in
     let ships = defaulted c.number-3.result c.default_value-ships.result _ (number_rule ships_number) c.number-3.ensures c.default_value-ships.ensures in
+    let resident_rule : Rule = with_default (codes "0") (number_rule resident_number) in
+    let resident = defaulted c.number-4.result c.default_value-resident.result _ (number_rule resident_number) c.number-4.ensures
+    c.default_value-resident.ensures in
     let of_turns : App = with_rule of_workers turns_rule in
+    let of_ships : App = with_rule of_turns ships_rule in
     let second : IfOk c.with_arg-with_workers.result (IsCommand of_workers) = c.with_arg-with_workers.ensures (on_file_app (codes "run")) workers_rule c.on_file.ensures workers in
     let third : IfOk c.with_arg-with_turns.result (IsCommand of_turns) = c.with_arg-with_turns.ensures of_workers turns_rule second turns in
-    c.with_arg.ensures of_turns ships_rule third ships
+    let fourth : IfOk c.with_arg-with_ships.result (IsCommand of_ships) = c.with_arg-with_ships.ensures of_turns ships_rule third ships in
+    c.with_arg.ensures of_ships resident_rule fourth resident

@@ -1,7 +1,7 @@
 use Rattle.std.proofs.Common.{◌≡◌, None, option_map, codes, rules, ◌∙◌}
 use Rattle.clap.specs.Words.{found_of, rows_of}
 use Rattle.clap.proofs.WalkLemmas.{first_value-rows}
-use Rattle.program_words.specs.Words.{asked_of, file_in, number_in, ships_number, turns_number, workers_number}
+use Rattle.program_words.specs.Words.{asked_of, file_in, number_in, resident_number, ships_number, turns_number, workers_number}
 use Rattle.program_words.proofs.MakeLemmas.{no_file, all_given}
 use Rattle.program_words.proofs.words.run_of.Goals as goal
 
@@ -10,11 +10,14 @@ returns-in_err-name c =
     let rows = rows_of (found_of c.args.matches.now) in
     let none : option_map asked_of c.from_residual.result ≡ None = search rules in
     none ∙ no_file (file_in rows) (number_in workers_number rows) (number_in turns_number rows) (number_in ships_number rows)
+    (number_in resident_number rows)
     (c.in_err-name.ensures ∙ first_value-rows (found_of c.args.matches.now) (codes "FILE"))
 
 pub returns : goal.returns
 returns c =
     let rows = rows_of (found_of c.args.matches.now) in
     all_given (file_in rows) (number_in workers_number rows) (number_in turns_number rows) (number_in ships_number rows)
-    c.in_ok-name.name.now c.in_ok-workers.workers c.in_ok-turns.turns c.in_ok-ships.ships
-    (c.in_ok-name.ensures ∙ first_value-rows (found_of c.args.matches.now) (codes "FILE")) c.in_ok-workers.ensures.value c.in_ok-turns.ensures.value c.in_ok-ships.ensures.value
+    (number_in resident_number rows)
+    c.in_ok-name.name.now c.in_ok-workers.workers c.in_ok-turns.turns c.in_ok-ships.ships c.in_ok-resident.resident
+    (c.in_ok-name.ensures ∙ first_value-rows (found_of c.args.matches.now) (codes "FILE"))
+    c.in_ok-workers.ensures.value c.in_ok-turns.ensures.value c.in_ok-ships.ensures.value c.in_ok-resident.ensures.value
