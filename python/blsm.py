@@ -477,8 +477,8 @@ def ships_of(first: int, entries: Iterable[Entry]) -> Iterator[Ship]:
 
 @dataclass(frozen=True)
 class Run:
-    """What a run did, in the order in which it took effect. Charge and peak in bytes; `text` is what was printed: the history, and its ships where
-    these were asked for."""
+    """What a run did, in the order in which it took effect. Charge, peak and `resident`, what was held of the memory table in the end, in bytes;
+    `text` is what was printed: the history, and behind it what else was asked for."""
 
     charge: int
     entries: tuple[Entry, ...]
@@ -491,6 +491,7 @@ class Run:
     script: str
     text: str
     ships: tuple[Ship, ...] = ()
+    resident: int | None = None
 
     def replies(self, caller: int) -> list[Reply]:
         return [entry.reply for entry in self.entries if entry.caller == caller]
@@ -499,12 +500,14 @@ class Run:
 ENTRY = re.compile(r"(\d+) (\d+) (.*) => (.*) q(\d+)")
 FIRST = re.compile(r"open charge (\d+)")
 LAST = re.compile(r"end c0 (\d+) of (\d+) callers (\d+) workers (\d+) swaps (\d+) (\d+)")
+RESIDENT = re.compile(r"resident (\d+)")
 
 
-def run_of(batch: Mapping[int, Sequence[Command]], script: str, text: str, ships: int = 0) -> Run:
-    """Reads a history, and the ships behind it, of which the first has this number; each entry gets the command object that its caller gave."""
+def run_of(batch: Mapping[int, Sequence[Command]], script: str, text: str, ships: int = 0, resident: bool = False) -> Run:
+    """Reads a history, and behind it what was held in the end, if that was asked for, and the ships, of which the first has this number; each entry
+    gets the command object that its caller gave."""
     printed = text.splitlines()
-    lines = [line for line in printed if not line.startswith("ship ")]
+    lines = [line for line in printed if not line.startswith(("resident ", "ship "))]
     first, last = FIRST.fullmatch(lines[0]) if lines else None, LAST.fullmatch(lines[-1]) if lines else None
     if not first or not last or not text.endswith("\n"):
         raise Unreadable("the history is cut off")
@@ -518,10 +521,14 @@ def run_of(batch: Mapping[int, Sequence[Command]], script: str, text: str, ships
         entries.append(Entry(int(found[2]), command, reply_of(found[4]), int(found[5])))
     if len(entries) != sum(map(len, batch.values())):
         raise Unreadable("the history lacks commands")
+    held = [found for line in printed[len(lines) :] if (found := RESIDENT.fullmatch(line))]
+    if len(held) != int(resident):
+        raise Unreadable("what was held in the end is told twice, or not as it was asked for")
     shipped = tuple(ships_of(ships, entries)) if ships else ()
-    if printed != [*lines, *(ship.line() for ship in shipped)]:
+    if printed != [*lines, *(found[0] for found in held), *(ship.line() for ship in shipped)]:
         raise Unreadable("the ships aren't the history's writes")
-    return Run(int(first[1]), tuple(entries), *(int(last[i]) for i in range(1, 7)), script, text, shipped)
+    told = int(held[0][1]) if held else None
+    return Run(int(first[1]), tuple(entries), *(int(last[i]) for i in range(1, 7)), script, text, shipped, told)
 
 
 @dataclass(frozen=True)
@@ -589,7 +596,15 @@ class Store:
         store.check()
         return store
 
-    def _call(self, command: str, options: Sequence[str] = (), script: str = "", batch: Mapping[int, Sequence[Command]] | None = None, ships: int = 0) -> str:
+    def _call(
+        self,
+        command: str,
+        options: Sequence[str] = (),
+        script: str = "",
+        batch: Mapping[int, Sequence[Command]] | None = None,
+        ships: int = 0,
+        resident: bool = False,
+    ) -> str:
         ended = subprocess.run([*self.program, command, *options, "--", self.path], input=script.encode("ascii"), stdout=subprocess.PIPE, check=False)
         try:
             text = ended.stdout.decode("ascii")
@@ -597,7 +612,8 @@ class Store:
             raise Unreadable("a text of other bytes than ASCII") from None
         if ended.returncode == 0:
             return text
-        run = run_of(batch or {}, script, text, ships) if text.startswith("open charge ") and ended.returncode in (6, 7) else None
+        is_told = text.startswith("open charge ") and ended.returncode in (6, 7)
+        run = run_of(batch or {}, script, text, ships, resident) if is_told else None
         raise refusal_of(ended.returncode, "the history tells it" if run else text.strip(), run)
 
     def check(self) -> Report:
@@ -617,10 +633,12 @@ class Store:
             raise Unreadable(f"{text!r} tells no settling")
         return Settled(*map(int, found.groups()))
 
-    def run(self, batch: Mapping[int, Iterable[Command]], workers: int = 0, turns: int = 1000, ships: int = 0) -> Run:
+    def run(
+        self, batch: Mapping[int, Iterable[Command]], workers: int = 0, turns: int = 1000, ships: int = 0, resident: bool = False
+    ) -> Run:
         """Does the commands of these callers, each caller's in order, beside so many merge workers with so many turns each. The limits of a script hold. Where a
         call of the file failed, or a page was found damaged, the exception's `run` has what was done. With a number above 0 its `ships` are the writes
-        that were done, the first of that number."""
+        that were done, the first of that number; its `resident` is there where it is asked for."""
         wanted = {check_number(caller, CALLERS, 1): list(commands) for caller, commands in batch.items()}
         # line by line, so that one thread alone would take them in turns
         most = max(map(len, wanted.values()), default=0)
@@ -628,7 +646,9 @@ class Store:
         options = ["--workers", str(check_number(workers, 8)), "--turns", str(check_number(turns, 1_000_000))]
         if check_number(ships, 1 << 63):
             options += ["--ships", str(ships)]
-        return run_of(wanted, script, self._call("run", options, script, wanted, ships), ships)
+        if resident:
+            options += ["--resident", "1"]
+        return run_of(wanted, script, self._call("run", options, script, wanted, ships, resident), ships, resident)
 
     def live(self, scans: int = 1) -> Live:
         """This store, kept open: commands are answered one by one, beside so many open scans (15 at most). The file is locked until it is closed."""

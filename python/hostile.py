@@ -355,7 +355,9 @@ class Case:
 CALLERS = 16
 
 PUTS = [f"put a{i:03} {i} text{i}" for i in range(80)]
-FIRST_HOLD = [*PUTS[:40], "hold a b", "next 1"]
+# the last of them begins a pass, which has the others on a finished page when they are held
+PAGE = [f"put a9{i:02} {i} {'p' * 400}" for i in range(8)]
+FIRST_HOLD = [*PUTS[:40], *PAGE, "hold a b", "next 1"]
 SECOND_HOLD = [*PUTS[40:], "put a000 9 -", "hold a z", "next 2", "next 32", "next 32", "get a000", "drop", "next 1"]
 # writes that look first: in the memory table, and at keys some of which the components have, by their counts and by others
 CONDITIONS = ["new a000 1 -", "swap a000 9 10 -", "swap a000 9 11 -", "new b000 1 -"]

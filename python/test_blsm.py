@@ -95,6 +95,27 @@ class Batches(WithStandIn):
         with self.assertRaises(ValueError):
             self.store.run(asked, ships=(1 << 63) + 1)
 
+    def test_what_is_held_in_the_end(self) -> None:
+        end = "open charge 0\n1 1 put a 1 hi => ok q0\nend c0 16 of 65536 callers 0 workers 0 swaps 0 0\n"
+        ship = "ship 3 put a 1 hi\n"
+        wrong = (
+            *("", ship, f"{ship}resident 16\n", f"resident 16\nresident 16\n{ship}"),
+            *(f"resident -1\n{ship}", f"resident 16 \n{ship}", f"resident\n{ship}"),
+        )
+        self.says(f"{end}resident 16\n{ship}", f"{end}resident 0\n", end, f"{end}resident 16\n", *(end + text for text in wrong))
+        asked = {1: [Put("a", 1, "hi")]}
+        run = self.store.run(asked, ships=3, resident=True)
+        self.assertEqual((run.resident, run.ships), (16, (blsm.Ship(3, Put("a", 1, "hi")),)))
+        self.assertEqual(self.asked().splitlines()[0], "run --workers 0 --turns 1000 --ships 3 --resident 1 -- -file")
+        self.assertEqual(self.store.run(asked, resident=True).resident, 0)
+        self.assertIsNone(self.store.run(asked).resident)
+        self.assertEqual(self.asked(2).splitlines()[0], "run --workers 0 --turns 1000 -- -file")
+        with self.assertRaises(blsm.Unreadable):
+            self.store.run(asked)
+        for _ in wrong:
+            with self.assertRaises(blsm.Unreadable):
+                self.store.run(asked, ships=3, resident=True)
+
     def test_a_condition_is_answered(self) -> None:
         for reply, is_put in (("ok", True), ("kept 1 -", False)):
             with self.subTest(reply):
