@@ -15,17 +15,17 @@ use Rattle.blsm_model.specs.Values.{value_at}
 use Rattle.blsm_model.specs.Histories.{Object, IsAnswer, counted_writes, is_met, is_met_by, looked_at, looks_first, moves_rows, writes_of}
 use Rattle.blsm_model.specs.Legal.{MayFail, is_running, is_work, is_write, may_look}
 
--- a command that writes makes just one write
-pub writes_one : (op : Op) → is_write op ≡ true → (w : Write) × (writes_of op ≡ w ∷ [])
-writes_one (Put key value) is = (write.Put key value, refl)
-writes_one (Add key count) is = (write.Add key count, refl)
-writes_one (Tail key tail) is = (write.Tail key tail, refl)
-writes_one (Del key) is = (write.Del key, refl)
-writes_one (New key value) is = (write.Put key value, refl)
-writes_one (Swap key count value) is = (write.Put key value, refl)
-writes_one _ is = absurd (false≢true is)
+-- a command that writes makes a write at least
+pub writes_some : (op : Op) → is_write op ≡ true → (w : Write) × (ws : List Write) × (writes_of op ≡ w ∷ ws)
+writes_some (Put key value) is = (write.Put key value, [], refl)
+writes_some (Add key count) is = (write.Add key count, [], refl)
+writes_some (Tail key tail) is = (write.Tail key tail, [], refl)
+writes_some (Del key) is = (write.Del key, [], refl)
+writes_some (New key value) is = (write.Put key value, [], refl)
+writes_some (Swap key count value) is = (write.Put key value, [], refl)
+writes_some _ is = absurd (false≢true is)
 
--- and so does an entry
+-- and an entry counts one at most
 pub few_counted : (es : List Entry) → length (counted_writes es) ≤ length es
 few_counted [] = omega arith
 few_counted (e ∷ es) = grind (arith, common_steps, nat_tests, few_counted es)

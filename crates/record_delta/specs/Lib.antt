@@ -4,3 +4,4 @@ pub mod Records
 pub mod Folding
 pub mod Entries
 pub mod Replays
+pub mod Several

@@ -17,7 +17,7 @@ use Rattle.blsm_model.specs.declared.history.Reply.TheVariants.{Damaged, Done, F
 use Rattle.blsm_model.specs.declared.history.Entry.{Entry}
 use Rattle.blsm_model.specs.Sizes.{Sizes}
 use Rattle.blsm_model.specs.Geometry.{limits_of, charge_limit}
-use Rattle.blsm_model.specs.Values.{key_of, value_at, weight_of}
+use Rattle.blsm_model.specs.Values.{value_at, weight_of}
 use Rattle.blsm_model.specs.Book.{Book}
 use Rattle.blsm_model.specs.Histories.{
   IsAnswer,
@@ -40,20 +40,19 @@ use Rattle.blsm_model.proofs.OpLemmas.{
   looked_same,
   met_same,
   no_condition,
-  writes_one,
+  writes_some,
   write_is_done,
   write_is_kept,
   write_is_no_work,
   write_leaves_rows,
 }
-use Rattle.record_delta.specs.declared.record.Rec.{Rec}
-use Rattle.record_delta.specs.Records.{weight, record_of}
-use Rattle.record_delta.specs.Entries.{AreSorted, entries_weight, with_record}
+use Rattle.record_delta.specs.Entries.{AreSorted, Entries, entries_weight}
+use Rattle.record_delta.specs.Several.{entries_of, with_records}
 use Rattle.tree_machine.specs.Lists.{Lists, memory_weight, value_in}
 use Rattle.tree_machine.specs.Layers.{IsPassCounted, IsDeepCounted, HasWay}
 use Rattle.tree_machine.specs.Merges.{Merge}
 use Rattle.tree_machine.specs.Machine.{Machine, in_pass, charge, memory_charge}
-use Rattle.tree_machine.specs.Moves.{goes_to_a, with_write, take_write, with_peak, note, stop}
+use Rattle.tree_machine.specs.Moves.{goes_to_a, with_writes, take_writes, with_peak, note, stop}
 use Rattle.tree_machine.specs.Steps.{
   Outcome,
   Well,
@@ -66,7 +65,7 @@ use Rattle.tree_machine.specs.Steps.{
   deep_swapped,
   swaps_due,
   ready_for,
-  taken_once,
+  taken_together,
   told_by_look,
   refused_first,
   unless_refused,
@@ -75,11 +74,11 @@ use Rattle.tree_machine.specs.Steps.{
   admit_fitting,
   is_full,
 }
-use Rattle.tree_machine.specs.Stands.{FitsFormat, Stands}
+use Rattle.tree_machine.specs.Stands.{FitsFormat, FitTogether, Stands}
 use Rattle.tree_machine.proofs.CarryLemmas.{carries_itself, deep_swapped_carries, ready_carries}
-use Rattle.tree_machine.proofs.LightLemmas.{light_write}
-use Rattle.tree_machine.proofs.WriteLemmas.{write_layered, value_in-write, behind_kept, sent_ahead}
-use Rattle.tree_machine.proofs.WeightLemmas.{weight_with, weight_of_record}
+use Rattle.tree_machine.proofs.LightLemmas.{light_entries, light_writes}
+use Rattle.tree_machine.proofs.WriteLemmas.{writes_layered, value_in-writes, taken_stays}
+use Rattle.tree_machine.proofs.WeightLemmas.{weight_with_all, weight_of_entries}
 use Rattle.tree_machine.proofs.ToldLemmas.{some_or_none, note_told, stop_told, none_fails}
 use Rattle.tree_machine.proofs.StandLemmas.{entry_of, IsReadyFor, note_stands, quiet_ready, running_told, unless_stands}
 use Rattle.tree_machine.proofs.Terms.{Carries}
@@ -113,97 +112,99 @@ failed_stands opening m seat op reply faults stands none refused uncounted named
     names : (why : Why) → Some (Faulted faults) ≡ Some why → NamesNoOther why reply
     names why is = grind (arith, common_steps, nat_tests)
 
--- ---- a write that is done
+-- ---- writes that are done
 
-heavier : (key : Key) (rec : Rec) (lists : Lists) (b : Bool) → AreSorted lists.a → AreSorted lists.b
+heavier : (more : Entries) (lists : Lists) (b : Bool) → AreSorted lists.a → AreSorted lists.b
     → memory_weight (cond b
-    (record { b = lists.b; a = with_record key rec lists.a; c1 = lists.c1; c1x = lists.c1x; c2 = lists.c2 })
-    (record { b = with_record key rec lists.b; a = lists.a; c1 = lists.c1; c1x = lists.c1x; c2 = lists.c2 })) ≤ memory_weight lists + weight key rec
-heavier key rec lists true sorted_a sorted_b = omega (arith, weight_with key rec lists.a sorted_a)
-heavier key rec lists false sorted_a sorted_b = omega (arith, weight_with key rec lists.b sorted_b)
+    (record { b = lists.b; a = with_records more lists.a; c1 = lists.c1; c1x = lists.c1x; c2 = lists.c2 })
+    (record { b = with_records more lists.b; a = lists.a; c1 = lists.c1; c1x = lists.c1x; c2 = lists.c2 })) ≤ memory_weight lists + entries_weight more
+heavier more lists true sorted_a sorted_b = omega (arith, weight_with_all more lists.a sorted_a)
+heavier more lists false sorted_a sorted_b = omega (arith, weight_with_all more lists.b sorted_b)
 
-components_stay : (key : Key) (rec : Rec) (lists : Lists) (b : Bool)
+components_stay : (more : Entries) (lists : Lists) (b : Bool)
     → (let new : Lists = cond b
-    (record { b = lists.b; a = with_record key rec lists.a; c1 = lists.c1; c1x = lists.c1x; c2 = lists.c2 })
-    (record { b = with_record key rec lists.b; a = lists.a; c1 = lists.c1; c1x = lists.c1x; c2 = lists.c2 }) in
+    (record { b = lists.b; a = with_records more lists.a; c1 = lists.c1; c1x = lists.c1x; c2 = lists.c2 })
+    (record { b = with_records more lists.b; a = lists.a; c1 = lists.c1; c1x = lists.c1x; c2 = lists.c2 }) in
     entries_weight new.c1 + entries_weight new.c1x + entries_weight new.c2 ≡ entries_weight lists.c1 + entries_weight lists.c1x + entries_weight lists.c2)
-components_stay key rec lists b = grind (arith, common_steps, nat_tests)
+components_stay more lists b = grind (arith, common_steps, nat_tests)
 
--- a write ahead of the cursor leaves what is behind it
-pass_counted : (key : Key) (rec : Rec) (lists : Lists) (running : Bool) (input memory admitted taken w : ℕ) (p : Option Merge) → AreSorted lists.a → IsPassCounted lists.a lists.c1 running input memory admitted taken p
-    → IsPassCounted (with_write p key rec lists).a (with_write p key rec lists).c1 running input memory (cond running (admitted + w) admitted) taken p
-pass_counted key rec lists running input memory admitted taken w p h1 h2 = grind (arith, common_steps, nat_tests, taken, behind_kept, sent_ahead)
+-- what the pass has taken stays
+pass_counted : (more : Entries) (lists : Lists) (running : Bool) (input memory admitted taken w : ℕ) (p : Option Merge) → AreSorted lists.a → IsPassCounted lists.a lists.c1 running input memory admitted taken p
+    → IsPassCounted (with_writes p more lists).a (with_writes p more lists).c1 running input memory (cond running (admitted + w) admitted) taken p
+pass_counted more lists running input memory admitted taken w p h1 h2 = grind (arith, common_steps, nat_tests, taken_stays)
 
-deep_counted : (key : Key) (rec : Rec) (lists : Lists) (running : Bool) (input admitted taken w : ℕ) (b : Bool) (p : Option Merge) → IsDeepCounted lists.c1x lists.c2 running input admitted taken p
+deep_counted : (more : Entries) (lists : Lists) (running : Bool) (input admitted taken w : ℕ) (b : Bool) (p : Option Merge) → IsDeepCounted lists.c1x lists.c2 running input admitted taken p
     → (let new : Lists = cond b
-    (record { b = lists.b; a = with_record key rec lists.a; c1 = lists.c1; c1x = lists.c1x; c2 = lists.c2 })
-    (record { b = with_record key rec lists.b; a = lists.a; c1 = lists.c1; c1x = lists.c1x; c2 = lists.c2 }) in
+    (record { b = lists.b; a = with_records more lists.a; c1 = lists.c1; c1x = lists.c1x; c2 = lists.c2 })
+    (record { b = with_records more lists.b; a = lists.a; c1 = lists.c1; c1x = lists.c1x; c2 = lists.c2 }) in
     IsDeepCounted new.c1x new.c2 running input (cond running (admitted + w) admitted) taken p)
-deep_counted key rec lists running input admitted taken w b p h1 = grind (arith, common_steps, nat_tests)
+deep_counted more lists running input admitted taken w b p h1 = grind (arith, common_steps, nat_tests)
 
-taken : Machine → ℕ → Write → Machine
-taken m seat w = with_peak (take_write seat w m)
+taken : Machine → ℕ → List Write → Machine
+taken m seat ws = with_peak (take_writes seat ws m)
 
-write_ready : (opening : List (Key × Value)) (m : Machine) (seat : ℕ) (op : Op) (w : Write) → Stands opening m → FitsFormat w → counted (entry_of seat op Done) ≡ w ∷ []
+writes_ready : (opening : List (Key × Value)) (m : Machine) (seat : ℕ) (op : Op) (ws : List Write) → Stands opening m → AllByRecursion FitsFormat ws
+    → counted (entry_of seat op Done) ≡ ws
     → ((s : ℕ) → (after (object_after opening m.book.entries) (entry_of seat op Done)).held s ≡ (object_after opening m.book.entries).held s)
-    → IsReadyFor opening (taken m seat w) (entry_of seat op Done)
+    → IsReadyFor opening (taken m seat ws) (entry_of seat op Done)
 unfolding taken
-write_ready opening m seat op w stands fits counts still = record {
+writes_ready opening m seat op ws stands fits counts still = record {
   sound = record {
-    layered = write_layered (key_of w) (record_of w) m.lists m.merges stands.sound.layered;
-    light = light_write (key_of w) (record_of w) m.lists m.merges fits.within stands.sound.light;
+    layered = writes_layered (entries_of ws) m.lists m.merges stands.sound.layered;
+    light = light_writes (entries_of ws) m.lists m.merges (light_entries ws fits) stands.sound.light;
     charged = charged (in_pass m) refl;
-    pass = pass_counted (key_of w) (record_of w) m.lists m.gears.pass m.gears.pass_c1 m.gears.pass_memory m.gears.pass_admitted m.gears.pass_taken (weight_of w) m.merges.pass stands.sound.layered.sorted_a stands.sound.pass;
-    deep = deep_counted (key_of w) (record_of w) m.lists m.gears.deep m.gears.deep_input m.gears.deep_admitted m.gears.deep_taken (weight_of w) (goes_to_a m.merges.pass m.lists.b (key_of w)) m.merges.deep stands.sound.deep;
+    pass = pass_counted (entries_of ws) m.lists m.gears.pass m.gears.pass_c1 m.gears.pass_memory m.gears.pass_admitted m.gears.pass_taken (total_weight ws) m.merges.pass stands.sound.layered.sorted_a stands.sound.pass;
+    deep = deep_counted (entries_of ws) m.lists m.gears.deep m.gears.deep_input m.gears.deep_admitted m.gears.deep_taken (total_weight ws) (goes_to_a m.merges.pass m.lists.b (entries_of ws)) m.merges.deep stands.sound.deep;
   };
-  values = λ q. value_in-write w m.lists m.merges.pass (written opening m.book.entries) fits.counts fits.tail stands.sound.layered.pass stands.values q
-      ∙ ap (λ ws. value_at (written opening m.book.entries ++ ws) q) (sym counts);
+  values = λ q. value_in-writes ws m.lists m.merges.pass (written opening m.book.entries) fits stands.sound.layered.pass stands.values q
+      ∙ ap (λ more. value_at (written opening m.book.entries ++ more) q) (sym counts);
   places = stands.places;
   held = λ s within. stands.held s within ∙ sym (still s);
   weighs = weighs (in_pass m) refl;
 }
   where
     new : Lists
-    new = with_write m.merges.pass (key_of w) (record_of w) m.lists
+    new = with_writes m.merges.pass (entries_of ws) m.lists
 
-    heavy : memory_weight (with_write m.merges.pass (key_of w) (record_of w) m.lists) ≤ memory_weight m.lists + weight_of w
-    heavy = omega (arith, heavier (key_of w) (record_of w) m.lists (goes_to_a m.merges.pass m.lists.b (key_of w)) stands.sound.layered.sorted_a stands.sound.layered.sorted_b, weight_of_record w)
+    heavy : memory_weight (with_writes m.merges.pass (entries_of ws) m.lists) ≤ memory_weight m.lists + total_weight ws
+    heavy = omega (arith, heavier (entries_of ws) m.lists (goes_to_a m.merges.pass m.lists.b (entries_of ws)) stands.sound.layered.sorted_a stands.sound.layered.sorted_b, weight_of_entries ws)
 
-    charged : (b : Bool) → in_pass m ≡ b → memory_weight (with_write m.merges.pass (key_of w) (record_of w) m.lists)
-        ≤ cond (in_pass m) (m.gears.pass_memory + cond (in_pass m) (m.gears.pass_admitted + weight_of w) m.gears.pass_admitted) (memory_weight (with_write m.merges.pass (key_of w) (record_of w) m.lists))
-    charged b is = subst (λ c. memory_weight (with_write m.merges.pass (key_of w) (record_of w) m.lists)
-        ≤ cond c (m.gears.pass_memory + cond c (m.gears.pass_admitted + weight_of w) m.gears.pass_admitted) (memory_weight (with_write m.merges.pass (key_of w) (record_of w) m.lists))) (sym is)
+    charged : (b : Bool) → in_pass m ≡ b → memory_weight (with_writes m.merges.pass (entries_of ws) m.lists)
+        ≤ cond (in_pass m) (m.gears.pass_memory + cond (in_pass m) (m.gears.pass_admitted + total_weight ws) m.gears.pass_admitted) (memory_weight (with_writes m.merges.pass (entries_of ws) m.lists))
+    charged b is = subst (λ c. memory_weight (with_writes m.merges.pass (entries_of ws) m.lists)
+        ≤ cond c (m.gears.pass_memory + cond c (m.gears.pass_admitted + total_weight ws) m.gears.pass_admitted) (memory_weight (with_writes m.merges.pass (entries_of ws) m.lists))) (sym is)
         (by b (subst (λ c. memory_weight m.lists ≤ cond c (m.gears.pass_memory + m.gears.pass_admitted) (memory_weight m.lists)) is stands.sound.charged))
       where
         by : (c : Bool) → memory_weight m.lists ≤ cond c (m.gears.pass_memory + m.gears.pass_admitted) (memory_weight m.lists)
-            → memory_weight (with_write m.merges.pass (key_of w) (record_of w) m.lists)
-            ≤ cond c (m.gears.pass_memory + cond c (m.gears.pass_admitted + weight_of w) m.gears.pass_admitted) (memory_weight (with_write m.merges.pass (key_of w) (record_of w) m.lists))
+            → memory_weight (with_writes m.merges.pass (entries_of ws) m.lists)
+            ≤ cond c (m.gears.pass_memory + cond c (m.gears.pass_admitted + total_weight ws) m.gears.pass_admitted) (memory_weight (with_writes m.merges.pass (entries_of ws) m.lists))
         by true was = omega (arith, was, heavy)
         by false was = omega arith
 
-    weighs : (b : Bool) → in_pass m ≡ b → charge (with_peak (take_write seat w m)) ≤ m.counts.charge + total_weight (counted_writes m.book.entries ++ counted (entry_of seat op Done))
-    weighs b is = omega (arith, more, stands.weighs, components_stay (key_of w) (record_of w) m.lists (goes_to_a m.merges.pass m.lists.b (key_of w)), total)
+    weighs : (b : Bool) → in_pass m ≡ b → charge (with_peak (take_writes seat ws m)) ≤ m.counts.charge + total_weight (counted_writes m.book.entries ++ counted (entry_of seat op Done))
+    weighs b is = omega (arith, more, stands.weighs, components_stay (entries_of ws) m.lists (goes_to_a m.merges.pass m.lists.b (entries_of ws)), total)
       where
-        total : total_weight (counted_writes m.book.entries ++ counted (entry_of seat op Done)) ≡ total_weight (counted_writes m.book.entries) + weight_of w
-        total = omega (arith, ap (λ ws. total_weight (counted_writes m.book.entries ++ ws)) counts, sum_by-append weight_of (counted_writes m.book.entries) (w ∷ []))
+        total : total_weight (counted_writes m.book.entries ++ counted (entry_of seat op Done)) ≡ total_weight (counted_writes m.book.entries) + total_weight ws
+        total = ap (λ more. total_weight (counted_writes m.book.entries ++ more)) counts ∙ sum_by-append weight_of (counted_writes m.book.entries) ws
 
-        more : cond (in_pass m) (m.gears.pass_memory + cond (in_pass m) (m.gears.pass_admitted + weight_of w) m.gears.pass_admitted) (memory_weight (with_write m.merges.pass (key_of w) (record_of w) m.lists))
-            ≤ memory_charge m + weight_of w
-        more = subst (λ c. cond c (m.gears.pass_memory + cond c (m.gears.pass_admitted + weight_of w) m.gears.pass_admitted) (memory_weight (with_write m.merges.pass (key_of w) (record_of w) m.lists))
-            ≤ cond c (m.gears.pass_memory + m.gears.pass_admitted) (memory_weight m.lists) + weight_of w) (sym is) (by b)
+        more : cond (in_pass m) (m.gears.pass_memory + cond (in_pass m) (m.gears.pass_admitted + total_weight ws) m.gears.pass_admitted) (memory_weight (with_writes m.merges.pass (entries_of ws) m.lists))
+            ≤ memory_charge m + total_weight ws
+        more = subst (λ c. cond c (m.gears.pass_memory + cond c (m.gears.pass_admitted + total_weight ws) m.gears.pass_admitted) (memory_weight (with_writes m.merges.pass (entries_of ws) m.lists))
+            ≤ cond c (m.gears.pass_memory + m.gears.pass_admitted) (memory_weight m.lists) + total_weight ws) (sym is) (by b)
           where
-            by : (c : Bool) → cond c (m.gears.pass_memory + cond c (m.gears.pass_admitted + weight_of w) m.gears.pass_admitted) (memory_weight (with_write m.merges.pass (key_of w) (record_of w) m.lists))
-                ≤ cond c (m.gears.pass_memory + m.gears.pass_admitted) (memory_weight m.lists) + weight_of w
+            by : (c : Bool) → cond c (m.gears.pass_memory + cond c (m.gears.pass_admitted + total_weight ws) m.gears.pass_admitted) (memory_weight (with_writes m.merges.pass (entries_of ws) m.lists))
+                ≤ cond c (m.gears.pass_memory + m.gears.pass_admitted) (memory_weight m.lists) + total_weight ws
             by true = omega arith
             by false = heavy
 
-written_stands : (opening : List (Key × Value)) (m : Machine) (seat : ℕ) (op : Op) (w : Write) → Stands opening m → m.stopped ≡ None → FitsFormat w → counted (entry_of seat op Done) ≡ w ∷ []
+written_stands : (opening : List (Key × Value)) (m : Machine) (seat : ℕ) (op : Op) (ws : List Write) → Stands opening m → m.stopped ≡ None → AllByRecursion FitsFormat ws
+    → counted (entry_of seat op Done) ≡ ws
     → ((s : ℕ) → (after (object_after opening m.book.entries) (entry_of seat op Done)).held s ≡ (object_after opening m.book.entries).held s)
-    → MayReply (limits_of m.gears.sizes m.counts.charge) opening m.book.entries seat op Done → Stands opening (note seat op Done (with_peak (take_write seat w m)))
+    → MayReply (limits_of m.gears.sizes m.counts.charge) opening m.book.entries seat op Done → Stands opening (note seat op Done (with_peak (take_writes seat ws m)))
 unfolding taken
-written_stands opening m seat op w stands none fits counts still may =
-    note_stands opening (taken m seat w) seat op Done (write_ready opening m seat op w stands fits counts still)
-    (running_told opening (taken m seat w) seat op Done
+written_stands opening m seat op ws stands none fits counts still may =
+    note_stands opening (taken m seat ws) seat op Done (writes_ready opening m seat op ws stands fits counts still)
+    (running_told opening (taken m seat ws) seat op Done
     (record { legal = stands.told.legal; running = stands.told.running; one_why = stands.told.one_why; works = stands.told.works }) none may refl refl)
 
 -- ---- a write that fits
@@ -231,16 +232,16 @@ fitting_stands opening m seat op weight outcome stands way none is_one met fit =
     after_failure commits faults true = lost faults (commits == 0)
     after_failure commits faults false = failed (ready_for weight m) FaultUnsure faults (ready_carries weight m stands.sound way) refl refl tt (λ before running. (running, is_one))
 
-    done : Stands opening (note seat op Done (with_peak (taken_once seat (writes_of op) (ready_for weight m))))
+    done : Stands opening (note seat op Done (with_peak (taken_together seat (writes_of op) (ready_for weight m))))
     done =
         let carries = ready_carries weight m stands.sound way in
         let ready = carries_stands opening m (ready_for weight m) stands carries in
         let still_none : (ready_for weight m).stopped ≡ None = carries.stopped ∙ none in
         let object = object_after opening (ready_for weight m).book.entries in
-        let one = writes_one op is_one in
+        let some = writes_some op is_one in
         let still_met = subst (λ (b : Book). is_met op (value_at (object_after opening b.entries).writes) ≡ true) (sym carries.book) met in
-        subst (λ ws. Stands opening (note seat op Done (with_peak (taken_once seat ws (ready_for weight m))))) (sym one.1)
-        (written_stands opening (ready_for weight m) seat op one.0 ready still_none (subst (λ ws. AllByRecursion FitsFormat ws) one.1 fit).0 one.1
+        subst (λ ws. Stands opening (note seat op Done (with_peak (taken_together seat ws (ready_for weight m))))) (sym some.2)
+        (written_stands opening (ready_for weight m) seat op (some.0 ∷ some.1) ready still_none (subst (λ ws. AllByRecursion FitsFormat ws) some.2 fit) some.2
         (λ s. held-still object (entry_of seat op Done) s (write_leaves_rows op is_one))
         (ready.told.running still_none, write_is_done object seat op is_one still_met))
 
@@ -331,8 +332,8 @@ refused_stands opening m seat op outcome otherwise stands none is_one goes = by 
 
 pub admit_stands : (opening : List (Key × Value)) (m : Machine) (seat : ℕ) (op : Op) (outcome : Outcome) → Stands opening m → HasWay m → is_write op
     ≡ true
-    → AllByRecursion FitsFormat (writes_of op) → Stands opening (admit m seat op outcome).state
+    → FitTogether (writes_of op) → Stands opening (admit m seat op outcome).state
 admit_stands opening m seat op outcome stands way is_one fit =
     unless_stands opening m seat op (unless_refused (refused_first m op outcome) seat op m (admit_met m seat op outcome)) stands
     (λ none. refused_stands opening m seat op outcome (admit_met m seat op outcome) stands none is_one
-    (λ met. met_stands opening m seat op outcome stands way none is_one met fit))
+    (λ met. met_stands opening m seat op outcome stands way none is_one met fit.each))

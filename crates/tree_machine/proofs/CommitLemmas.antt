@@ -37,7 +37,7 @@ use Rattle.tree_machine.specs.Steps.{
   is_full,
   deep_swapped,
   ready_for,
-  taken_once,
+  taken_together,
   reply_unless,
   do_hold,
   do_next,
@@ -57,7 +57,7 @@ ready_commits first weight m sound v = grind (arith, common_steps, nat_tests)
 
 -- ---- an admission
 
-taken_commits : (first seat : ℕ) (op : Op) (n : Machine) → IsVersion first n → IsVersion first (with_peak (taken_once seat (writes_of op) n))
+taken_commits : (first seat : ℕ) (op : Op) (n : Machine) → IsVersion first n → IsVersion first (with_peak (taken_together seat (writes_of op) n))
 taken_commits first seat op n v = grind (arith, common_steps, nat_tests)
 
 unless_commits : (first seat : ℕ) (op : Op) (m : Machine) (o : Option Why) (otherwise : Stepped) → IsVersion first m → IsVersion first otherwise.state → IsVersion first (unless_stopped o seat op m otherwise).state
@@ -79,7 +79,7 @@ admit_commits first m seat op outcome sound v =
     failed commits faults true = lost (commits == 0)
     failed commits faults false = ready
 
-    done : IsVersion first (with_peak (taken_once seat (writes_of op) (ready_for (total_weight (writes_of op)) m)))
+    done : IsVersion first (with_peak (taken_together seat (writes_of op) (ready_for (total_weight (writes_of op)) m)))
     done = taken_commits first seat op (ready_for (total_weight (writes_of op)) m) ready
 
     fitting : (e : Outcome) → IsVersion first (admit_fitting m seat op (total_weight (writes_of op)) e).state

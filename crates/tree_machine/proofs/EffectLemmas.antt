@@ -43,7 +43,7 @@ use Rattle.tree_machine.specs.Steps.{
   is_full,
   deep_swapped,
   ready_for,
-  taken_once,
+  taken_together,
   reply_unless,
   hold,
   do_hold,
@@ -127,7 +127,7 @@ works_on seat m n k h1 h2 h3 h4 = grind (arith, common_steps, nat_tests)
 
 -- ---- an admission
 
-taken_keeps : (seat : ℕ) (ws : List Write) (n : Machine) → ((taken_once seat ws n).seats.quanta ≡ n.seats.quanta) × ((taken_once seat ws n).merges ≡ n.merges)
+taken_keeps : (seat : ℕ) (ws : List Write) (n : Machine) → ((taken_together seat ws n).seats.quanta ≡ n.seats.quanta) × ((taken_together seat ws n).merges ≡ n.merges)
 taken_keeps seat ws n = grind (arith, common_steps, nat_tests)
 
 admit_works : (m : Machine) (seat : ℕ) (op : Op) (outcome : Outcome) → IsSound m → HasWay m → Works seat m (admit m seat op outcome).state
@@ -136,7 +136,7 @@ admit_works m seat op outcome sound way = unless m.stopped
     ready : Rests m (ready_for (total_weight (writes_of op)) m)
     ready = ready_rests (total_weight (writes_of op)) m sound way
 
-    done : Rests m (note seat op Done (with_peak (taken_once seat (writes_of op) (ready_for (total_weight (writes_of op)) m))))
+    done : Rests m (note seat op Done (with_peak (taken_together seat (writes_of op) (ready_for (total_weight (writes_of op)) m))))
     done = grind (arith, common_steps, nat_tests, taken_keeps, rests_on)
 
     lost : (faults : ℕ) (c : Bool) → Rests m (note seat op FaultLost (stop (Faulted faults) (cond c m (deep_swapped m))))

@@ -15,6 +15,7 @@ use Rattle.record_delta.specs.declared.record.Rec.{Rec}
 use Rattle.record_delta.specs.Folding.{over}
 use Rattle.record_delta.proofs.FoldingLemmas.{fold_associative}
 use Rattle.record_delta.specs.Entries.{AreSorted, Entries, folded_over, over_any, record_of_key, with_record}
+use Rattle.record_delta.specs.Several.{with_records}
 
 pub by_test : (b : Bool) → (b ≡ true) ⊎ (b ≡ false)
 by_test b = grind (arith, common_steps, nat_tests)
@@ -97,3 +98,21 @@ sorted_with_record key rec es sorted =
 pub sorted_folded_over : (newer older : Entries) → AreSorted older → AreSorted (folded_over newer older)
 sorted_folded_over [] older sorted = sorted
 sorted_folded_over (e ∷ newer) older sorted = sorted_with_record e.0 e.1 (folded_over newer older) (sorted_folded_over newer older sorted)
+
+-- ---- several entries, one after the other
+
+-- what they have of a key
+abbrev pub written_at : Entries → Key → Option Rec
+written_at [] q = None
+written_at (e ∷ more) q = over_any (written_at more q) (cond (eq_by_cmp key_cmp q e.0) (Some e.1) None)
+
+pub find-with_records : (more es : Entries) (q : Key) → record_of_key q (with_records more es) ≡ over_any (written_at more q) (record_of_key q es)
+find-with_records [] es q = refl
+find-with_records (e ∷ more) es q =
+    find-with_records more (with_record e.0 e.1 es) q
+    ∙ ap (over_any (written_at more q)) (find-with_record e.0 e.1 es q)
+    ∙ sym (over_any_assoc (written_at more q) (cond (eq_by_cmp key_cmp q e.0) (Some e.1) None) (record_of_key q es))
+
+pub sorted_with_records : (more es : Entries) → AreSorted es → AreSorted (with_records more es)
+sorted_with_records [] es sorted = sorted
+sorted_with_records (e ∷ more) es sorted = sorted_with_records more (with_record e.0 e.1 es) (sorted_with_record e.0 e.1 es sorted)

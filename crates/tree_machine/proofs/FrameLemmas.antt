@@ -41,7 +41,7 @@ use Rattle.tree_machine.specs.Steps.{
   swapped,
   pass_begun_for,
   ready_for,
-  taken_once,
+  taken_together,
   forgive,
   count_for_write,
   holding,
@@ -202,7 +202,7 @@ noted_apart seat op reply m n p = apart_on seat 0 0 p (note_apart seat op reply 
 unless_apart : (seat : ℕ) (op : Op) (m : Machine) (otherwise : Stepped) → (m.stopped ≡ None → Apart seat 0 m otherwise.state) → Apart seat 0 m (unless_stopped m.stopped seat op m otherwise).state
 unless_apart seat op m otherwise runs = grind (arith, common_steps, nat_tests)
 
-taken_apart : (seat : ℕ) (ws : List Write) (m : Machine) → Apart seat 0 m (with_peak (taken_once seat ws m))
+taken_apart : (seat : ℕ) (ws : List Write) (m : Machine) → Apart seat 0 m (with_peak (taken_together seat ws m))
 taken_apart seat ws m = grind (arith, common_steps, nat_tests)
 
 admit_apart : (m : Machine) (seat : ℕ) (op : Op) (outcome : Outcome) → Apart seat 0 m (admit m seat op outcome).state
@@ -219,8 +219,8 @@ admit_apart m seat op outcome =
     failed none commits faults false = noted_apart seat op FaultUnsure m (stop (Faulted faults) (ready_for (total_weight (writes_of op)) m))
         (apart_on seat 0 0 (ready_apart seat (total_weight (writes_of op)) m) (stop_apart seat (Faulted faults) (ready_for (total_weight (writes_of op)) m) (ready_runs (total_weight (writes_of op)) m none)))
 
-    done : Apart seat 0 m (note seat op Done (with_peak (taken_once seat (writes_of op) (ready_for (total_weight (writes_of op)) m))))
-    done = noted_apart seat op Done m (with_peak (taken_once seat (writes_of op) (ready_for (total_weight (writes_of op)) m)))
+    done : Apart seat 0 m (note seat op Done (with_peak (taken_together seat (writes_of op) (ready_for (total_weight (writes_of op)) m))))
+    done = noted_apart seat op Done m (with_peak (taken_together seat (writes_of op) (ready_for (total_weight (writes_of op)) m)))
         (apart_on seat 0 0 (ready_apart seat (total_weight (writes_of op)) m) (taken_apart seat (writes_of op) (ready_for (total_weight (writes_of op)) m)))
 
     fitting : m.stopped ≡ None → (o : Outcome) → Apart seat 0 m (admit_fitting m seat op (total_weight (writes_of op)) o).state

@@ -54,7 +54,7 @@ use Rattle.tree_machine.specs.Steps.{
   Choice,
   deep_swapped,
   ready_for,
-  taken_once,
+  taken_together,
   holding,
   Outcome,
   Well,
@@ -127,7 +127,7 @@ keeps m n same = (ap (λ (b : Book). b.entries) same, ap (λ (b : Book). b.room)
 unless_grows : (seat : ℕ) (op : Op) (m : Machine) (otherwise : Stepped) → Grows seat m otherwise.state → Grows seat m (unless_stopped m.stopped seat op m otherwise).state
 unless_grows seat op m otherwise grows = grind (arith, common_steps, nat_tests)
 
-pub taken_book : (seat : ℕ) (ws : List Write) (m : Machine) → (taken_once seat ws m).book ≡ m.book
+pub taken_book : (seat : ℕ) (ws : List Write) (m : Machine) → (taken_together seat ws m).book ≡ m.book
 taken_book seat ws m = grind (arith, common_steps, nat_tests)
 
 admit_grows : (m : Machine) (seat : ℕ) (op : Op) (outcome : Outcome) → Grows seat m (admit m seat op outcome).state
@@ -143,8 +143,8 @@ admit_grows m seat op outcome =
     failed commits faults true = noted_grows seat op FaultLost m (stop (Faulted faults) (cond (commits == 0) m (deep_swapped m))) (lost faults (commits == 0))
     failed commits faults false = noted_grows seat op FaultUnsure m (stop (Faulted faults) (ready_for (total_weight (writes_of op)) m)) (ready_book (total_weight (writes_of op)) m)
 
-    done : Grows seat m (note seat op Done (with_peak (taken_once seat (writes_of op) (ready_for (total_weight (writes_of op)) m))))
-    done = noted_grows seat op Done m (with_peak (taken_once seat (writes_of op) (ready_for (total_weight (writes_of op)) m)))
+    done : Grows seat m (note seat op Done (with_peak (taken_together seat (writes_of op) (ready_for (total_weight (writes_of op)) m))))
+    done = noted_grows seat op Done m (with_peak (taken_together seat (writes_of op) (ready_for (total_weight (writes_of op)) m)))
         (taken_book seat (writes_of op) (ready_for (total_weight (writes_of op)) m) ∙ ready_book (total_weight (writes_of op)) m)
 
     fitting : (o : Outcome) → Grows seat m (admit_fitting m seat op (total_weight (writes_of op)) o).state

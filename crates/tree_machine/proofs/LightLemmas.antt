@@ -1,5 +1,5 @@
 -- The records of the lists are within the format's lengths, so none weighs more than the heaviest entry.
-use Rattle.std.proofs.Common.{ℕ, ◌-◌, ◌≤◌, [], ◌∷◌, ◌++◌, arith}
+use Rattle.std.proofs.Common.{ℕ, ◌-◌, ◌≤◌, List, [], ◌∷◌, ◌++◌, arith}
 use Rattle.std.proofs.lemmas.Grind.{common_steps}
 use Rattle.std.proofs.lemmas.Bool.Decides.{nat_tests}
 use Rattle.std.specs.List.{AllByRecursion}
@@ -14,10 +14,11 @@ use Rattle.record_delta.specs.Records.{record_of, weight, settle, IsWithin}
 use Rattle.record_delta.specs.Folding.{over}
 use Rattle.record_delta.proofs.FoldingLemmas.{within_is_light}
 use Rattle.record_delta.specs.Entries.{Entries, folded_over, record_of_key, settled_base, settled_entries, with_record}
+use Rattle.record_delta.specs.Several.{entries_of, with_records}
 use Rattle.tree_machine.specs.Lists.{Lists}
 use Rattle.tree_machine.specs.Merges.{Merge, until, quantum_of}
 use Rattle.tree_machine.specs.Machine.{Merges}
-use Rattle.tree_machine.specs.Moves.{with_write}
+use Rattle.tree_machine.specs.Moves.{with_writes}
 use Rattle.tree_machine.specs.Layers.{AreLight, AllLight}
 use Rattle.tree_machine.specs.Stands.{FitsFormat}
 use Rattle.tree_machine.proofs.QuantumLemmas.{all_ahead}
@@ -68,5 +69,13 @@ light_settled (e ∷ es) light = light_base e.0 e.1 (settled_entries es) light.0
 pub light_groups : (quantum : ℕ) (merge : Merge) (newer older : Entries) → AreLight newer → AreLight older → AreLight (quantum_of quantum merge newer older).groups
 light_groups quantum merge newer older new old = grind (arith, common_steps, nat_tests, light_until, light_folded, all_ahead)
 
-pub light_write : (key : Key) (rec : Rec) (lists : Lists) (merges : Merges) → IsWithin key rec → AllLight lists merges → AllLight (with_write merges.pass key rec lists) merges
-light_write key rec lists merges here light = grind (arith, common_steps, nat_tests, light_with)
+pub light_with_all : (more es : Entries) → AreLight more → AreLight es → AreLight (with_records more es)
+light_with_all [] es here light = light
+light_with_all (e ∷ more) es here light = light_with_all more (with_record e.0 e.1 es) here.1 (light_with e.0 e.1 es here.0 light)
+
+pub light_entries : (writes : List Write) → AllByRecursion FitsFormat writes → AreLight (entries_of writes)
+light_entries [] fit = tt
+light_entries (w ∷ ws) fit = (fit.0.within, light_entries ws fit.1)
+
+pub light_writes : (more : Entries) (lists : Lists) (merges : Merges) → AreLight more → AllLight lists merges → AllLight (with_writes merges.pass more lists) merges
+light_writes more lists merges here light = grind (arith, common_steps, nat_tests, light_with_all)

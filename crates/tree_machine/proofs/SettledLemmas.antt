@@ -53,7 +53,7 @@ use Rattle.tree_machine.specs.Steps.{
   deep_swapped,
   swapped,
   ready_for,
-  taken_once,
+  taken_together,
   reply_unless,
   do_hold,
   do_next,
@@ -102,7 +102,7 @@ ready_settles weight m sound mark s =
 
 -- ---- an admission
 
-taken_settles : (seat : ℕ) (op : Op) (n : Machine) → AreSettled n → AreSettled (with_peak (taken_once seat (writes_of op) n))
+taken_settles : (seat : ℕ) (op : Op) (n : Machine) → AreSettled n → AreSettled (with_peak (taken_together seat (writes_of op) n))
 taken_settles seat op n s = grind (arith, common_steps, nat_tests)
 
 -- a note or a stop keeps it
@@ -132,8 +132,8 @@ admit_settles m seat op outcome sound mark s =
     failed commits faults true = noted seat op FaultLost (stop (Faulted faults) (cond (commits == 0) m (deep_swapped m))) (lost faults (commits == 0))
     failed commits faults false = noted seat op FaultUnsure (stop (Faulted faults) (ready_for (total_weight (writes_of op)) m)) (stopped (Faulted faults) (ready_for (total_weight (writes_of op)) m) ready)
 
-    done : AreSettled (note seat op Done (with_peak (taken_once seat (writes_of op) (ready_for (total_weight (writes_of op)) m))))
-    done = noted seat op Done (with_peak (taken_once seat (writes_of op) (ready_for (total_weight (writes_of op)) m))) (taken_settles seat op (ready_for (total_weight (writes_of op)) m) ready)
+    done : AreSettled (note seat op Done (with_peak (taken_together seat (writes_of op) (ready_for (total_weight (writes_of op)) m))))
+    done = noted seat op Done (with_peak (taken_together seat (writes_of op) (ready_for (total_weight (writes_of op)) m))) (taken_settles seat op (ready_for (total_weight (writes_of op)) m) ready)
 
     fitting : (e : Outcome) → AreSettled (admit_fitting m seat op (total_weight (writes_of op)) e).state
     fitting (FailedAfter commits faults) = failed commits faults (nat_lt commits (swaps_due m))

@@ -56,7 +56,7 @@ use Rattle.tree_machine.specs.Steps.{
   is_full,
   deep_swapped,
   ready_for,
-  taken_once,
+  taken_together,
   reply_unless,
   do_hold,
   do_next,
@@ -119,7 +119,7 @@ ready_stop weight m = grind (arith, common_steps, nat_tests)
 chosen_stop : (c : Choice) (seat : ℕ) (m : Machine) → (chosen c seat m).stopped ≡ m.stopped
 chosen_stop c seat m = grind (arith, common_steps, nat_tests)
 
-taken_stop : (seat : ℕ) (op : Op) (m : Machine) → (taken_once seat (writes_of op) m).stopped ≡ m.stopped
+taken_stop : (seat : ℕ) (op : Op) (m : Machine) → (taken_together seat (writes_of op) m).stopped ≡ m.stopped
 taken_stop seat op m = grind (arith, common_steps, nat_tests)
 
 -- ---- each step
@@ -191,7 +191,7 @@ admit_tells m seat op outcome =
       entries = inr (record { seat = seat; op = op; reply = FaultUnsure }, refl, refl, ap (λ (b : Book). b.entries ++ record { seat = seat; op = op; reply = FaultUnsure } ∷ []) (ready_book (total_weight (writes_of op)) m));
     }
 
-    done : (e : Outcome) → Tells m seat e (note seat op Done (with_peak (taken_once seat (writes_of op) (ready_for (total_weight (writes_of op)) m))))
+    done : (e : Outcome) → Tells m seat e (note seat op Done (with_peak (taken_together seat (writes_of op) (ready_for (total_weight (writes_of op)) m))))
     done e = grind (arith, common_steps, nat_tests, plain, taken_stop, ready_stop, taken_book, ready_book)
 
     fitting : m.stopped ≡ None → (e : Outcome) → Tells m seat e (admit_fitting m seat op (total_weight (writes_of op)) e).state
@@ -358,10 +358,10 @@ admit_work m seat op outcome =
     unless_work m seat op m.stopped (unless_refused (refused_first m op outcome) seat op m (admit_met m seat op outcome))
     (refused (refused_first m op outcome))
   where
-    taken : (ws : List Write) (n : Machine) → (taken_once seat ws n).seats.work ≡ n.seats.work
+    taken : (ws : List Write) (n : Machine) → (taken_together seat ws n).seats.work ≡ n.seats.work
     taken ws n = grind (arith, common_steps, nat_tests)
 
-    done : (with_peak (taken_once seat (writes_of op) (ready_for (total_weight (writes_of op)) m))).seats.work ≡ m.seats.work
+    done : (with_peak (taken_together seat (writes_of op) (ready_for (total_weight (writes_of op)) m))).seats.work ≡ m.seats.work
     done = taken (writes_of op) (ready_for (total_weight (writes_of op)) m) ∙ ready_work (total_weight (writes_of op)) m
 
     lost : (c : Bool) → (cond c m (deep_swapped m)).seats.work ≡ m.seats.work

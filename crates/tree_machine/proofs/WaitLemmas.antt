@@ -1,5 +1,5 @@
 -- While each command writes once at most, none of table B's keys is ahead of the pass.
-use Rattle.std.proofs.Common.{◌≡◌, refl, sym, subst, ℕ, ◌+◌, Bool, cond, true, false, not, ◌&&◌, ◌||◌, List, [], ◌∷◌, Option, Some, None, arith}
+use Rattle.std.proofs.Common.{◌≡◌, refl, sym, subst, ℕ, ◌+◌, Bool, cond, true, false, not, ◌&&◌, ◌||◌, List, [], ◌∷◌, Option, Some, None, length, ◌≤◌, arith}
 use Rattle.std.proofs.lemmas.Grind.{common_steps}
 use Rattle.std.proofs.lemmas.Bool.Decides.{nat_tests}
 use Rattle.std.proofs.lemmas.Bool.{and_parts, not-true}
@@ -18,7 +18,7 @@ use Rattle.blsm_model.specs.Geometry.{c1_mark}
 use Rattle.blsm_model.specs.Histories.{writes_of, answer_to_look, answer_to_release}
 use Rattle.blsm_model.specs.Legal.{total_weight}
 use Rattle.blsm_model.specs.Values.{key_of}
-use Rattle.record_delta.specs.Entries.{Entries, entries_weight}
+use Rattle.record_delta.specs.Entries.{entries_weight}
 use Rattle.record_delta.specs.Records.{record_of}
 use Rattle.gear_sched.specs.Gears.{plan_for, first_debt, second_debt, deep_is_behind}
 use Rattle.gear_sched.specs.declared.Plan.{Plan}
@@ -82,7 +82,7 @@ use Rattle.tree_machine.specs.Steps.{
   reply_unless,
   swapped,
   swaps_due,
-  taken_once,
+  taken_together,
   unless_refused,
   unless_stopped,
   work_turn,
@@ -90,7 +90,7 @@ use Rattle.tree_machine.specs.Steps.{
   worker_turn,
   worker_turning,
 }
-use Rattle.tree_machine.specs.Plays.{GoesWell, may_step, played, played_one, stepped, stepped_as}
+use Rattle.tree_machine.specs.Plays.{AllWriteOnce, GoesWell, WritesOnce, may_step, played, played_one, stepped, stepped_as}
 use Rattle.tree_machine.specs.Stands.{Stands}
 use Rattle.tree_machine.proofs.CarryLemmas.{no_pass_of, swapped_carries}
 use Rattle.tree_machine.proofs.MergeLemmas.{groups_ahead, groups_sorted, still_behind}
@@ -156,17 +156,20 @@ deep_quantum_waits m seat w = by m.merges.deep
 
 -- ---- an admission
 
-taken_waits : (seat : ℕ) (writes : List Write) (m : Machine) → Waits m → Waits (with_peak (taken_once seat writes m))
-taken_waits seat [] m w = w
-taken_waits seat (write ∷ writes) m w = write_waits (key_of write) (record_of write) m.lists m.merges.pass w
+-- of a command that writes once at most
+taken_waits : (seat : ℕ) (writes : List Write) (m : Machine) → length writes ≤ 1 → Waits m → Waits (with_peak (taken_together seat writes m))
+taken_waits seat [] m once w = w
+taken_waits seat (write ∷ []) m once w = write_waits (key_of write, record_of write) m.lists m.merges.pass w
+taken_waits seat (write ∷ more ∷ writes) m once w = absurd (omega (arith, once))
 
 unless_waits : (seat : ℕ) (op : Op) (m : Machine) (o : Option Why) (otherwise : Stepped) → Waits m → Waits otherwise.state
     → Waits (unless_stopped o seat op m otherwise).state
 unless_waits seat op m (Some why) otherwise w then = w
 unless_waits seat op m None otherwise w then = then
 
-admit_waits : (m : Machine) (seat : ℕ) (op : Op) (outcome : Outcome) → IsSound m → HasWay m → Waits m → Waits (admit m seat op outcome).state
-admit_waits m seat op outcome sound way w =
+admit_waits : (m : Machine) (seat : ℕ) (op : Op) (outcome : Outcome) → IsSound m → HasWay m → WritesOnce (kind.Admit op) → Waits m
+    → Waits (admit m seat op outcome).state
+admit_waits m seat op outcome sound way once w =
     unless_waits seat op m m.stopped (unless_refused (refused_first m op outcome) seat op m (admit_met m seat op outcome)) w
     (refused (refused_first m op outcome))
   where
@@ -183,8 +186,8 @@ admit_waits m seat op outcome sound way w =
     failed commits faults true = lost faults (commits == 0)
     failed commits faults false = ready
 
-    done : Waits (note seat op Done (with_peak (taken_once seat (writes_of op) (ready_for (total_weight (writes_of op)) m))))
-    done = taken_waits seat (writes_of op) (ready_for (total_weight (writes_of op)) m) ready
+    done : Waits (note seat op Done (with_peak (taken_together seat (writes_of op) (ready_for (total_weight (writes_of op)) m))))
+    done = taken_waits seat (writes_of op) (ready_for (total_weight (writes_of op)) m) once ready
 
     fitting : (e : Outcome) → Waits (admit_fitting m seat op (total_weight (writes_of op)) e).state
     fitting (FailedAfter commits faults) = failed commits faults (nat_lt commits (swaps_due m))
@@ -288,33 +291,34 @@ hold_waits m seat low high outcome h1 = grind (arith, common_steps, nat_tests)
 next_waits : (m : Machine) (seat n : ℕ) (outcome : Outcome) (held : Option (List Row)) → Waits m → Waits (do_next m seat n outcome held).state
 next_waits m seat n outcome held h1 = grind (arith, common_steps, nat_tests)
 
-step_waits : (m : Machine) (seat : ℕ) (k : Kind) (outcome : Outcome) → IsSound m → HasWay m → Waits m → Waits (stepped_as m seat k outcome).state
-step_waits m seat (kind.Admit op) outcome sound way w = admit_waits m seat op outcome sound way w
-step_waits m seat kind.Pay outcome sound way w = pay_waits m seat outcome sound w
-step_waits m seat (kind.Look op) outcome sound way w =
+step_waits : (m : Machine) (seat : ℕ) (k : Kind) (outcome : Outcome) → IsSound m → HasWay m → WritesOnce k → Waits m
+    → Waits (stepped_as m seat k outcome).state
+step_waits m seat (kind.Admit op) outcome sound way once w = admit_waits m seat op outcome sound way once w
+step_waits m seat kind.Pay outcome sound way once w = pay_waits m seat outcome sound w
+step_waits m seat (kind.Look op) outcome sound way once w =
     unless_waits seat op m m.stopped (replied seat op (reply_unless outcome (answer_to_look op (contents_in m.lists))) m) w w
-step_waits m seat (kind.Hold low high) outcome sound way w =
+step_waits m seat (kind.Hold low high) outcome sound way once w =
     unless_waits seat (Hold low high) m m.stopped (do_hold m seat low high outcome) w (hold_waits m seat low high outcome w)
-step_waits m seat (kind.Next n) outcome sound way w =
+step_waits m seat (kind.Next n) outcome sound way once w =
     unless_waits seat (Next n) m m.stopped (do_next m seat n outcome (held_by seat m)) w (next_waits m seat n outcome (held_by seat m) w)
-step_waits m seat kind.Release outcome sound way w =
+step_waits m seat kind.Release outcome sound way once w =
     unless_waits seat Release m m.stopped (replied seat Release (answer_to_release (held_by seat m)) (holding seat None m)) w w
-step_waits m seat kind.WorkTurn outcome sound way w = work_turn_waits m seat outcome sound w
-step_waits m seat (kind.WorkEnd n) outcome sound way w = w
-step_waits m seat kind.WorkerTurn outcome sound way w = worker_turn_waits m seat outcome sound w
-step_waits m seat kind.Leave outcome sound way w = w
+step_waits m seat kind.WorkTurn outcome sound way once w = work_turn_waits m seat outcome sound w
+step_waits m seat (kind.WorkEnd n) outcome sound way once w = w
+step_waits m seat kind.WorkerTurn outcome sound way once w = worker_turn_waits m seat outcome sound w
+step_waits m seat kind.Leave outcome sound way once w = w
 
-one_waits : (m : Machine) (made : Step × Outcome) → IsSound m → HasWay m → Waits m → Waits (played_one m made)
-one_waits m made sound way w = by (may_step m made.0)
+one_waits : (m : Machine) (made : Step × Outcome) → IsSound m → HasWay m → WritesOnce made.0.kind → Waits m → Waits (played_one m made)
+one_waits m made sound way once w = by (may_step m made.0)
   where
     by : (b : Bool) → Waits (cond b (stepped m made.0 made.1).state m)
-    by true = step_waits m made.0.seat made.0.kind made.1 sound way w
+    by true = step_waits m made.0.seat made.0.kind made.1 sound way once w
     by false = w
 
--- so each list of steps keeps it
-pub all_wait : (opening : List (Key × Value)) (m : Machine) (steps : List (Step × Outcome)) → Stands opening m → GoesWell m steps → Waits m
-    → Waits (played m steps)
-all_wait opening m [] stands well w = w
-all_wait opening m (made ∷ steps) stands well w =
-    all_wait opening (played_one m made) steps (played_one_stands opening m made stands well.0 well.1) well.2
-    (one_waits m made stands.sound well.0 w)
+-- so each list of steps of which each writes once at most keeps it
+pub all_wait : (opening : List (Key × Value)) (m : Machine) (steps : List (Step × Outcome)) → Stands opening m → GoesWell m steps → AllWriteOnce steps
+    → Waits m → Waits (played m steps)
+all_wait opening m [] stands well once w = w
+all_wait opening m (made ∷ steps) stands well once w =
+    all_wait opening (played_one m made) steps (played_one_stands opening m made stands well.0 well.1) well.2 once.1
+    (one_waits m made stands.sound well.0 once.0 w)

@@ -15,15 +15,17 @@ use Rattle.blsm_model.specs.declared.key.Key.{Key}
 use Rattle.blsm_model.specs.declared.op.Write.{Write}
 use Rattle.blsm_model.specs.Keys.{key_cmp}
 use Rattle.blsm_model.specs.Format.{overhead}
+use Rattle.blsm_model.specs.Legal.{total_weight}
 use Rattle.blsm_model.specs.Values.{key_of, text_written, weight_of}
 use Rattle.record_delta.specs.declared.record.Rec.{Rec}
 use Rattle.record_delta.specs.Records.{weight, settle, record_of, text_of}
 use Rattle.record_delta.specs.Folding.{over}
 use Rattle.record_delta.proofs.FoldingLemmas.{fold_lighter}
 use Rattle.record_delta.specs.Entries.{AreSorted, Entries, entries_weight, folded_over, record_of_key, settled_base, settled_entries, with_record}
+use Rattle.record_delta.specs.Several.{entries_of, with_records}
 use Rattle.tree_machine.specs.Merges.{Merge, is_done}
 use Rattle.tree_machine.specs.Layers.{IsMergeOf, as_base, as_it_is}
-use Rattle.tree_machine.proofs.FoldLemmas.{both_hold, tied, below_none, find-folded_over, sorted_folded_over}
+use Rattle.tree_machine.proofs.FoldLemmas.{both_hold, tied, below_none, find-folded_over, sorted_folded_over, sorted_with_record}
 use Rattle.tree_machine.proofs.CursorLemmas.{below_all_trans}
 use Rattle.tree_machine.proofs.MergeLemmas.{done_folds, find-settled, settled_sorted}
 
@@ -106,3 +108,15 @@ text_of_record write = grind (arith, common_steps, nat_tests)
 
 pub weight_of_record : (write : Write) → weight (key_of write) (record_of write) ≡ weight_of write
 weight_of_record write = ap (λ (text : List ℕ). overhead + length (key_of write) + length text) (text_of_record write)
+
+-- ---- several entries
+
+pub weight_with_all : (more es : Entries) → AreSorted es → entries_weight (with_records more es) ≤ entries_weight es + entries_weight more
+weight_with_all [] es sorted = omega arith
+weight_with_all (e ∷ more) es sorted =
+    omega (arith, weight_with_all more (with_record e.0 e.1 es) (sorted_with_record e.0 e.1 es sorted), weight_with e.0 e.1 es sorted, weigh_first e more)
+
+pub weight_of_entries : (writes : List Write) → entries_weight (entries_of writes) ≡ total_weight writes
+weight_of_entries [] = refl
+weight_of_entries (w ∷ ws) =
+    omega (arith, weigh_first (key_of w, record_of w) (entries_of ws), sum_by-cons weight_of w ws, weight_of_record w, weight_of_entries ws)

@@ -1,16 +1,15 @@
--- What a step is made of: a merge begins, takes a quantum, or is swapped in; C1 is rotated; a write is taken.
-use Rattle.std.specs.Prelude.{ℕ, ◌+◌, Bool, true, ◌&&◌, not, [], max, Option, Some, None, is_some, slice_index, slice_set, if◌then◌else◌, nat_le}
+-- What a step is made of: a merge begins, takes a quantum, or is swapped in; C1 is rotated; a command's writes are taken.
+use Rattle.std.specs.Prelude.{ℕ, ◌+◌, Bool, true, false, ◌&&◌, not, List, [], ◌∷◌, max, Option, Some, None, is_some, slice_index, slice_set, if◌then◌else◌, nat_le}
 use Rattle.blsm_model.specs.declared.key.Key.{Key}
 use Rattle.blsm_model.specs.declared.op.Op.{Op}
 use Rattle.blsm_model.specs.declared.history.Reply.{Reply}
 use Rattle.blsm_model.specs.declared.history.Why.{Why}
 use Rattle.blsm_model.specs.Geometry.{c1_mark}
 use Rattle.blsm_model.specs.Book.{noted}
-use Rattle.blsm_model.specs.Values.{key_of, weight_of}
+use Rattle.blsm_model.specs.Legal.{total_weight}
 use Rattle.blsm_model.specs.declared.op.Write.{Write}
-use Rattle.record_delta.specs.declared.record.Rec.{Rec}
-use Rattle.record_delta.specs.Records.{record_of}
-use Rattle.record_delta.specs.Entries.{Entries, entries_weight, is_above, record_of_key, settled_entries, with_record}
+use Rattle.record_delta.specs.Entries.{Entries, entries_weight, is_above, record_of_key, settled_entries}
+use Rattle.record_delta.specs.Several.{entries_of, with_records}
 use Rattle.tree_machine.specs.Lists.{Lists, memory_weight}
 use Rattle.tree_machine.specs.Merges.{Merge, Taken, begun, quantum_of, moved_on}
 use Rattle.gear_sched.specs.Gears.{passing, pass_ended, rotated, deep_ended, entered, took_first, took_second}
@@ -114,23 +113,28 @@ deep_quantum seat m = deep_quantum_of m.merges.deep seat m
 
 -- ---- writes
 
--- A write of this key goes to table A: no pass runs; or its cursor hasn't come to the key, and table B hasn't the key.
-abbrev pub goes_to_a : Option Merge → Entries → Key → Bool
-goes_to_a None b key = true
-goes_to_a (Some pass) b key = is_above pass.cursor key && not (is_some (record_of_key key b))
+-- A pass that runs takes a write with it where that is alone, the pass's cursor hasn't come to its key, and table B hasn't the key.
+abbrev pub joins_pass : Option Key → Entries → Entries → Bool
+joins_pass cursor b (e ∷ []) = is_above cursor e.0 && not (is_some (record_of_key e.0 b))
+joins_pass cursor b more = false
 
-abbrev pub with_write : Option Merge → Key → Rec → Lists → Lists
-with_write pass key rec lists =
-    if goes_to_a pass lists.b key
-    then record { b = lists.b; a = with_record key rec lists.a; c1 = lists.c1; c1x = lists.c1x; c2 = lists.c2 }
-    else record { b = with_record key rec lists.b; a = lists.a; c1 = lists.c1; c1x = lists.c1x; c2 = lists.c2 }
+-- The writes of a command go to table A: no pass runs, or it takes them with it. Otherwise they all go to table B.
+abbrev pub goes_to_a : Option Merge → Entries → Entries → Bool
+goes_to_a None b more = true
+goes_to_a (Some pass) b more = joins_pass pass.cursor b more
 
--- the write is taken, and the seat owes for it
-abbrev pub take_write : ℕ → Write → Machine → Machine
-take_write seat write m = record m {
-  lists = with_write m.merges.pass (key_of write) (record_of write) m.lists;
-  gears = entered m.gears seat (weight_of write);
-  spring = if in_pass m then m.spring else m.spring + weight_of write;
+abbrev pub with_writes : Option Merge → Entries → Lists → Lists
+with_writes pass more lists =
+    if goes_to_a pass lists.b more
+    then record { b = lists.b; a = with_records more lists.a; c1 = lists.c1; c1x = lists.c1x; c2 = lists.c2 }
+    else record { b = with_records more lists.b; a = lists.a; c1 = lists.c1; c1x = lists.c1x; c2 = lists.c2 }
+
+-- the writes are taken, and the seat owes for all of them
+abbrev pub take_writes : ℕ → List Write → Machine → Machine
+take_writes seat writes m = record m {
+  lists = with_writes m.merges.pass (entries_of writes) m.lists;
+  gears = entered m.gears seat (total_weight writes);
+  spring = if in_pass m then m.spring else m.spring + total_weight writes;
 }
 
 -- the peak of the memory table after it

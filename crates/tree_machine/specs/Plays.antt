@@ -1,7 +1,9 @@
 -- Lists of steps, and the states that they reach.
-use Rattle.std.specs.Prelude.{⊤, ℕ, Bool, true, false, ◌&&◌, ◌||◌, not, List, [], ◌∷◌, is_some, slice_index, if◌then◌else◌, nat_lt, nat_le, ◌==◌, fold}
+use Rattle.std.specs.Prelude.{⊤, ℕ, Bool, true, false, ◌&&◌, ◌||◌, not, List, [], ◌∷◌, is_some, slice_index, if◌then◌else◌, nat_lt, nat_le, ◌==◌, ◌≤◌, length, fold}
+use Rattle.std.specs.List.{AllByRecursion}
 use Rattle.blsm_model.specs.Format.{most_rows, most_turns}
 use Rattle.blsm_model.specs.declared.room.Room.{Room}
+use Rattle.blsm_model.specs.Histories.{writes_of}
 use Rattle.blsm_model.specs.Legal.{is_look, is_write}
 use Rattle.tree_machine.specs.declared.step.Kind.{Kind}
 use Rattle.tree_machine.specs.declared.step.Kind.TheVariants as kind
@@ -81,3 +83,11 @@ played m steps = fold played_one m steps
 abbrev pub GoesWell : Machine → List (Step × Outcome) → Type 0
 GoesWell m [] = ⊤
 GoesWell m (made ∷ steps) = HasWay m × WritesFit made.0.kind × GoesWell (played_one m made) steps
+
+-- the step writes once at most, and so does each of them
+abbrev pub WritesOnce : Kind → Type 0
+WritesOnce (kind.Admit op) = length (writes_of op) ≤ 1
+WritesOnce _ = ⊤
+
+abbrev pub AllWriteOnce : List (Step × Outcome) → Type 0
+AllWriteOnce steps = AllByRecursion (λ made. WritesOnce made.0.kind) steps

@@ -38,7 +38,7 @@ use Rattle.gear_sched.specs.Gears.{forgiven, deep_is_behind, plan_for, first_deb
 use Rattle.gear_sched.specs.declared.Plan.{Plan}
 use Rattle.gear_sched.specs.declared.Plan.TheVariants.{Snow, Deep, Nothing}
 use Rattle.tree_machine.specs.Machine.{Machine, WorkSoFar, Turned, Worked, Idle, Closed, Failed, BadPage, Halted, no_work, in_pass, in_deep, pass_done, deep_done, charge, work_of, held_by, is_closed, turn_more}
-use Rattle.tree_machine.specs.Moves.{begin_pass, rotate_alone, swap_deep, swap_pass, pass_quantum, deep_quantum, take_write, with_peak, note, stop}
+use Rattle.tree_machine.specs.Moves.{begin_pass, rotate_alone, swap_deep, swap_pass, pass_quantum, deep_quantum, take_writes, with_peak, note, stop}
 
 -- ---- outcomes and answers
 
@@ -102,10 +102,10 @@ pass_begun_for weight m = if not (in_pass m) && nat_lt m.gears.sizes.low (m.spri
 abbrev pub ready_for : ℕ → Machine → Machine
 ready_for weight m = pass_begun_for weight (swapped m)
 
--- a command's write is taken: it writes once at most
-abbrev pub taken_once : ℕ → List Write → Machine → Machine
-taken_once seat [] m = m
-taken_once seat (w ∷ ws) m = take_write seat w m
+-- a command's writes are taken, if it has any
+abbrev pub taken_together : ℕ → List Write → Machine → Machine
+taken_together seat [] m = m
+taken_together seat (w ∷ ws) m = take_writes seat (w ∷ ws) m
 
 -- The write fits. Where the disk failed, it was lost if fewer commits ended well than were due, and else it is unsure.
 abbrev pub admit_fitting : Machine → ℕ → Op → ℕ → Outcome → Stepped
@@ -113,7 +113,7 @@ admit_fitting m seat op weight (FailedAfter commits faults) =
     if nat_lt commits (swaps_due m)
     then replied seat op FaultLost (stop (why.Faulted faults) (if commits == 0 then m else deep_swapped m))
     else replied seat op FaultUnsure (stop (why.Faulted faults) (ready_for weight m))
-admit_fitting m seat op weight _ = replied seat op Done (with_peak (taken_once seat (writes_of op) (ready_for weight m)))
+admit_fitting m seat op weight _ = replied seat op Done (with_peak (taken_together seat (writes_of op) (ready_for weight m)))
 
 -- the write would bring the charge past its limit
 abbrev pub is_full : Machine → Op → Bool

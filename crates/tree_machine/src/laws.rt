@@ -1,20 +1,20 @@
 //! What the machine keeps. The functions do nothing: each stands for laws that are ends in themselves. What others build on are lemmas in
 //! `proofs/`.
 ghost use Rattle.tree_machine.specs.Outcomes.{AreTold, faults_told, last_count, Rose};
-ghost use Rattle.std.specs.Prelude.{ℕ, ◌≡◌, true, Some, false, List, ◌≢◌, IsTrue, is_some, ◌⊎◌, ◌+◌, ◌≤◌, None};
-ghost use Rattle.record_delta.specs.Entries.{AreSorted, Entries, settled_entries, above, over_any, record_of_key, is_above};
+ghost use Rattle.std.specs.Prelude.{ℕ, ◌≡◌, true, Some, false, List, [], ◌∷◌, length, ◌≢◌, IsTrue, is_some, ◌⊎◌, ◌+◌, ◌≤◌, None};
+ghost use Rattle.record_delta.specs.Entries.{AreSorted, Entries, settled_entries, above, up_to, over_any, record_of_key, is_above};
 ghost use Rattle.tree_machine.specs.Merges.{Merge, quantum_of, moved_on};
 ghost use Rattle.tree_machine.specs.Layers.{IsBehind, IsMergeOf, WaitsBehind, as_it_is, as_base};
 ghost use Rattle.blsm_model.specs.declared.key.Key.{Key};
 ghost use Rattle.record_delta.specs.declared.record.Rec.{Rec};
 ghost use Rattle.tree_machine.specs.Lists.{Lists};
-ghost use Rattle.tree_machine.specs.Moves.{goes_to_a, with_write};
+ghost use Rattle.tree_machine.specs.Moves.{goes_to_a, with_writes};
 ghost use Rattle.blsm_model.specs.declared.row.Value.{Value};
 ghost use Rattle.tree_machine.specs.declared.step.Step.{Step};
 ghost use Rattle.tree_machine.specs.Machine.{Machine, held_by};
 ghost use Rattle.tree_machine.specs.Steps.{Outcome};
 ghost use Rattle.tree_machine.specs.Stands.{Stands};
-ghost use Rattle.tree_machine.specs.Plays.{played, GoesWell, may_step, stepped};
+ghost use Rattle.tree_machine.specs.Plays.{AllWriteOnce, played, GoesWell, may_step, stepped};
 ghost use Rattle.tree_machine.specs.Effects.{LeaveAll};
 ghost use Rattle.blsm_model.specs.declared.history.Why.TheVariants as why;
 
@@ -29,16 +29,20 @@ pub fn merges_fold()
         ≡ over_any (record_of_key key newer) (record_of_key key older) }
 {}
 
-/// A write ahead of the pass joins it, and any other waits for the next one; so does one whose key waits already. As each command writes once at
-/// most, none of the keys that wait is ahead of the pass, so each write goes where the pass's cursor sends it.
+/// A write ahead of the pass joins it, and any other waits for the next one; so does one whose key waits already, and so do more than one together.
+/// What the pass has taken stays. Where each command writes once at most, none of the keys that wait is ahead of the pass, so each write goes where
+/// the pass's cursor sends it.
 pub fn snowshovelling()
-    ensures ahead { (pass : Merge) (key : Key) (rec : Rec) (lists : Lists) → is_above pass.cursor key ≡ true → record_of_key key lists.b ≡ None
-        → (with_write (Some pass) key rec lists).b ≡ lists.b }
-    ensures behind { (pass : Merge) (key : Key) (rec : Rec) (lists : Lists)
-        → (is_above pass.cursor key ≡ false) ⊎ IsTrue (is_some (record_of_key key lists.b)) → (with_write (Some pass) key rec lists).a ≡ lists.a }
-    ensures waits { (opening : List (Key × Value)) (m : Machine) (steps : List (Step × Outcome)) → Stands opening m → GoesWell m steps
+    ensures ahead { (pass : Merge) (e : Key × Rec) (lists : Lists) → is_above pass.cursor e.0 ≡ true → record_of_key e.0 lists.b ≡ None
+        → (with_writes (Some pass) (e ∷ []) lists).b ≡ lists.b }
+    ensures behind { (pass : Merge) (e : Key × Rec) (lists : Lists)
+        → (is_above pass.cursor e.0 ≡ false) ⊎ IsTrue (is_some (record_of_key e.0 lists.b)) → (with_writes (Some pass) (e ∷ []) lists).a ≡ lists.a }
+    ensures together { (pass : Merge) (more : Entries) (lists : Lists) → 2 ≤ length more → (with_writes (Some pass) more lists).a ≡ lists.a }
+    ensures stays { (pass : Merge) (more : Entries) (lists : Lists) → AreSorted lists.a
+        → up_to pass.cursor (with_writes (Some pass) more lists).a ≡ up_to pass.cursor lists.a }
+    ensures waits { (opening : List (Key × Value)) (m : Machine) (steps : List (Step × Outcome)) → Stands opening m → GoesWell m steps → AllWriteOnce steps
         → WaitsBehind m.lists m.merges.pass → WaitsBehind (played m steps).lists (played m steps).merges.pass }
-    ensures cursor { (pass : Merge) (b : Entries) (key : Key) → IsBehind pass.cursor b → goes_to_a (Some pass) b key ≡ is_above pass.cursor key }
+    ensures cursor { (pass : Merge) (b : Entries) (e : Key × Rec) → IsBehind pass.cursor b → goes_to_a (Some pass) b (e ∷ []) ≡ is_above pass.cursor e.0 }
 {}
 
 /// After each list of steps the machine stands for its history: its map is the map after it, its holds are the sequential map's, and
