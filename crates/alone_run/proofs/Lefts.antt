@@ -26,7 +26,7 @@ use Rattle.tree_machine.specs.Steps.{
   ready_for,
   refused_first,
   replied,
-  taken_once,
+  taken_together,
   unless_refused,
   unless_stopped,
   work_end,
@@ -49,7 +49,8 @@ if_left l b x y = grind (arith, common_steps, nat_tests)
 ready_left : (weight : ℕ) (l : List Bool) (m : Machine) → ready_for weight (with_left l m) ≡ with_left l (ready_for weight m)
 ready_left weight l m = grind (arith, common_steps, nat_tests)
 
-taken_left : (seat : ℕ) (ws : List Write) (l : List Bool) (m : Machine) → taken_once seat ws (with_left l m) ≡ with_left l (taken_once seat ws m)
+taken_left : (seat : ℕ) (ws : List Write) (l : List Bool) (m : Machine)
+    → taken_together seat ws (with_left l m) ≡ with_left l (taken_together seat ws m)
 taken_left seat ws l m = grind (arith, common_steps, nat_tests)
 
 chosen_left : (c : Choice) (seat : ℕ) (l : List Bool) (m : Machine) → chosen c seat (with_left l m) ≡ with_left l (chosen c seat m)

@@ -7,7 +7,7 @@ use Rattle.record_delta.specs.Entries.{entries_weight}
 use Rattle.tree_machine.specs.Machine.{Machine, in_pass, pass_done, deep_done}
 use Rattle.tree_machine.specs.Merges.{Merge}
 use Rattle.tree_machine.specs.Moves.{begin_pass, deep_quantum, deep_quantum_of, end_pass, output_of, pass_quantum, pass_quantum_of, rotate, rotate_alone, swap_deep, swap_pass}
-use Rattle.tree_machine.specs.Steps.{Choice, SwapDeep, SwapPass, DeepQuantum, PassQuantum, Begin, Rotate, Rest, chosen, deep_swapped, ready_for, swapped, taken_once}
+use Rattle.tree_machine.specs.Steps.{Choice, SwapDeep, SwapPass, DeepQuantum, PassQuantum, Begin, Rotate, Rest, chosen, deep_swapped, ready_for, swapped, taken_together}
 
 -- the gears say that a merge runs just where one does
 abbrev pub Synced : Machine → Type 0
@@ -83,6 +83,6 @@ ready_moves weight m = moves_on deep (moves_on pass begins)
     begins : Moves (swapped m) (ready_for weight m)
     begins = moves_if (not (in_pass (swapped m)) && nat_lt (swapped m).gears.sizes.low ((swapped m).spring + weight)) (swapped m) (begin_pass (swapped m)) (swapped m) (begin_moves (swapped m)) (moves_none (swapped m))
 
-pub taken_moves : (seat : ℕ) (ws : List Write) (m : Machine) → Moves m (taken_once seat ws m)
+pub taken_moves : (seat : ℕ) (ws : List Write) (m : Machine) → Moves m (taken_together seat ws m)
 taken_moves seat [] m = moves_none m
 taken_moves seat (w ∷ ws) m = record { synced = λ s. s; work = refl; book = refl; stopped = refl }

@@ -52,7 +52,7 @@ use Rattle.tree_machine.specs.Steps.{
   quanta_of,
   ready_for,
   replied,
-  taken_once,
+  taken_together,
   with_turn,
   work_end,
   work_noted,
@@ -129,7 +129,7 @@ admit_notes m seat op none =
     by true = noted_after seat op (Full (charge m)) m m (moves_none m)
     by false =
         let moves = moves_on (ready_moves (total_weight (writes_of op)) m) (taken_moves seat (writes_of op) (ready_for (total_weight (writes_of op)) m)) in
-        noted_after seat op Done m (with_peak (taken_once seat (writes_of op) (ready_for (total_weight (writes_of op)) m)))
+        noted_after seat op Done m (with_peak (taken_together seat (writes_of op) (ready_for (total_weight (writes_of op)) m)))
         (record { synced = moves.synced; work = moves.work; book = moves.book; stopped = moves.stopped })
 
     refused : (o : Option Reply) → Notes seat op m (unless_refused o seat op m (admit_met m seat op Well)).state

@@ -2,16 +2,16 @@
 use Rattle.std.proofs.Common.{◌≡◌, ◌∙◌, refl, sym, ap, subst, ℕ, ◌+◌, ◌<◌, ◌≤◌, Bool, cond, true, false, ◌&&◌, ◌⊎◌, [], ◌∷◌, Option, Some, None, inl, inr, arith}
 use Rattle.std.proofs.lemmas.Grind.{common_steps}
 use Rattle.std.proofs.lemmas.Bool.Decides.{nat_tests}
-use Rattle.std.specs.Prelude.{◌==◌, nat_lt, List}
+use Rattle.std.specs.Prelude.{◌==◌, nat_lt, List, length, is_some, IsTrue}
 use Rattle.std.specs.List.{AllByRecursion}
 use Rattle.std.proofs.lemmas.Bool.{ltb-false, true≢false}
 use Rattle.std.proofs.lemmas.List.{length-set}
-use Rattle.blsm_model.specs.Format.{callers}
+use Rattle.std.proofs.lemmas.List.Sums.{sum_by-cons}
+use Rattle.blsm_model.specs.Format.{callers, least_weight}
 use Rattle.blsm_model.specs.Geometry.{charge_limit}
 use Rattle.blsm_model.specs.Values.{key_of, weight_of}
 use Rattle.blsm_model.specs.Histories.{is_done, is_met, looked_at, looks_first, writes_of}
 use Rattle.blsm_model.specs.Legal.{is_write, total_weight, is_del}
-use Rattle.blsm_model.specs.declared.key.Key.{Key}
 use Rattle.blsm_model.specs.declared.row.Value.{Value}
 use Rattle.blsm_model.specs.declared.op.Op.{Op}
 use Rattle.blsm_model.specs.declared.op.Write.{Write}
@@ -19,22 +19,21 @@ use Rattle.blsm_model.specs.declared.history.Why.{Why}
 use Rattle.blsm_model.specs.declared.history.Why.TheVariants.{Faulted}
 use Rattle.blsm_model.specs.declared.history.Reply.{Reply}
 use Rattle.blsm_model.specs.declared.history.Reply.TheVariants.{Damaged, Done, Fault, Full, FaultLost, FaultUnsure, Kept, Stopped}
-use Rattle.blsm_model.proofs.OpLemmas.{writes_one}
-use Rattle.record_delta.specs.declared.record.Rec.{Rec}
-use Rattle.record_delta.specs.Records.{record_of}
+use Rattle.blsm_model.proofs.OpLemmas.{writes_some}
 use Rattle.gear_sched.specs.Gears.{entered, first_debt, second_debt}
 use Rattle.pacing.specs.Pace.{Pace, Written, with_write as pace_with_write}
 use Rattle.pacing.specs.Kept.{IsPaced}
 use Rattle.pacing.specs.Steps.{Lands, ready_for as pace_ready_for}
 use Rattle.pacing.proofs.Promises.{moves_keep}
 use Rattle.record_delta.specs.Entries.{AreSorted, Entries, entries_weight, with_record}
+use Rattle.record_delta.specs.Several.{entries_of, with_records}
 use Rattle.tree_machine.specs.declared.step.Kind.{Kind}
 use Rattle.tree_machine.specs.declared.step.Kind.TheVariants as kind
 use Rattle.tree_machine.specs.Lists.{Lists, value_in}
 use Rattle.tree_machine.specs.Merges.{Merge}
 use Rattle.tree_machine.specs.Layers.{IsPassCounted, IsSound, HasWay}
 use Rattle.tree_machine.specs.Machine.{Machine, charge}
-use Rattle.tree_machine.specs.Moves.{goes_to_a, take_write, with_peak, note, stop}
+use Rattle.tree_machine.specs.Moves.{goes_to_a, take_writes, with_peak, with_writes, note, stop}
 use Rattle.tree_machine.specs.Steps.{
   Outcome,
   Well,
@@ -47,7 +46,7 @@ use Rattle.tree_machine.specs.Steps.{
   deep_swapped,
   swaps_due,
   ready_for,
-  taken_once,
+  taken_together,
   told_by_look,
   refused_first,
   admit,
@@ -57,16 +56,15 @@ use Rattle.tree_machine.specs.Steps.{
   unless_refused,
   unless_stopped,
 }
-use Rattle.tree_machine.specs.Stands.{FitsFormat}
+use Rattle.tree_machine.specs.Stands.{FitsFormat, FitTogether}
 use Rattle.tree_machine.proofs.CarryLemmas.{ready_carries}
-use Rattle.tree_machine.proofs.LightLemmas.{write_is_light}
+use Rattle.tree_machine.proofs.FoldLemmas.{sorted_with_record}
 use Rattle.tree_machine.proofs.QuantumLemmas.{weight_parts}
-use Rattle.tree_machine.proofs.WeightLemmas.{key_weighs, weight_with, weight_of_record}
-use Rattle.tree_machine.proofs.WriteLemmas.{behind_kept, sent_ahead, sent_behind}
-use Rattle.paced_tree.specs.Booking.{IsBookOf}
+use Rattle.tree_machine.proofs.WeightLemmas.{key_weighs, weigh_first, weight_of_entries, weight_with}
+use Rattle.tree_machine.proofs.WriteLemmas.{sent_behind, taken_stays}
 use Rattle.paced_tree.specs.Made.{IsMadeBy}
 use Rattle.paced_tree.specs.Numbers.{taken_of, HasTaken, pace_of}
-use Rattle.paced_tree.proofs.Terms.{with_numbers_of, IsPace, IsToldOf, Makes, weight_after, written_in}
+use Rattle.paced_tree.proofs.Terms.{with_numbers_of, IsPace, IsToldOf, Makes, most_on_way, weight_after, written_in}
 use Rattle.paced_tree.proofs.Books.{noted_booked}
 use Rattle.paced_tree.proofs.BookLaws.{write_books}
 use Rattle.paced_tree.proofs.Paces.{its_pace, makes}
@@ -85,91 +83,124 @@ noted_pace m p seat op reply is g = record {
 pub stopped_pace : (m : Machine) (why : Why) → IsPaced (pace_of m) → IsToldOf m → IsPace (stop why m) (pace_of m)
 stopped_pace m why paced t = record { numbers = refl; booked = t.booked; weights = paced.weights; quanta = paced.quanta }
 
--- ---- where a write lands
+-- ---- where writes land
 
-pub one_weight : (w : Write) → total_weight (w ∷ []) ≡ weight_of w
-one_weight w = omega arith
-
--- a command writes once at most
-pub writes_once : (op : Op) (w : Write) (rest : List Write) → writes_of op ≡ w ∷ rest → total_weight (writes_of op) ≡ weight_of w
-writes_once op w rest is = grind (arith, common_steps, nat_tests)
-
-taken_stays : (p : Option Merge) (b : Entries) (key : Key) (rec : Rec) (es : Entries) → AreSorted es → goes_to_a p b key ≡ true
-    → taken_of p (with_record key rec es) ≡ taken_of p es
-taken_stays None b key rec es sorted ahead = refl
-taken_stays (Some pass) b key rec es sorted ahead = ap entries_weight (behind_kept pass.cursor key rec es (sent_ahead pass b key ahead).0 sorted)
+taken_kept : (m : Machine) → IsSound m → (more : Entries) → taken_of m.merges.pass (with_writes m.merges.pass more m.lists).a ≡ taken_of m.merges.pass m.lists.a
+taken_kept m sound more = by m.merges.pass
+  where
+    by : (p : Option Merge) → taken_of p (with_writes p more m.lists).a ≡ taken_of p m.lists.a
+    by None = refl
+    by (Some pass) = ap entries_weight (taken_stays pass more m.lists sound.layered.sorted_a)
 
 pub taken_le : (p : Option Merge) (es : Entries) → taken_of p es ≤ entries_weight es
 taken_le None es = omega arith
 taken_le (Some pass) es = omega (arith, weight_parts pass.cursor es)
 
--- a key that isn't ahead finds a pass that has taken something, unless table B has the key
-behind_runs : (m : Machine) (key : Key) → IsSound m → HasTaken m.merges.pass m.gears.pass_taken → goes_to_a m.merges.pass m.lists.b key ≡ false
-    → (m.gears.pass ≡ true) × ((0 < m.gears.pass_taken) ⊎ (0 < entries_weight m.lists.b))
-behind_runs m key sound started = by m.merges.pass sound.pass started
-  where
-    by : (p : Option Merge)
-        → IsPassCounted m.lists.a m.lists.c1 m.gears.pass m.gears.pass_c1 m.gears.pass_memory m.gears.pass_admitted m.gears.pass_taken p
-        → HasTaken p m.gears.pass_taken → goes_to_a p m.lists.b key ≡ false
-        → (m.gears.pass ≡ true) × ((0 < m.gears.pass_taken) ⊎ (0 < entries_weight m.lists.b))
-    by None counted taken goes = absurd (true≢false goes)
-    by (Some pass) counted taken goes = (
-      counted.0,
-      elim (sent_behind pass.cursor key m.lists.b goes) [ inl some ↦ inl (taken some) | inr has ↦ inr (key_weighs key m.lists.b has) ],
+-- a table weighs no more on the way than before and what is put in, and no less than in the end
+pub most_within : (more table : Entries) → AreSorted table → most_on_way more table ≤ entries_weight table + entries_weight more
+most_within [] table sorted = omega arith
+most_within (e ∷ more) table sorted =
+    omega (
+      arith,
+      most_within more (with_record e.0 e.1 table) (sorted_with_record e.0 e.1 table sorted),
+      weight_with e.0 e.1 table sorted,
+      weigh_first e more,
     )
 
-module _ (m : Machine) (w : Write) (sound : IsSound m) where
+pub after_within : (more table : Entries) → entries_weight (with_records more table) ≤ most_on_way more table
+after_within [] table = omega arith
+after_within (e ∷ more) table = omega (arith, after_within more (with_record e.0 e.1 table))
+
+-- what doesn't go to table A finds a pass that has taken something, or is one write whose key table B has, or is several
+pub behind_runs : (m : Machine) (ws : List Write) → 1 ≤ length ws → IsSound m → HasTaken m.merges.pass m.gears.pass_taken
+    → goes_to_a m.merges.pass m.lists.b (entries_of ws) ≡ false
+    → (m.gears.pass ≡ true) × ((0 < m.gears.pass_taken) ⊎ (0 < entries_weight m.lists.b) ⊎ (2 ≤ length ws))
+behind_runs m ws some sound started = by m.merges.pass sound.pass started
+  where
+    why : (pass : Merge) (ws : List Write) → 1 ≤ length ws → (IsTrue (is_some pass.cursor) → 0 < m.gears.pass_taken)
+        → goes_to_a (Some pass) m.lists.b (entries_of ws) ≡ false → (0 < m.gears.pass_taken) ⊎ (0 < entries_weight m.lists.b) ⊎ (2 ≤ length ws)
+    why pass [] some taken goes = absurd (omega (arith, some))
+    why pass (w ∷ []) some taken goes =
+        elim (sent_behind pass.cursor (key_of w) m.lists.b goes) [ inl has_cursor ↦ inl (taken has_cursor) | inr has ↦ inr (inl (key_weighs (key_of w) m.lists.b has)) ]
+    why pass (w ∷ v ∷ ws) some taken goes = inr (inr (omega arith))
+
+    by : (p : Option Merge)
+        → IsPassCounted m.lists.a m.lists.c1 m.gears.pass m.gears.pass_c1 m.gears.pass_memory m.gears.pass_admitted m.gears.pass_taken p
+        → HasTaken p m.gears.pass_taken → goes_to_a p m.lists.b (entries_of ws) ≡ false
+        → (m.gears.pass ≡ true) × ((0 < m.gears.pass_taken) ⊎ (0 < entries_weight m.lists.b) ⊎ (2 ≤ length ws))
+    by None counted taken goes = absurd (true≢false goes)
+    by (Some pass) counted taken goes = (counted.0, why pass ws some taken goes)
+
+module _ (m : Machine) (ws : List Write) (sound : IsSound m) where
+  abbrev more : Entries
+  more = entries_of ws
+
   abbrev at_a : Lists
-  at_a = record { b = m.lists.b; a = with_record (key_of w) (record_of w) m.lists.a; c1 = m.lists.c1; c1x = m.lists.c1x; c2 = m.lists.c2 }
+  at_a = record { b = m.lists.b; a = with_records more m.lists.a; c1 = m.lists.c1; c1x = m.lists.c1x; c2 = m.lists.c2 }
 
   abbrev at_b : Lists
-  at_b = record { b = with_record (key_of w) (record_of w) m.lists.b; a = m.lists.a; c1 = m.lists.c1; c1x = m.lists.c1x; c2 = m.lists.c2 }
+  at_b = record { b = with_records more m.lists.b; a = m.lists.a; c1 = m.lists.c1; c1x = m.lists.c1x; c2 = m.lists.c2 }
 
-  -- it goes to table A, or to table B
+  -- they go to table A, or to table B
   abbrev sent_to : Op → Bool → Written
-  sent_to op b = record { weight = weight_of w; is_del = is_del op; ahead = b; after = weight_after b (cond b at_a at_b) }
+  sent_to op b = record {
+    weight = total_weight ws;
+    writes = length ws;
+    is_del = is_del op;
+    ahead = b;
+    after = weight_after b (cond b at_a at_b);
+    most = most_on_way more (cond b m.lists.a m.lists.b);
+  }
 
-  pub lands_of : (op : Op) → HasTaken m.merges.pass m.gears.pass_taken → Lands (pace_of m) (written_in m op w)
-  lands_of op started = by (goes_to_a m.merges.pass m.lists.b (key_of w)) refl
+  pub lands_of : (op : Op) → 1 ≤ length ws → HasTaken m.merges.pass m.gears.pass_taken → Lands (pace_of m) (written_in m op ws)
+  lands_of op some started = by (goes_to_a m.merges.pass m.lists.b more) refl
     where
-      by : (b : Bool) → goes_to_a m.merges.pass m.lists.b (key_of w) ≡ b → Lands (pace_of m) (sent_to op b)
+      by : (b : Bool) → goes_to_a m.merges.pass m.lists.b more ≡ b → Lands (pace_of m) (sent_to op b)
       by true ahead = (
-        omega (arith, weight_with (key_of w) (record_of w) m.lists.a sound.layered.sorted_a, weight_of_record w),
-        omega (arith, taken_stays m.merges.pass m.lists.b (key_of w) (record_of w) m.lists.a sound.layered.sorted_a ahead, taken_le m.merges.pass (with_record (key_of w) (record_of w) m.lists.a)),
+        omega (arith, most_within more m.lists.a sound.layered.sorted_a, weight_of_entries ws),
+        after_within more m.lists.a,
+        omega (
+          arith,
+          subst (λ (b : Bool). taken_of m.merges.pass (cond b at_a at_b).a ≡ taken_of m.merges.pass m.lists.a) ahead (taken_kept m sound more),
+          taken_le m.merges.pass (with_records more m.lists.a),
+        ),
       )
       by false behind =
-          let runs = behind_runs m (key_of w) sound started behind in
-          (runs.0, runs.1, omega (arith, weight_with (key_of w) (record_of w) m.lists.b sound.layered.sorted_b, weight_of_record w))
+          let runs = behind_runs m ws some sound started behind in
+          (runs.0, runs.1, omega (arith, most_within more m.lists.b sound.layered.sorted_b, weight_of_entries ws), after_within more m.lists.b)
 
   written_numbers : (seat : ℕ) (op : Op)
-      → with_numbers_of (note seat op Done (with_peak (take_write seat w m))) (pace_with_write (pace_of m) seat (written_in m op w))
-      ≡ pace_with_write (pace_of m) seat (written_in m op w)
-  written_numbers seat op = by (goes_to_a m.merges.pass m.lists.b (key_of w)) refl
+      → with_numbers_of (note seat op Done (with_peak (take_writes seat ws m))) (pace_with_write (pace_of m) seat (written_in m op ws))
+      ≡ pace_with_write (pace_of m) seat (written_in m op ws)
+  written_numbers seat op = by (goes_to_a m.merges.pass m.lists.b more) (taken_kept m sound more)
     where
-      by : (b : Bool) → goes_to_a m.merges.pass m.lists.b (key_of w) ≡ b
-          → with_numbers_of (with_peak (record m { lists = cond b at_a at_b; gears = entered m.gears seat (weight_of w); spring = cond m.gears.pass m.spring (m.spring + weight_of w) })) (pace_with_write (pace_of m) seat (sent_to op b))
+      by : (b : Bool) → taken_of m.merges.pass (cond b at_a at_b).a ≡ taken_of m.merges.pass m.lists.a
+          → with_numbers_of (with_peak (record m { lists = cond b at_a at_b; gears = entered m.gears seat (total_weight ws); spring = cond m.gears.pass m.spring (m.spring + total_weight ws) })) (pace_with_write (pace_of m) seat (sent_to op b))
           ≡ pace_with_write (pace_of m) seat (sent_to op b)
-      by true is = ap (λ (n : ℕ). record (pace_with_write (pace_of m) seat (sent_to op true)) { taken = n }) (taken_stays m.merges.pass m.lists.b (key_of w) (record_of w) m.lists.a sound.layered.sorted_a is)
-      by false is = refl
+      by true kept = ap (λ (n : ℕ). record (pace_with_write (pace_of m) seat (sent_to op true)) { taken = n }) kept
+      by false kept = refl
 
-  pub written_pace : (seat : ℕ) (op : Op) → total_weight (writes_of op) ≡ weight_of w → IsPaced (pace_of m) → IsToldOf m → seat < callers → is_write op ≡ true
-      → IsPace (note seat op Done (with_peak (take_write seat w m))) (pace_with_write (pace_of m) seat (written_in m op w))
-  written_pace seat op weighs paced t caller writing = record {
+  pub written_pace : (seat : ℕ) (op : Op) → writes_of op ≡ ws → IsPaced (pace_of m) → IsToldOf m → seat < callers → is_write op ≡ true
+      → IsPace (note seat op Done (with_peak (take_writes seat ws m))) (pace_with_write (pace_of m) seat (written_in m op ws))
+  written_pace seat op writes paced t caller writing = record {
     numbers = written_numbers seat op;
-    booked = write_books m.book m.seats (pace_of m) seat op (written_in m op w) (sym weighs) paced caller writing t.booked;
-    weights = length-set (pace_of m).weights seat (weight_of w) ∙ paced.weights;
+    booked = write_books m.book m.seats (pace_of m) seat op (written_in m op ws) (ap total_weight (sym writes)) (ap (λ (l : List Write). length l) (sym writes)) paced caller writing t.booked;
+    weights = length-set (pace_of m).weights seat (total_weight ws) ∙ paced.weights;
     quanta = length-set (pace_of m).quanta seat 0 ∙ paced.quanta;
   }
+
+-- writes that fit weigh something
+pub some_weigh : (w : Write) (ws : List Write) → AllByRecursion FitsFormat (w ∷ ws) → least_weight ≤ total_weight (w ∷ ws)
+some_weigh w ws fit = omega (arith, fit.0.least, sum_by-cons weight_of w ws)
 
 -- ---- an admission
 
 module _ (m : Machine) (seat : ℕ) (op : Op) (sound : IsSound m) (way : HasWay m) (paced : IsPaced (pace_of m)) (t : IsToldOf m) (caller : seat < callers) where
-  -- where it landed, of the pace before its moves
-  pub lands_at : (w : Write) (n : ℕ) → n ≡ weight_of w → Lands (pace_ready_for (pace_of m) n) (written_in (ready_for n m) op w)
-  lands_at w n is =
-      subst (λ n. Lands (pace_ready_for (pace_of m) n) (written_in (ready_for n m) op w)) (sym is)
-      (subst (λ p. Lands p (written_in (ready_for (weight_of w) m) op w)) (ready_pace (weight_of w) m sound)
-      (lands_of (ready_for (weight_of w) m) w (ready_carries (weight_of w) m sound way).sound op (ready_told (weight_of w) m t).started))
+  -- where they landed, of the pace before its moves
+  pub lands_at : (ws : List Write) → 1 ≤ length ws → Lands (pace_ready_for (pace_of m) (total_weight ws)) (written_in (ready_for (total_weight ws) m) op ws)
+  lands_at ws some =
+      subst (λ p. Lands p (written_in (ready_for (total_weight ws) m) op ws)) (ready_pace (total_weight ws) m sound)
+      (lands_of (ready_for (total_weight ws) m) ws (ready_carries (total_weight ws) m sound way).sound op some (ready_told (total_weight ws) m t).started)
 
   failed_makes : (commits faults : ℕ) → (let ended = admit_fitting m seat op (total_weight (writes_of op)) (FailedAfter commits faults) in Makes seat (kind.Admit op) ended.answer m ended.state)
   failed_makes commits faults = by (nat_lt commits (swaps_due m)) (commits == 0)
@@ -195,39 +226,39 @@ module _ (m : Machine) (seat : ℕ) (op : Op) (sound : IsSound m) (way : HasWay 
           (ready_pace (total_weight (writes_of op)) m sound) (stops (ready_for (total_weight (writes_of op)) m) FaultUnsure refl kept.1 told) told.started
 
   module _ (writing : is_write op ≡ true) (settled : first_debt m.gears seat + second_debt m.gears seat ≡ 0) where
-    written : (w : Write) → writes_of op ≡ w ∷ [] → FitsFormat w → charge m + weight_of w ≤ charge_limit m.gears.sizes (is_del op)
-        → Makes seat (kind.Admit op) (Replied Done) m (note seat op Done (with_peak (take_write seat w (ready_for (weight_of w) m))))
-    written w writes fits room =
-        let n = ready_for (weight_of w) m in
-        let weighs : total_weight (writes_of op) ≡ weight_of w = ap total_weight writes ∙ one_weight w in
-        let same : pace_of n ≡ pace_ready_for (pace_of m) (weight_of w) = ready_pace (weight_of w) m sound in
-        let told = ready_told (weight_of w) m t in
-        makes seat (kind.Admit op) (Replied Done) m (note seat op Done (with_peak (take_write seat w n)))
-        (pace_with_write (pace_of n) seat (written_in n op w))
+    written : (w : Write) (ws : List Write) → writes_of op ≡ w ∷ ws → FitTogether (w ∷ ws) → charge m + total_weight (w ∷ ws) ≤ charge_limit m.gears.sizes (is_del op)
+        → Makes seat (kind.Admit op) (Replied Done) m (note seat op Done (with_peak (take_writes seat (w ∷ ws) (ready_for (total_weight (w ∷ ws)) m))))
+    written w ws writes fits room =
+        let weight = total_weight (w ∷ ws) in
+        let n = ready_for weight m in
+        let same : pace_of n ≡ pace_ready_for (pace_of m) weight = ready_pace weight m sound in
+        let told = ready_told weight m t in
+        makes seat (kind.Admit op) (Replied Done) m (note seat op Done (with_peak (take_writes seat (w ∷ ws) n)))
+        (pace_with_write (pace_of n) seat (written_in n op (w ∷ ws)))
         (record {
-          written = written_in n op w;
-          weighs = sym weighs;
+          written = written_in n op (w ∷ ws);
+          weighs = ap total_weight (sym writes);
+          counts = ap (λ (l : List Write). length l) (sym writes);
           deletes = refl;
           may = record {
             caller = caller;
             settled = settled;
-            light = fits.least;
-            heavy = write_is_light w fits;
+            some = omega arith;
+            light = some_weigh w ws fits.each;
+            heavy = fits.light;
             room = room;
-            lands = lands_at w (weight_of w) refl;
+            lands = lands_at (w ∷ ws) (omega arith);
           };
-          led = ap (λ (p : Pace). pace_with_write p seat (written_in n op w)) same;
+          led = ap (λ (p : Pace). pace_with_write p seat (written_in n op (w ∷ ws))) same;
         })
-        (written_pace n w (ready_carries (weight_of w) m sound way).sound seat op weighs (subst IsPaced (sym same) (moves_keep (pace_of m) (weight_of w) paced).2) told caller writing) told.started
+        (written_pace n (w ∷ ws) (ready_carries weight m sound way).sound seat op writes (subst IsPaced (sym same) (moves_keep (pace_of m) weight paced).2) told caller writing) told.started
 
-    done_makes : AllByRecursion FitsFormat (writes_of op) → charge m + total_weight (writes_of op) ≤ charge_limit m.gears.sizes (is_del op)
-        → Makes seat (kind.Admit op) (Replied Done) m (note seat op Done (with_peak (taken_once seat (writes_of op) (ready_for (total_weight (writes_of op)) m))))
+    done_makes : FitTogether (writes_of op) → charge m + total_weight (writes_of op) ≤ charge_limit m.gears.sizes (is_del op)
+        → Makes seat (kind.Admit op) (Replied Done) m (note seat op Done (with_peak (taken_together seat (writes_of op) (ready_for (total_weight (writes_of op)) m))))
     done_makes fits room =
-        let one = writes_one op writing in
-        let weighs : total_weight (writes_of op) ≡ weight_of one.0 = ap total_weight one.1 ∙ one_weight one.0 in
-        subst (λ ws. Makes seat (kind.Admit op) (Replied Done) m (note seat op Done (with_peak (taken_once seat ws (ready_for (total_weight (writes_of op)) m))))) (sym one.1)
-        (subst (λ k. Makes seat (kind.Admit op) (Replied Done) m (note seat op Done (with_peak (take_write seat one.0 (ready_for k m))))) (sym weighs)
-        (written one.0 one.1 (subst (λ ws. AllByRecursion FitsFormat ws) one.1 fits).0 (subst (λ k. charge m + k ≤ charge_limit m.gears.sizes (is_del op)) weighs room)))
+        let some = writes_some op writing in
+        subst (λ ws. Makes seat (kind.Admit op) (Replied Done) m (note seat op Done (with_peak (taken_together seat ws (ready_for (total_weight ws) m))))) (sym some.2)
+        (written some.0 some.1 some.2 (subst (λ ws. FitTogether ws) some.2 fits) (subst (λ (ws : List Write). charge m + total_weight ws ≤ charge_limit m.gears.sizes (is_del op)) some.2 room))
 
 -- an entry alone
 pub note_makes : (m : Machine) (seat : ℕ) (k : Kind) (op : Op) (reply : Reply) → (is_done reply && is_write op) ≡ false → IsMadeBy seat k (Replied reply) (pace_of m) (pace_of m) → IsPaced (pace_of m) → IsToldOf m
@@ -235,7 +266,7 @@ pub note_makes : (m : Machine) (seat : ℕ) (k : Kind) (op : Op) (reply : Reply)
 note_makes m seat k op reply is made paced t = makes seat k (Replied reply) m (note seat op reply m) (pace_of m) made (noted_pace m (pace_of m) seat op reply is (its_pace m paced t.booked)) t.started
 
 pub admission_makes : (m : Machine) (seat : ℕ) (op : Op) (outcome : Outcome) → IsSound m → HasWay m → IsPaced (pace_of m) → IsToldOf m → seat < callers → is_write op ≡ true
-    → (m.stopped ≡ None → first_debt m.gears seat + second_debt m.gears seat ≡ 0) → AllByRecursion FitsFormat (writes_of op) → Makes seat (kind.Admit op) (admit m seat op outcome).answer m (admit m seat op outcome).state
+    → (m.stopped ≡ None → first_debt m.gears seat + second_debt m.gears seat ≡ 0) → FitTogether (writes_of op) → Makes seat (kind.Admit op) (admit m seat op outcome).answer m (admit m seat op outcome).state
 admission_makes m seat op outcome sound way paced t caller writing settled fits = by m.stopped refl
   where
     fitting : m.stopped ≡ None → charge m + total_weight (writes_of op) ≤ charge_limit m.gears.sizes (is_del op) → (e : Outcome)

@@ -27,13 +27,15 @@ use Rattle.paced_tree.proofs.Terms.{with_turn_of, quanta_of_turn}
 
 -- a write that was done
 pub write_books : (book : Book) (s : Seats) (pace : Pace) (seat : ℕ) (op : Op) (written : Written) → written.weight ≡ total_weight (writes_of op)
-    → IsPaced pace → seat < callers → is_write op ≡ true → IsBookOf book s pace
+    → written.writes ≡ length (writes_of op) → IsPaced pace → seat < callers → is_write op ≡ true → IsBookOf book s pace
     → IsBookOf (noted book (record { seat = seat; op = op; reply = Done })) s (with_write pace seat written)
-write_books book s pace seat op written weighs paced caller write k =
+write_books book s pace seat op written weighs counts paced caller write k =
     let entry : Entry = record { seat = seat; op = op; reply = Done } in
     subst (λ (n : ℕ). IsBookOf (noted book entry) s (with_write pace seat (record written { weight = n }))) (sym weighs)
+    (subst (λ (n : ℕ). IsBookOf (noted book entry) s (with_write pace seat (record written { weight = total_weight (writes_of op); writes = n })))
+    (sym counts)
     (written_booked pace.gears.sizes book s.quanta s.work pace.work pace.admitted pace.writes pace.weights pace.quanta entry
-    paced.weights paced.quanta caller write k)
+    paced.weights paced.quanta caller write k))
 
 -- any other entry
 pub note_books : (book : Book) (s : Seats) (pace : Pace) (entry : Entry) → (is_done entry.reply ≡ true → is_write entry.op ≡ false) → IsBookOf book s pace → IsBookOf (noted book entry) s pace

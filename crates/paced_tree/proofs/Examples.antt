@@ -54,10 +54,10 @@ front_weighs : entries_weight (replayed (take 1 put_then_del)) ≡ 512
 front_weighs = refl
 
 abbrev put_first : Event
-put_first = Admit 0 (record { weight = 512; is_del = false; ahead = true; after = 512 })
+put_first = Admit 0 (record { weight = 512; writes = 1; is_del = false; ahead = true; after = 512; most = 512 })
 
 abbrev del_then : Event
-del_then = Admit 0 (record { weight = 77; is_del = true; ahead = true; after = 77 })
+del_then = Admit 0 (record { weight = 77; writes = 1; is_del = true; ahead = true; after = 77; most = 77 })
 
 front_is_kept : (fronts_after (after (pace_opened default_sizes 0 0) put_first) del_then
     (fronts_after (pace_opened default_sizes 0 0) put_first no_fronts)).lane_a

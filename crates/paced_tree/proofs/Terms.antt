@@ -1,19 +1,18 @@
 -- What only lemmas say: no clause names these.
-use Rattle.std.specs.Prelude.{◌≡◌, ℕ, ◌+◌, ◌-◌, Bool, length, ◌++◌, Option, Some, None, if◌then◌else◌, slice_index, slice_set}
+use Rattle.std.specs.Prelude.{◌≡◌, ℕ, ◌+◌, ◌-◌, Bool, List, [], ◌∷◌, length, max, ◌++◌, Option, Some, None, if◌then◌else◌, slice_index, slice_set}
 use Rattle.blsm_model.specs.Format.{callers}
-use Rattle.blsm_model.specs.Legal.{is_del}
-use Rattle.blsm_model.specs.Values.{key_of, weight_of}
+use Rattle.blsm_model.specs.Legal.{is_del, total_weight}
 use Rattle.blsm_model.specs.declared.op.Op.{Op}
 use Rattle.blsm_model.specs.declared.op.Write.{Write}
 use Rattle.pacing.specs.Pace.{Pace, Quantum, Written}
 use Rattle.pacing.specs.Steps.{Move, TakeDeep, TakeSnow, turn_of, is_worker_seat}
-use Rattle.record_delta.specs.Entries.{entries_weight, settled_entries, up_to}
-use Rattle.record_delta.specs.Records.{record_of}
+use Rattle.record_delta.specs.Entries.{Entries, entries_weight, settled_entries, up_to, with_record}
+use Rattle.record_delta.specs.Several.{entries_of}
 use Rattle.tree_machine.specs.declared.step.Kind.{Kind}
 use Rattle.tree_machine.specs.Lists.{Lists}
 use Rattle.tree_machine.specs.Merges.{Merge, cursor_after, quantum_of}
 use Rattle.tree_machine.specs.Machine.{Machine, Seats, WorkSoFar}
-use Rattle.tree_machine.specs.Moves.{goes_to_a, output_of, with_write}
+use Rattle.tree_machine.specs.Moves.{goes_to_a, output_of, with_writes}
 use Rattle.tree_machine.specs.Steps.{Answer}
 use Rattle.paced_tree.specs.Numbers.{taken_of, HasTaken, pace_of}
 use Rattle.paced_tree.specs.Booking.{IsBookOf, quanta_of_move}
@@ -84,17 +83,24 @@ quantum_for_move TakeSnow m = snow_of m.merges.pass m
 quantum_for_move TakeDeep m = deep_of m.merges.deep m
 quantum_for_move _ m = no_quantum
 
--- what the table that a write goes to weighs then
+-- what the table that writes go to weighs then
 abbrev pub weight_after : Bool → Lists → ℕ
 weight_after ahead new = if ahead then entries_weight new.a else entries_weight new.b
 
--- what the pacing has of a command's write that is taken here
-abbrev pub written_in : Machine → Op → Write → Written
-written_in m op w = record {
-  weight = weight_of w;
+-- the most that a table weighs after each of these entries, which are put into it one after the other
+abbrev pub most_on_way : Entries → Entries → ℕ
+most_on_way [] table = entries_weight table
+most_on_way (e ∷ more) table = max (entries_weight (with_record e.0 e.1 table)) (most_on_way more (with_record e.0 e.1 table))
+
+-- what the pacing has of a command's writes that are taken here
+abbrev pub written_in : Machine → Op → List Write → Written
+written_in m op ws = record {
+  weight = total_weight ws;
+  writes = length ws;
   is_del = is_del op;
-  ahead = goes_to_a m.merges.pass m.lists.b (key_of w);
-  after = weight_after (goes_to_a m.merges.pass m.lists.b (key_of w)) (with_write m.merges.pass (key_of w) (record_of w) m.lists);
+  ahead = goes_to_a m.merges.pass m.lists.b (entries_of ws);
+  after = weight_after (goes_to_a m.merges.pass m.lists.b (entries_of ws)) (with_writes m.merges.pass (entries_of ws) m.lists);
+  most = most_on_way (entries_of ws) (if goes_to_a m.merges.pass m.lists.b (entries_of ws) then m.lists.a else m.lists.b);
 }
 
 abbrev pub quanta_of_turn : ℕ → Pace → ℕ

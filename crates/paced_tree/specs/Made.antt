@@ -1,5 +1,5 @@
 -- What a step makes of the numbers, by its answer.
-use Rattle.std.specs.Prelude.{◌≡◌, ◌⊎◌, ℕ}
+use Rattle.std.specs.Prelude.{◌≡◌, ◌⊎◌, ℕ, length}
 use Rattle.blsm_model.specs.declared.op.Op.{Op}
 use Rattle.blsm_model.specs.declared.history.Reply.{Reply}
 use Rattle.blsm_model.specs.declared.history.Reply.TheVariants.{Done, FaultLost, FaultUnsure}
@@ -13,10 +13,11 @@ use Rattle.tree_machine.specs.Machine.{Worked, Failed, BadPage}
 use Rattle.tree_machine.specs.Steps as steps
 use Rattle.tree_machine.specs.Steps.{Answer, Replied, Paid, Settled}
 
--- one admission of the pacing, of the command's weight, by the seat
+-- one admission of the pacing, of the command's writes, by the seat
 pub record IsAdmission (seat : ℕ) (op : Op) (old new : Pace) : Type 0 where
   pub written : Written
   pub weighs : written.weight ≡ total_weight (writes_of op)
+  pub counts : written.writes ≡ length (writes_of op)
   pub deletes : written.is_del ≡ is_del op
   pub may : May old (Admit seat written)
   pub led : new ≡ after old (Admit seat written)

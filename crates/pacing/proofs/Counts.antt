@@ -46,9 +46,9 @@ begin_or_not p h1 h2 test h3 = grind (arith, common_steps, nat_tests)
 begins_after : (p : Pace) → IsReadyCount p → passes_begun p ≤ p.writes + 1
 begins_after p c = elim c.begins [ inl few ↦ omega arith | inr fresh ↦ fresh.3 ]
 
-write : (p : Pace) (ahead : Bool) (seat : ℕ) (written : Written) → IsReadyCount p → Lands p (sent written ahead)
+write : (p : Pace) (ahead : Bool) (seat : ℕ) (written : Written) → IsReadyCount p → 1 ≤ written.writes → Lands p (sent written ahead)
     → IsCounted (with_write p seat (sent written ahead))
-write p ahead seat written h1 h2 = grind (arith, common_steps, nat_tests)
+write p ahead seat written h1 h2 h3 = grind (arith, common_steps, nat_tests)
 
 -- a deep merge that isn't done keeps a full run from being swapped in
 pub way : (p : Pace) → IsPaced p → p.gears.pass ≡ true → p.gears.pass_taken ≡ p.a + p.c1 → (p.gears.deep ≡ true → p.gears.deep_taken < p.c1x + p.c2) → c1_mark p.gears.sizes ≤ p.made1 → p.gears.deep ≡ false
@@ -60,15 +60,15 @@ deep_counts p h1 = grind (arith, common_steps, nat_tests)
 settle_pass : (p : Pace) → IsPaced p → IsCounted p → (p.gears.deep ≡ true → p.gears.deep_taken < p.c1x + p.c2) → IsCounted (pass_settled p)
 settle_pass p h1 h2 h3 = grind (arith, common_steps, nat_tests, cond_both, and_parts, swap_and_rotation, way, eqb-true)
 
-pub admit : (p : Pace) (seat : ℕ) (written : Written) → IsPaced p → IsCounted p → Lands (ready_for p written.weight) written
+pub admit : (p : Pace) (seat : ℕ) (written : Written) → IsPaced p → IsCounted p → 1 ≤ written.writes → Lands (ready_for p written.weight) written
     → IsCounted (with_write (ready_for p written.weight) seat written)
-admit p seat written k c lands =
+admit p seat written k c some lands =
     let one = deep_settled_kept p k in
     let two = pass_settled_kept p k in
     let c_two = settle_pass (deep_settled p) one.kept (deep_counts p c) one.going in
     write (ready_for p written.weight) written.ahead seat written
     (begin_or_not (pass_settled (deep_settled p)) two.kept c_two (not (pass_settled (deep_settled p)).gears.pass && ltb (pass_settled (deep_settled p)).gears.sizes.low ((pass_settled (deep_settled p)).spring + written.weight))
-    (λ e. let parts = and_parts (not (pass_settled (deep_settled p)).gears.pass) (ltb (pass_settled (deep_settled p)).gears.sizes.low ((pass_settled (deep_settled p)).spring + written.weight)) e in not-true _ parts.0)) lands
+    (λ e. let parts = and_parts (not (pass_settled (deep_settled p)).gears.pass) (ltb (pass_settled (deep_settled p)).gears.sizes.low ((pass_settled (deep_settled p)).spring + written.weight)) e in not-true _ parts.0)) some lands
 
 same_count : (p q : Pace) → IsCounted p → q.gears.pass ≡ p.gears.pass → q.gears.deep ≡ p.gears.deep → q.writes ≡ p.writes → q.passes ≡ p.passes → q.deeps ≡ p.deeps → q.b ≡ p.b → q.spring ≡ p.spring → q.c1 ≡ p.c1 → IsCounted q
 same_count p q h1 h2 h3 h4 h5 h6 h7 h8 h9 = grind (arith, common_steps, nat_tests)
@@ -104,7 +104,7 @@ turn p is_worker seat quantum k c =
     (λ e. turn_rests p is_worker seat quantum k c e (no_deep_left p.gears.deep p.gears.pass (deep_is_behind p.gears) none e)))))
 
 pub step_counts : (pace : Pace) (event : Event) → IsPaced pace → IsCounted pace → May pace event → IsCounted (after pace event)
-step_counts pace (Admit seat written) k c may = admit pace seat written k c may.lands
+step_counts pace (Admit seat written) k c may = admit pace seat written k c may.some may.lands
 step_counts pace (Pay seat quantum) k c may = pay (plan_of (with_forgiven pace seat) seat) pace seat quantum c
 step_counts pace (Turn seat quantum) k c may = turn pace (is_worker_seat seat) seat quantum k c
 

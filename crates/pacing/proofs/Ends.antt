@@ -2,12 +2,11 @@
 use Rattle.std.proofs.Common.{◌≡◌, ℕ, ◌+◌, ◌*◌, ◌≤◌, Bool, true, false, cond, arith}
 use Rattle.std.proofs.lemmas.Grind.{common_steps}
 use Rattle.std.proofs.lemmas.Bool.Decides.{nat_tests}
-use Rattle.blsm_model.specs.Format.{least_weight}
 use Rattle.blsm_model.specs.Sizes.{Sizes}
 use Rattle.pacing.specs.Pace.{Pace, Written, opened, with_pass_swapped, with_rotation, with_pass, with_write}
 use Rattle.pacing.specs.Kept.{IsWithin}
 use Rattle.pacing.specs.Steps.{Lands}
-use Rattle.pacing.specs.Ends.{AreEnds}
+use Rattle.pacing.specs.Ends.{AreEnds, IsNoLonger}
 use Rattle.pacing.proofs.Flags.{sent}
 use Rattle.pacing.proofs.Terms.{HasRoom}
 
@@ -22,24 +21,23 @@ ends_turned p a b test h1 h2 h3 = grind (arith, common_steps, nat_tests)
 pub ends_begun : (p : Pace) (a b : ℕ) → IsWithin p → p.gears.pass ≡ false → AreEnds p a b → AreEnds (with_pass p) a b
 ends_begun p a b h1 h2 h3 = grind (arith, common_steps, nat_tests)
 
--- one entry more, and its gate
-ends_by : (p : Pace) (ahead : Bool) (seat : ℕ) (written : Written) (a b : ℕ) → least_weight ≤ written.weight → Lands p (sent written ahead)
-    → AreEnds p a b
-    → AreEnds (with_write p seat (sent written ahead)) (cond ahead (a + (written.weight + 1)) a) (cond ahead b (b + (written.weight + 1)))
-ends_by p ahead seat written a b h1 h2 h3 = grind (arith, common_steps, nat_tests)
+-- one record more
+ends_by : (p : Pace) (ahead : Bool) (seat : ℕ) (written : Written) (n a b : ℕ) → IsNoLonger n written.weight → Lands p (sent written ahead)
+    → AreEnds p a b → AreEnds (with_write p seat (sent written ahead)) (cond ahead (a + n) a) (cond ahead b (b + n))
+ends_by p ahead seat written n a b h1 h2 h3 = grind (arith, common_steps, nat_tests)
 
-pub ends_written : (p : Pace) (seat : ℕ) (written : Written) (a b : ℕ) → least_weight ≤ written.weight → Lands p written → AreEnds p a b
-    → AreEnds (with_write p seat written) (cond written.ahead (a + (written.weight + 1)) a) (cond written.ahead b (b + (written.weight + 1)))
+pub ends_written : (p : Pace) (seat : ℕ) (written : Written) (n a b : ℕ) → IsNoLonger n written.weight → Lands p written → AreEnds p a b
+    → AreEnds (with_write p seat written) (cond written.ahead (a + n) a) (cond written.ahead b (b + n))
 ends_written p seat written = ends_by p written.ahead seat written
 
--- so the entry for which there is room, and the gates round it, are within a lane's region
-fits_by : (p : Pace) (ahead : Bool) (written : Written) (a b : ℕ) → IsWithin p → AreEnds p a b → HasRoom p written.weight
-    → Lands p (sent written ahead) → cond ahead a b + 1 + written.weight + 1 ≤ 4 * p.gears.sizes.half
-fits_by p ahead written a b h1 h2 h3 h4 = grind (arith, common_steps, nat_tests)
+-- so a record of entries for which there is room, with the gate behind it, is within a lane's region
+fits_by : (p : Pace) (ahead : Bool) (written : Written) (n a b : ℕ) → IsWithin p → AreEnds p a b → HasRoom p written.weight
+    → IsNoLonger n written.weight → Lands p (sent written ahead) → cond ahead a b + n + 1 ≤ 4 * p.gears.sizes.half
+fits_by p ahead written n a b h1 h2 h3 h4 h5 = grind (arith, common_steps, nat_tests)
 
-pub entry_fits : (p : Pace) (written : Written) (a b : ℕ) → IsWithin p → AreEnds p a b → HasRoom p written.weight → Lands p written
-    → cond written.ahead a b + 1 + written.weight + 1 ≤ 4 * p.gears.sizes.half
-entry_fits p written = fits_by p written.ahead written
+pub record_fits : (p : Pace) (written : Written) (n a b : ℕ) → IsWithin p → AreEnds p a b → HasRoom p written.weight
+    → IsNoLonger n written.weight → Lands p written → cond written.ahead a b + n + 1 ≤ 4 * p.gears.sizes.half
+record_fits p written = fits_by p written.ahead written
 
 -- an opening's lanes are empty
 pub opened_ends : (sizes : Sizes) (c1 c2 a b : ℕ) → a ≡ 0 → b ≡ 0 → AreEnds (opened sizes c1 c2) a b

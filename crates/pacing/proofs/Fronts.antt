@@ -2,19 +2,18 @@
 use Rattle.std.proofs.Common.{◌≡◌, refl, ℕ, ◌+◌, ◌&&◌, ◌||◌, not, Bool, true, false, cond, ltb, arith}
 use Rattle.std.proofs.lemmas.Grind.{common_steps}
 use Rattle.std.proofs.lemmas.Bool.Decides.{nat_tests}
-use Rattle.std.proofs.lemmas.Bool.{cond_both, and_parts, eqb-true, false≢true, not-true}
+use Rattle.std.proofs.lemmas.Bool.{cond_both, and_parts, eqb-true, false≢true, true≢false, not-true}
 use Rattle.gear_sched.specs.Gears.{deep_is_behind}
 use Rattle.gear_sched.specs.declared.Plan.{Plan}
 use Rattle.pacing.specs.Pace.{Pace, Quantum, Written, pass_done, deep_done, with_deep_swapped, with_pass_swapped, with_rotation, with_swap_and_rotation, with_pass, with_write, with_forgiven, opened}
-use Rattle.pacing.specs.Kept.{IsPaced}
+use Rattle.pacing.specs.Kept.{IsPaced, IsWithin}
 use Rattle.pacing.specs.Steps.{Admit, Pay, Turn, Lands, Move, SwapDeep, SwapPass, TakeDeep, TakeSnow, turn_of, turn_at_rest, turned_by, paid_by, plan_of, is_worker_seat, deep_settled, pass_settled, ready_for, Event, May, after}
 use Rattle.pacing.specs.Fronts.{Fronts, AreFronts, FitAtEach}
-use Rattle.pacing.proofs.Admissions.{deep_settled_kept}
+use Rattle.pacing.proofs.Admissions.{deep_settled_kept, ready as admission_ready}
 use Rattle.pacing.proofs.Flags.{at, sent}
-use Rattle.pacing.proofs.Runs.{step_keeps}
 use Rattle.blsm_model.specs.Sizes.{Sizes}
 use Rattle.pacing.specs.Laws.{IsOpening}
-use Rattle.pacing.proofs.Terms.{fronts_turned, fronts_written, fronts_ready, fronts_by, no_fronts, fronts_after}
+use Rattle.pacing.proofs.Terms.{HasRoom, fronts_turned, fronts_written, fronts_ready, fronts_by, no_fronts, fronts_after}
 
 -- ---- moves
 
@@ -51,16 +50,47 @@ ready p w f k a =
 -- ---- a write
 
 write_at : (p : Pace) (pass ahead : Bool) (seat : ℕ) (written : Written) (f : Fronts) → AreFronts (at p pass p.gears.deep) f
-    → Lands (at p pass p.gears.deep) (sent written ahead) → IsPaced (with_write (at p pass p.gears.deep) seat (sent written ahead))
+    → Lands (at p pass p.gears.deep) (sent written ahead) → IsWithin (at p pass p.gears.deep) → HasRoom (at p pass p.gears.deep) written.weight
     → AreFronts (with_write (at p pass p.gears.deep) seat (sent written ahead)) (fronts_written (sent written ahead) f)
-write_at p true true seat written f a lands k = grind (arith, common_steps, nat_tests)
-write_at p true false seat written f a lands k = grind (arith, common_steps, nat_tests)
-write_at p false true seat written f a lands k = grind (arith, common_steps, nat_tests)
-write_at p false false seat written f a lands k = absurd (false≢true lands.0)
+write_at p true true seat written f a lands k r =
+    let run = k.running refl in
+    let half = k.sizes.half.0 in
+    record {
+      table = omega (arith, lands.1);
+      high = omega (arith, a.high, lands.0, run.tables, run.begin, r.fits refl);
+      full = omega (arith, a.full, lands.0, run.tables, r.room);
+      next = a.next;
+      behind = λ e. omega (arith, a.behind refl);
+      both = λ e. omega (arith, a.both refl, lands.0, lands.1);
+      none = λ e. absurd (true≢false e);
+    }
+write_at p true false seat written f a lands k r =
+    let run = k.running refl in
+    record {
+      table = a.table;
+      high = a.high;
+      full = a.full;
+      next = omega (arith, lands.3);
+      behind = λ e. omega (arith, a.behind refl, lands.2, run.behind);
+      both = λ e. omega (arith, a.both refl, lands.2, run.tables);
+      none = λ e. absurd (true≢false e);
+    }
+write_at p false true seat written f a lands k r =
+    let rest = k.resting refl in
+    record {
+      table = omega (arith, lands.1);
+      high = omega (arith, a.high, lands.0, rest.spring, r.low refl);
+      full = omega (arith, a.full, lands.0, r.room);
+      next = a.next;
+      behind = λ e. absurd (false≢true e);
+      both = λ e. absurd (false≢true e);
+      none = a.none;
+    }
+write_at p false false seat written f a lands k r = absurd (false≢true lands.0)
 
-write : (p : Pace) (seat : ℕ) (written : Written) (f : Fronts) → AreFronts p f → Lands p written → IsPaced (with_write p seat written)
+write : (p : Pace) (seat : ℕ) (written : Written) (f : Fronts) → AreFronts p f → Lands p written → IsWithin p → HasRoom p written.weight
     → AreFronts (with_write p seat written) (fronts_written written f)
-write p seat written f a lands k = write_at p p.gears.pass written.ahead seat written f a lands k
+write p seat written f a lands k r = write_at p p.gears.pass written.ahead seat written f a lands k r
 
 -- ---- a turn
 
@@ -100,8 +130,9 @@ moves_fronts pace w fronts k a = (settle_deep pace fronts k a, ready pace w fron
 
 pub step_fronts : (pace : Pace) (event : Event) (fronts : Fronts) → IsPaced pace → AreFronts pace fronts → May pace event → AreFronts (after pace event) (fronts_after pace event fronts)
 step_fronts pace (Admit seat written) fronts k a may =
-    write (ready_for pace written.weight) seat written (fronts_ready pace fronts) (ready pace written.weight fronts k a) may.lands
-    (step_keeps pace (Admit seat written) k may)
+    let now = admission_ready pace seat written k may in
+    write (ready_for pace written.weight) seat written (fronts_ready pace fronts) (ready pace written.weight fronts k a) may.lands now.0.within
+    now.1.has_room
 step_fronts pace (Pay seat quantum) fronts k a may = pay (plan_of (with_forgiven pace seat) seat) pace seat quantum fronts a
 step_fronts pace (Turn seat quantum) fronts k a may = turn pace (is_worker_seat seat) seat quantum fronts k a
 

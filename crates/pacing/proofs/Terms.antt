@@ -1,5 +1,5 @@
 -- What only lemmas say: no clause names these.
-use Rattle.std.specs.Prelude.{◌≡◌, ℕ, ◌+◌, ◌≤◌, true, false, ◌-◌, ◌*◌, ◌^◌, ◌<◌, if◌then◌else◌, sum, ◌&&◌, max, Bool}
+use Rattle.std.specs.Prelude.{◌≡◌, ℕ, ◌+◌, ◌≤◌, true, false, ◌-◌, ◌*◌, ◌^◌, ◌<◌, if◌then◌else◌, sum, ◌&&◌, max}
 use Rattle.blsm_model.specs.Format.{least_weight, callers, most_weight}
 use Rattle.blsm_model.specs.Geometry.{capacity, first_gear, second_gear, high_mark}
 use Rattle.pacing.specs.Pace.{Pace, Written, charge, pass_done}
@@ -46,11 +46,11 @@ no_fronts = record { lane_a = 0; lane_b = 0 }
 abbrev pub fronts_turned : Fronts → Fronts
 fronts_turned fronts = record { lane_a = fronts.lane_b; lane_b = 0 }
 
--- a write lands, and its table weighs so much then
+-- what a command writes lands, and its table weighed so much on the way
 abbrev pub fronts_written : Written → Fronts → Fronts
 fronts_written written fronts = record {
-  lane_a = if written.ahead then max fronts.lane_a written.after else fronts.lane_a;
-  lane_b = if written.ahead then fronts.lane_b else max fronts.lane_b written.after;
+  lane_a = if written.ahead then max fronts.lane_a written.most else fronts.lane_a;
+  lane_b = if written.ahead then fronts.lane_b else max fronts.lane_b written.most;
 }
 
 -- what an admission's swaps make of them

@@ -27,9 +27,16 @@ pub fn each_run_keeps_pace()
 pub fn merges_are_in_time()
     ensures pass { (pace : Pace) (w : ℕ) → IsPaced pace → pace.gears.pass ≡ true → w ≤ most_weight → pace.gears.sizes.half < pace.gears.pass_admitted + w → pass_done pace ≡ true }
     ensures deep { (pace : Pace) → IsPaced pace → pace.gears.pass ≡ true → pass_done pace ≡ true → c1_mark pace.gears.sizes ≤ pace.made1 → pace.gears.deep ≡ true → deep_done pace ≡ true }
-    ensures free { (pace : Pace) (seat w : ℕ) (is_del : Bool) → IsPaced pace → seat < callers → first_debt pace.gears seat + second_debt pace.gears seat ≡ 0
-        → least_weight ≤ w → w ≤ most_weight → charge pace + w ≤ charge_limit pace.gears.sizes is_del
-        → MayAdmit pace seat (record { weight = w; is_del = is_del; ahead = true; after = (ready_for pace w).a + w }) }
+    ensures free { (pace : Pace) (seat w n : ℕ) (is_del : Bool) → IsPaced pace → seat < callers → first_debt pace.gears seat + second_debt pace.gears seat ≡ 0
+        → 1 ≤ n → least_weight ≤ w → w ≤ most_weight → charge pace + w ≤ charge_limit pace.gears.sizes is_del
+        → MayAdmit pace seat (record {
+          weight = w;
+          writes = n;
+          is_del = is_del;
+          ahead = true;
+          after = (ready_for pace w).a + w;
+          most = (ready_for pace w).a + w;
+        }) }
 {}
 
 /// A write's quanta are within its work bound, whatever other seats do, and a seat's debts rise at its own admission alone, which

@@ -9,7 +9,7 @@ use Rattle.blsm_model.specs.declared.history.Reply.{Reply}
 use Rattle.tree_machine.specs.declared.step.Kind.TheVariants as kind
 use Rattle.tree_machine.specs.Lists.{memory_weight}
 use Rattle.tree_machine.specs.Machine.{Machine, pass_done, deep_done, is_closed}
-use Rattle.tree_machine.specs.Moves.{take_write, with_peak, note, stop}
+use Rattle.tree_machine.specs.Moves.{take_writes, with_peak, note, stop}
 use Rattle.tree_machine.specs.Steps.{Outcome, Choice, SwapDeep, SwapPass, DeepQuantum, PassQuantum, chosen, count_for_write, deep_swapped, forgive, holding, leave, ready_for, work_end, work_turn, work_turning, worker_turn, worker_turning}
 use Rattle.seat_book.specs.State.{BookState, book_of, noted_in, stopped_in, peaked_in, pass_counted_in, deep_counted_in, quantum_counted_in, paid_in, turned_in, helped_in, ended_in, left_in}
 
@@ -44,7 +44,7 @@ pub record MovesBook (m : Machine) : Type 0 where
   pub turn : (seat : ℕ) (c : Choice) → Runs c m → book_of (chosen c seat m) ≡ chosen_in c seat (book_of m)
   pub deep : book_of (deep_swapped m) ≡ counted_if (deep_done m) deep_counted_in (book_of m)
   pub ready : (weight : ℕ) → book_of (ready_for weight m) ≡ counted_if (pass_done (deep_swapped m)) pass_counted_in (book_of (deep_swapped m))
-  pub write : (seat : ℕ) (write : Write) → book_of (take_write seat write m) ≡ book_of m
+  pub write : (seat : ℕ) (writes : List Write) → book_of (take_writes seat writes m) ≡ book_of m
   pub forgive : (seat : ℕ) → book_of (forgive seat m) ≡ book_of m
   pub hold : (seat : ℕ) (rows : Option (List Row)) → book_of (holding seat rows m) ≡ book_of m
 
