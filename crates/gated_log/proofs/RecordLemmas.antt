@@ -25,7 +25,8 @@ use Rattle.entry_codec.proofs.SpellingLemmas.{length-spelling}
 use Rattle.blsm_model.specs.Format.{most_weight}
 use Rattle.entry_codec.specs.Spelling.{head, kind_of, kind_of_delta}
 use Rattle.entry_codec.proofs.SpellingLemmas.{entry_same}
-use Rattle.gated_log.specs.Records.{cost, entries_of, head_len, pack_head, pack_text, record_text, spellings, AreFilled, AreKept, AreSpelled}
+use Rattle.record_delta.specs.Several.{entries_of}
+use Rattle.gated_log.specs.Records.{cost, head_len, pack_head, pack_text, record_text, spellings, AreFilled, AreKept, AreSpelled}
 use Rattle.gated_log.specs.Records.{BeginsWithPack, BeginsWithRecord, IsLaneRecord}
 
 -- ---- lengths

@@ -1,21 +1,14 @@
 -- A record of a lane, which stands behind its open gate: one entry, or several that stand or fall together. They have a head, then:
 -- a kind that no entry has, how many they are, and how many bytes they have.
-use Rattle.std.specs.Prelude.{◌≡◌, ℕ, ◌+◌, ◌≤◌, List, [], ◌∷◌, ◌++◌, length, map}
+use Rattle.std.specs.Prelude.{◌≡◌, ℕ, ◌+◌, ◌≤◌, List, [], ◌∷◌, ◌++◌, length}
 use Rattle.std.specs.List.{AllByRecursion}
 use Rattle.std.specs.Int.{to_be_bytes, w16}
-use Rattle.blsm_model.specs.declared.op.Write.{Write}
 use Rattle.blsm_model.specs.Format.{most_weight, most_writes}
-use Rattle.blsm_model.specs.Values.{key_of}
-use Rattle.record_delta.specs.Records.{record_of}
 use Rattle.record_delta.specs.Entries.{Entries, entries_weight}
 use Rattle.entry_codec.specs.Spelling.{spelling, IsEntry}
 
 abbrev pub pack_kind : ℕ
 pack_kind = 5
-
--- the entries of these writes
-abbrev pub entries_of : List Write → Entries
-entries_of writes = map (λ w. (key_of w, record_of w)) writes
 
 -- the entries' spellings, behind one another
 abbrev pub spellings : Entries → List ℕ

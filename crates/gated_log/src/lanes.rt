@@ -12,7 +12,8 @@ ghost use Rattle.record_delta.specs.Records.{weight};
 ghost use Rattle.entry_codec.specs.Spelling.{spelling, IsEntry};
 ghost use Rattle.gated_write.specs.Ends.{EndsSynced};
 ghost use Rattle.gated_log.specs.Lane.{lane_region, Appends};
-ghost use Rattle.gated_log.specs.Records.{cost, entries_of};
+ghost use Rattle.record_delta.specs.Several.{entries_of};
+ghost use Rattle.gated_log.specs.Records.{cost};
 ghost use Rattle.gated_log.specs.Lanes.{LanesState, end_of, moved, turned};
 
 use crate::records::{ROOM, put_pack};

@@ -13,7 +13,8 @@ ghost use Rattle.blsm_model.specs.Format.{most_weight};
 ghost use Rattle.blsm_model.specs.Legal.{total_weight};
 ghost use Rattle.blsm_model.specs.Tails.{TailFits};
 ghost use Rattle.record_delta.specs.Entries.{Entries, entries_weight};
-ghost use Rattle.gated_log.specs.Records.{cost, entries_of, head_len, pack_head, pack_text, spellings};
+ghost use Rattle.record_delta.specs.Several.{entries_of};
+ghost use Rattle.gated_log.specs.Records.{cost, head_len, pack_head, pack_text, spellings};
 ghost use Rattle.gated_log.specs.Records.{AreFilled, AreSpelled, BeginsWithPack, BeginsWithRecord, IsPackRecord};
 
 use blsm_model::{Op, Pack, Write};

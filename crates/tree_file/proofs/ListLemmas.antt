@@ -2,11 +2,13 @@
 use Rattle.std.specs.Prelude.{◌≡◌, ◌++◌, ℕ, List, [], ◌∷◌, Option, None, fold, refl}
 use Rattle.std.proofs.Common.{ap, subst}
 use Rattle.std.proofs.lemmas.List.Elements.{All-head, All-tail}
+use Rattle.std.proofs.lemmas.List.Sums.{fold-append}
 use Rattle.blsm_model.specs.Sizes.{Sizes}
 use Rattle.blsm_model.specs.declared.key.Key.{Key}
 use Rattle.record_delta.specs.declared.record.Rec.{Rec}
 use Rattle.record_delta.specs.Records.{IsWithin}
 use Rattle.record_delta.specs.Entries.{Entries, AreSorted, replayed, with_record}
+use Rattle.record_delta.specs.Several.{with_records}
 use Rattle.entry_codec.specs.Spelling.{IsEntry}
 use Rattle.page_file.specs.Component.{RunPage, AreChained, ReadsAs, entries_of}
 use Rattle.page_file.specs.Entry.{AreEntries}
@@ -59,19 +61,16 @@ sorted_replayed lane = sorted_on [] lane refl
 light_replayed : (lane : Entries) → AreLight lane → AreLight (replayed lane)
 light_replayed lane light = light_on [] lane light tt
 
--- one record more is folded over the table
-replay_push : (table lane : Entries) (e : Key × Rec) → replay_on table (lane ++ e ∷ []) ≡ with_record e.0 e.1 (replay_on table lane)
-replay_push table [] e = refl
-replay_push table (x ∷ lane) e = replay_push (with_record x.0 x.1 table) lane e
+-- So the entries that are appended to a lane join its table.
+pub lists_appended_a : (more : Entries) (tree : Tree)
+    → lists_of (appended_a more tree) ≡ record (lists_of tree) { a = with_records more (replayed tree.lane_a.entries) }
+lists_appended_a more tree =
+    ap (λ (table : Entries). record (lists_of tree) { a = table }) (fold-append (λ (table : Entries) (e : Key × Rec). with_record e.0 e.1 table) [] tree.lane_a.entries more)
 
--- So an entry that is appended to a lane joins its table.
-pub lists_appended_a : (e : Key × Rec) (tree : Tree)
-    → lists_of (appended_a e tree) ≡ record (lists_of tree) { a = with_record e.0 e.1 (replayed tree.lane_a.entries) }
-lists_appended_a e tree = ap (λ (table : Entries). record (lists_of tree) { a = table }) (replay_push [] tree.lane_a.entries e)
-
-pub lists_appended_b : (e : Key × Rec) (tree : Tree)
-    → lists_of (appended_b e tree) ≡ record (lists_of tree) { b = with_record e.0 e.1 (replayed tree.lane_b.entries) }
-lists_appended_b e tree = ap (λ (table : Entries). record (lists_of tree) { b = table }) (replay_push [] tree.lane_b.entries e)
+pub lists_appended_b : (more : Entries) (tree : Tree)
+    → lists_of (appended_b more tree) ≡ record (lists_of tree) { b = with_records more (replayed tree.lane_b.entries) }
+lists_appended_b more tree =
+    ap (λ (table : Entries). record (lists_of tree) { b = table }) (fold-append (λ (table : Entries) (e : Key × Rec). with_record e.0 e.1 table) [] tree.lane_b.entries more)
 
 -- ---- a component
 

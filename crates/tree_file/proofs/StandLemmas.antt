@@ -14,8 +14,7 @@ use Rattle.std.proofs.lemmas.Bool.{false≢true}
 use Rattle.blsm_model.specs.Sizes.{Sizes}
 use Rattle.blsm_model.specs.Geometry.{file_length}
 use Rattle.blsm_model.specs.Lanes.{a_of, b_of, spare_of, region_start, AreRoles}
-use Rattle.blsm_model.specs.declared.key.Key.{Key}
-use Rattle.record_delta.specs.declared.record.Rec.{Rec}
+use Rattle.record_delta.specs.Entries.{Entries}
 use Rattle.gated_log.specs.Lane.{Lane, lane_region, no_lane, with_more, HasEntries, Appends, LeavesAppended, IsAppended}
 use Rattle.gated_log.proofs.LaneLaws.{empty_lane}
 use Rattle.gated_log.proofs.LaneLemmas.{region_inside}
@@ -93,29 +92,29 @@ stands_read {end} {most} {old} {new} sizes tree run honest stands = (
 
 -- ---- an append
 
--- a lane that has its entries, or one more, in a file of which only its own bytes changed
-either_appended : (role : Role) (sizes : Sizes) (tree : Tree) (e : Key × Rec) (was file : List ℕ) → HoldsTree sizes tree was → IsSameOutside (lane_region sizes (lane_of role tree)) was file
+-- a lane that has its entries, or one record more, in a file of which only its own bytes changed
+either_appended : (role : Role) (sizes : Sizes) (tree : Tree) (es : Entries) (was file : List ℕ) → HoldsTree sizes tree was → IsSameOutside (lane_region sizes (lane_of role tree)) was file
     → HasEntries sizes (lane_of role tree) (lane_in role tree) file
-    ⊎ HasEntries sizes (lane_of role tree) (with_more (lane_in role tree) (e ∷ [])) file
-    → HoldsEither sizes tree (with_lane role (with_more (lane_in role tree) (e ∷ [])) tree) file
-either_appended role sizes tree e was file holds same =
+    ⊎ HasEntries sizes (lane_of role tree) (with_more (lane_in role tree) es) file
+    → HoldsEither sizes tree (with_lane role (with_more (lane_in role tree) es) tree) file
+either_appended role sizes tree es was file holds same =
     ⊎_elim
     (λ has. inl (same_entries role {tree = tree} (entries_changed role sizes tree (lane_in role tree) holds same has)))
-    (λ more. inr (entries_changed role sizes tree (with_more (lane_in role tree) (e ∷ [])) holds same more))
+    (λ more. inr (entries_changed role sizes tree (with_more (lane_in role tree) es) holds same more))
 
 settled_with : (role : Role) {sizes : Sizes} (tree : Tree) {d : DiskState} (lane : Lane) → IsSettled sizes tree.catalogue d
     → IsSettled sizes (with_lane role lane tree).catalogue d
 settled_with as_a tree lane settled = settled
 settled_with as_b tree lane settled = settled
 
-pub stands_appended : (role : Role) {done : Bool} {at end most : ℕ} {old new : DiskState} (sizes : Sizes) (tree : Tree) (e : Key × Rec)
-    → Appends sizes (lane_of role tree) at (e ∷ []) done old new
+pub stands_appended : (role : Role) {done : Bool} {at end most : ℕ} {old new : DiskState} (sizes : Sizes) (tree : Tree) (es : Entries)
+    → Appends sizes (lane_of role tree) at es done old new
     → (lane_in role tree).end ≡ at → Affects (lane_region sizes (lane_of role tree)) end most old new → IsTrue old.is_honest → IsTimed new
     → StandsOn sizes tree old
-    → Becomes sizes tree (with_lane role (with_more (lane_in role tree) (e ∷ [])) tree) done old new
-stands_appended role {done} {at} {end} {most} {old} {new} sizes tree e appends ends run honest timed stands = record {
+    → Becomes sizes tree (with_lane role (with_more (lane_in role tree) es) tree) done old new
+stands_appended role {done} {at} {end} {most} {old} {new} sizes tree es appends ends run honest timed stands = record {
   each = each;
-  either = record { reads = either_appended role sizes tree e old.bytes new.bytes stands.reads (run.bytes honest) (leaves.reads (has_entries role stands.reads)).has; each = leaves_only_now timed each };
+  either = record { reads = either_appended role sizes tree es old.bytes new.bytes stands.reads (run.bytes honest) (leaves.reads (has_entries role stands.reads)).has; each = leaves_only_now timed each };
   stands = λ well. record {
     reads = entries_changed role sizes tree more stands.reads (run.bytes honest) (leaves.reads_done well (has_entries role stands.reads));
     each = λ c left.
@@ -127,33 +126,33 @@ stands_appended role {done} {at} {end} {most} {old} {new} sizes tree e appends e
 }
   where
     more : Lane
-    more = with_more (lane_in role tree) (e ∷ [])
+    more = with_more (lane_in role tree) es
 
-    leaves : LeavesAppended sizes (lane_of role tree) (lane_in role tree) (e ∷ []) done old new
+    leaves : LeavesAppended sizes (lane_of role tree) (lane_in role tree) es done old new
     leaves = appends (lane_in role tree) honest ends
 
     each_has : (c : List ℕ) → old.images c → HasEntries sizes (lane_of role tree) (lane_in role tree) c
     each_has c left = has_entries role (stands.each c left)
 
-    appended : LeavesOnly old new (IsAppended sizes (lane_of role tree) (lane_in role tree) (e ∷ []) old.images)
+    appended : LeavesOnly old new (IsAppended sizes (lane_of role tree) (lane_in role tree) es old.images)
     appended = leaves.each each_has
 
-    each : LeavesOnly old new (HoldsEither sizes tree (with_lane role (with_more (lane_in role tree) (e ∷ [])) tree))
-    each = leaves_only_weaken (λ c is. either_appended role sizes tree e is.outside.0 c (stands.each is.outside.0 is.outside.1) is.outside.2 is.has) appended
+    each : LeavesOnly old new (HoldsEither sizes tree (with_lane role (with_more (lane_in role tree) es) tree))
+    each = leaves_only_weaken (λ c is. either_appended role sizes tree es is.outside.0 c (stands.each is.outside.0 is.outside.1) is.outside.2 is.has) appended
 
--- An append to a lane leaves the tree with the entry or without, in each image of each moment; once it is done, with it.
-pub stands_appended_a : {done : Bool} {at end most : ℕ} {old new : DiskState} (sizes : Sizes) (tree : Tree) (e : Key × Rec)
-    → Appends sizes (a_of tree.catalogue.lanes) at (e ∷ []) done old new
+-- An append to a lane leaves the tree with the entries or without, in each image of each moment; once it is done, with them.
+pub stands_appended_a : {done : Bool} {at end most : ℕ} {old new : DiskState} (sizes : Sizes) (tree : Tree) (es : Entries)
+    → Appends sizes (a_of tree.catalogue.lanes) at es done old new
     → tree.lane_a.end ≡ at → Affects (lane_region sizes (a_of tree.catalogue.lanes)) end most old new → IsTrue old.is_honest → IsTimed new
     → StandsOn sizes tree old
-    → Becomes sizes tree (appended_a e tree) done old new
+    → Becomes sizes tree (appended_a es tree) done old new
 stands_appended_a = stands_appended as_a
 
-pub stands_appended_b : {done : Bool} {at end most : ℕ} {old new : DiskState} (sizes : Sizes) (tree : Tree) (e : Key × Rec)
-    → Appends sizes (b_of tree.catalogue.lanes) at (e ∷ []) done old new
+pub stands_appended_b : {done : Bool} {at end most : ℕ} {old new : DiskState} (sizes : Sizes) (tree : Tree) (es : Entries)
+    → Appends sizes (b_of tree.catalogue.lanes) at es done old new
     → tree.lane_b.end ≡ at → Affects (lane_region sizes (b_of tree.catalogue.lanes)) end most old new → IsTrue old.is_honest → IsTimed new
     → StandsOn sizes tree old
-    → Becomes sizes tree (appended_b e tree) done old new
+    → Becomes sizes tree (appended_b es tree) done old new
 stands_appended_b = stands_appended as_b
 
 -- ---- a preparation

@@ -5,8 +5,7 @@ use Rattle.disk_trait.specs.Disk.{DiskState}
 use Rattle.disk_trait.specs.Moments.{LeavesOnly}
 use Rattle.blsm_model.specs.Sizes.{Sizes}
 use Rattle.blsm_model.specs.Lanes.{a_of, b_of, spare_of}
-use Rattle.blsm_model.specs.declared.key.Key.{Key}
-use Rattle.record_delta.specs.declared.record.Rec.{Rec}
+use Rattle.record_delta.specs.Entries.{Entries}
 use Rattle.gated_log.specs.Lane.{no_lane, with_more}
 use Rattle.page_file.specs.Component.{RunPage, ReadsAs, entries_of}
 use Rattle.catalog_swap.specs.declared.catalog.Catalog.{Catalog}
@@ -14,12 +13,12 @@ use Rattle.catalog_swap.specs.Swap.{IsSettled}
 use Rattle.tree_machine.specs.Layers.{AreBases}
 use Rattle.tree_file.specs.Tree.{Tree, HasProgress, HoldsTree, live_pages}
 
--- with one entry more in lane A, or in lane B
-abbrev pub appended_a : Key × Rec → Tree → Tree
-appended_a entry tree = record tree { lane_a = with_more tree.lane_a (entry ∷ []) }
+-- with one record more in lane A, or in lane B, of these entries
+abbrev pub appended_a : Entries → Tree → Tree
+appended_a more tree = record tree { lane_a = with_more tree.lane_a more }
 
-abbrev pub appended_b : Key × Rec → Tree → Tree
-appended_b entry tree = record tree { lane_b = with_more tree.lane_b (entry ∷ []) }
+abbrev pub appended_b : Entries → Tree → Tree
+appended_b more tree = record tree { lane_b = with_more tree.lane_b more }
 
 -- the tree of another catalogue, which has other components on these pages, names no deep merge's progress, and has the same lanes
 abbrev pub with_components : Catalog → (c1 c1x c2 : List RunPage) → Tree → Tree

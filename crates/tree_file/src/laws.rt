@@ -1,5 +1,5 @@
 //! What holds of the trees of files. The functions do nothing: each stands for the laws that its clauses name.
-ghost use Rattle.std.specs.Prelude.{◌≡◌, ◌↔◌, ◌+◌, ◌<◌, ◌∷◌, [], ℕ, List};
+ghost use Rattle.std.specs.Prelude.{◌≡◌, ◌↔◌, ◌+◌, ◌<◌, [], ℕ, List};
 ghost use Rattle.std.specs.List.{Contains};
 ghost use Rattle.disk_trait.specs.Region.{IsSameOutside};
 ghost use Rattle.blsm_model.specs.Sizes.{Sizes};
@@ -7,8 +7,7 @@ ghost use Rattle.blsm_model.specs.Geometry.{page_count};
 ghost use Rattle.blsm_model.specs.Lanes.{a_of, b_of};
 ghost use Rattle.blsm_model.specs.declared.key.Key.{Key};
 ghost use Rattle.blsm_model.specs.declared.row.Value.{Value};
-ghost use Rattle.record_delta.specs.declared.record.Rec.{Rec};
-ghost use Rattle.record_delta.specs.Entries.{AreSorted, entries_weight};
+ghost use Rattle.record_delta.specs.Entries.{AreSorted, Entries, entries_weight};
 ghost use Rattle.page_file.specs.File.{pages_region};
 ghost use Rattle.page_file.specs.Component.{numbers_of};
 ghost use Rattle.gated_log.specs.Lane.{lane_region, with_more, HasEntries};
@@ -52,12 +51,12 @@ pub fn a_tree_stays()
         → ((n : ℕ) → Contains numbers n → Contains (live_pages tree) n → ⊥) → ((n : ℕ) → Contains numbers n → Contains (numbers_of tree.output) n → ⊥)
         → ((n : ℕ) → Contains numbers n → n < page_count sizes)
         → IsSameOutside (pages_region sizes numbers) old new → HoldsTree sizes tree new }
-    ensures lane_a { (sizes : Sizes) (tree : Tree) (entry : Key × Rec) (old new : List ℕ) → HoldsTree sizes tree old
+    ensures lane_a { (sizes : Sizes) (tree : Tree) (more : Entries) (old new : List ℕ) → HoldsTree sizes tree old
         → IsSameOutside (lane_region sizes (a_of tree.catalogue.lanes)) old new
-        → HasEntries sizes (a_of tree.catalogue.lanes) (with_more tree.lane_a (entry ∷ [])) new
-        → HoldsTree sizes (appended_a entry tree) new }
-    ensures lane_b { (sizes : Sizes) (tree : Tree) (entry : Key × Rec) (old new : List ℕ) → HoldsTree sizes tree old
+        → HasEntries sizes (a_of tree.catalogue.lanes) (with_more tree.lane_a more) new
+        → HoldsTree sizes (appended_a more tree) new }
+    ensures lane_b { (sizes : Sizes) (tree : Tree) (more : Entries) (old new : List ℕ) → HoldsTree sizes tree old
         → IsSameOutside (lane_region sizes (b_of tree.catalogue.lanes)) old new
-        → HasEntries sizes (b_of tree.catalogue.lanes) (with_more tree.lane_b (entry ∷ [])) new
-        → HoldsTree sizes (appended_b entry tree) new }
+        → HasEntries sizes (b_of tree.catalogue.lanes) (with_more tree.lane_b more) new
+        → HoldsTree sizes (appended_b more tree) new }
 {}

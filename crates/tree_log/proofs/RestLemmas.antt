@@ -4,6 +4,8 @@ use Rattle.std.proofs.Common.{Bool, true, false, cond, not, ◌&&◌, [], ◌∷
 use Rattle.std.proofs.lemmas.Grind.{common_steps}
 use Rattle.std.proofs.lemmas.Bool.Decides.{nat_tests}
 use Rattle.std.proofs.lemmas.Cmp.{nat_list_cmp_total}
+use Rattle.std.specs.Prelude.{IsTrue}
+use Rattle.std.specs.List.{AllByRecursion}
 use Rattle.std.specs.Ordering.{is_lt}
 use Rattle.std.specs.declared.cmp.Ordering.{Ordering}
 use Rattle.std.specs.declared.cmp.Ordering.TheVariants.{Less, Equal, Greater}
@@ -14,6 +16,7 @@ use Rattle.blsm_model.specs.Keys.{key_cmp}
 use Rattle.record_delta.specs.declared.record.Rec.{Rec}
 use Rattle.record_delta.specs.Folding.{over}
 use Rattle.record_delta.specs.Entries.{Entries, entries_weight, record_of_key, replayed, with_record, is_above, above, up_to}
+use Rattle.record_delta.specs.Several.{with_records}
 use Rattle.mem_table.specs.Tables.{Contents, IsWhole, raised, dropped_to}
 use Rattle.mem_table.proofs.WayLemmas.{less_of_greater}
 use Rattle.tree_machine.proofs.FoldLemmas.{tied, less_of}
@@ -26,10 +29,11 @@ use Rattle.gated_log.specs.Lane.{Lane, no_lane, MayEnd}
 use Rattle.gated_log.specs.Lanes.{turned}
 use Rattle.tree_machine.specs.Machine.{Machine}
 use Rattle.tree_machine.specs.Moves.{end_pass}
-use Rattle.tree_file.specs.Tree.{Tree}
+use Rattle.tree_file.specs.Tree.{Tree, lists_of}
+use Rattle.tree_file.proofs.ListLemmas.{lists_appended_a, lists_appended_b}
 use Rattle.tree_file.specs.Places.{TurnsRoles}
-use Rattle.tree_log.specs.Log.{LogState, AreTables, IsAboveFloor, IsRestOf}
-use Rattle.tree_log.specs.Log.{IsLogOf, dropped_by, dropped_log, folded_into, turned_log, weight_of_tables, whole, with_entry}
+use Rattle.tree_log.specs.Log.{LogState, AreAboveFloor, AreTables, IsLogOf, IsRestOf, appended, dropped_by, dropped_log, folded_into, turned_log}
+use Rattle.tree_log.specs.Log.{weight_of_tables, whole, with_entries}
 
 -- ---- a record of a key above the floor
 
@@ -79,8 +83,8 @@ put_behind floor key rec (e ∷ es) high =
       | Greater ↦ λ is. ap (λ (l : Entries). cond (not (is_above floor e.0)) (e ∷ l) l) (put_behind floor key rec es high)
     ] refl
 
-pub rest_grown : (list : Entries) (table : Contents) (key : Key) (rec : Rec) → IsRestOf list table → is_above table.floor key ≡ true
-    → IsRestOf (with_record key rec list) (folded_into key rec table)
+rest_grown : (list : Entries) (table : Contents) (key : Key) (rec : Rec) → IsRestOf list table → is_above table.floor key ≡ true
+    → IsRestOf (with_record key rec list) (folded_into ((key, rec) ∷ []) table)
 rest_grown list table key rec rest high =
     let found : record_of_key key (above table.floor list) ≡ record_of_key key list = find-ahead table.floor list key
     ∙ ap (λ b. cond b (record_of_key key list) None) high in
@@ -92,11 +96,24 @@ rest_grown list table key rec rest high =
       dropped = rest.dropped ∙ sym (ap entries_weight (put_behind table.floor key made list high));
     }
 
-pub tables_grown : (ahead : Bool) (key : Key) (rec : Rec) (lists : Lists) (log : LogState) → AreTables lists log → IsAboveFloor ahead key log
-    → AreTables (cond ahead (record lists { a = with_record key rec lists.a }) (record lists { b = with_record key rec lists.b }))
-    (with_entry ahead key rec log)
-tables_grown true key rec lists log are high = record { a = rest_grown lists.a log.a key rec are.a high; b = are.b }
-tables_grown false key rec lists log are high = record { a = are.a; b = ap (with_record key rec) are.b }
+-- and several
+pub rest_grown_all : (more list : Entries) (table : Contents) → IsRestOf list table → AllByRecursion (λ e. IsTrue (is_above table.floor e.0)) more
+    → IsRestOf (with_records more list) (folded_into more table)
+rest_grown_all [] list table rest high = rest
+rest_grown_all (e ∷ more) list table rest high =
+    rest_grown_all more (with_record e.0 e.1 list) (folded_into (e ∷ []) table) (rest_grown list table e.0 e.1 rest high.0) high.1
+
+pub tables_grown : (ahead : Bool) (more : Entries) (lists : Lists) (log : LogState) → AreTables lists log → AreAboveFloor ahead more log
+    → AreTables (cond ahead (record lists { a = with_records more lists.a }) (record lists { b = with_records more lists.b }))
+    (with_entries ahead more log)
+tables_grown true more lists log are high = record { a = rest_grown_all more lists.a log.a are.a high; b = are.b }
+tables_grown false more lists log are high = record { a = are.a; b = ap (with_records more) are.b }
+
+-- the lists of the tree are then the machine's
+pub lists_joined : (ahead : Bool) (more : Entries) (tree : Tree) → lists_of (appended ahead more tree)
+    ≡ cond ahead (record (lists_of tree) { a = with_records more (lists_of tree).a }) (record (lists_of tree) { b = with_records more (lists_of tree).b })
+lists_joined true more tree = lists_appended_a more tree
+lists_joined false more tree = lists_appended_b more tree
 
 -- ---- dropped up to a key
 

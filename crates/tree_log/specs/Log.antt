@@ -1,12 +1,13 @@
 -- The memory table of a tree, as contracts see it, and of which tree it is. Weights are in bytes.
-use Rattle.std.specs.Prelude.{◌≡◌, ⊤, ℕ, ◌+◌, ◌<◌, ◌^◌, Bool, true, false, IsTrue, Option, Some, None, if◌then◌else◌}
+use Rattle.std.specs.Prelude.{◌≡◌, ⊤, ℕ, ◌+◌, ◌<◌, ◌^◌, Bool, true, false, IsTrue, Option, Some, None, if◌then◌else◌, fold}
+use Rattle.std.specs.List.{AllByRecursion}
 use Rattle.blsm_model.specs.Lanes.{a_of, b_of, AreRoles}
 use Rattle.blsm_model.specs.declared.key.Key.{Key}
-use Rattle.record_delta.specs.declared.record.Rec.{Rec}
-use Rattle.record_delta.specs.Records.{weight}
-use Rattle.record_delta.specs.Entries.{Entries, entries_weight, replayed, with_record, is_above, above, up_to}
+use Rattle.record_delta.specs.Entries.{Entries, entries_weight, replayed, is_above, above, up_to}
+use Rattle.record_delta.specs.Several.{with_records}
 use Rattle.mem_table.specs.Tables.{Contents, IsWhole, arrived_with, empty_table, dropped_to}
 use Rattle.gated_log.specs.Lane.{MayEnd}
+use Rattle.gated_log.specs.Records.{cost}
 use Rattle.gated_log.specs.Lanes.{LanesState, end_of, moved, turned}
 use Rattle.tree_machine.specs.Lists.{Lists}
 use Rattle.tree_file.specs.Tree.{Tree}
@@ -46,7 +47,7 @@ weight_of_tables log = listed_in_a log + entries_weight log.b.entries
 abbrev pub resident_in : LogState → ℕ
 resident_in log = entries_weight log.a.entries + entries_weight log.b.entries
 
--- A write ahead of the pass goes to table A and its lane, one behind it to table B and its own.
+-- What is written ahead of the pass goes to table A and its lane, what is behind it to table B and its own.
 abbrev pub lane_for : Bool → LogState → ℕ
 lane_for true log = a_of log.lanes.roles
 lane_for false log = b_of log.lanes.roles
@@ -65,16 +66,21 @@ abbrev pub IsAboveFloor : Bool → Key → LogState → Type 0
 IsAboveFloor true key log = IsTrue (is_above log.a.floor key)
 IsAboveFloor false key log = ⊤
 
+-- each of these entries' keys
+abbrev pub AreAboveFloor : Bool → Entries → LogState → Type 0
+AreAboveFloor ahead more log = AllByRecursion (λ e. IsAboveFloor ahead e.0 log) more
+
 -- ---- what is made of it
 
--- with the record folded in
-abbrev pub folded_into : Key → Rec → Contents → Contents
-folded_into key rec table = record table { entries = with_record key rec table.entries; arrived = arrived_with key table.arrived }
+-- with the entries folded in, one after the other
+abbrev pub folded_into : Entries → Contents → Contents
+folded_into more table =
+    record table { entries = with_records more table.entries; arrived = fold (λ keys e. arrived_with e.0 keys) table.arrived more }
 
--- with one entry more: its lane ends behind it, and it is in its table
-abbrev pub with_entry : Bool → Key → Rec → LogState → LogState
-with_entry true key rec log = record log { a = folded_into key rec log.a; lanes = moved log.lanes (lane_for true log) (weight key rec + 1) }
-with_entry false key rec log = record log { b = folded_into key rec log.b; lanes = moved log.lanes (lane_for false log) (weight key rec + 1) }
+-- with these entries more: their lane ends behind the record that they are, and they are in its table
+abbrev pub with_entries : Bool → Entries → LogState → LogState
+with_entries true more log = record log { a = folded_into more log.a; lanes = moved log.lanes (lane_for true log) (cost more) }
+with_entries false more log = record log { b = folded_into more log.b; lanes = moved log.lanes (lane_for false log) (cost more) }
 
 -- table A is dropped up to a key
 abbrev pub dropped_log : Key → LogState → LogState
@@ -93,10 +99,10 @@ whole table = record table { floor = None; dropped = 0 }
 abbrev pub turned_log : LogState → LogState
 turned_log log = record { a = whole log.b; b = empty_table log.a.reserved; lanes = turned log.lanes }
 
--- An entry of this weight was appended: its lane is longer by it and its gate, and the other lane ends where it did.
-pub record Grows (ahead : Bool) (w : ℕ) (old new : LogState) : Type 0 where
-  pub a : end_of_a new ≡ (if ahead then end_of_a old + (w + 1) else end_of_a old)
-  pub b : end_of_b new ≡ (if ahead then end_of_b old else end_of_b old + (w + 1))
+-- A record of these entries was appended: its lane is longer by it, and the other lane ends where it did.
+pub record Grows (ahead : Bool) (more : Entries) (old new : LogState) : Type 0 where
+  pub a : end_of_a new ≡ (if ahead then end_of_a old + cost more else end_of_a old)
+  pub b : end_of_b new ≡ (if ahead then end_of_b old else end_of_b old + cost more)
 
 -- The lanes turned: A ends where B did, and B has no entries.
 pub record Turns (old new : LogState) : Type 0 where
@@ -121,10 +127,10 @@ pub record IsLogOf (tree : Tree) (log : LogState) : Type 0 where
   pub a : IsRestOf (replayed tree.lane_a.entries) log.a
   pub b : log.b.entries ≡ replayed tree.lane_b.entries
 
--- the tree with one entry more in the one lane or the other
-abbrev pub appended : Bool → Key × Rec → Tree → Tree
-appended true entry tree = appended_a entry tree
-appended false entry tree = appended_b entry tree
+-- the tree with these entries more in the one lane or the other
+abbrev pub appended : Bool → Entries → Tree → Tree
+appended true more tree = appended_a more tree
+appended false more tree = appended_b more tree
 
 -- The machine's tables are these: table A is the rest of its list.
 pub record AreTables (lists : Lists) (log : LogState) : Type 0 where

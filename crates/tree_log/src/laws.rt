@@ -1,24 +1,23 @@
 //! What holds of the memory table of a tree. The functions do nothing: each stands for the laws that its clauses name.
 ghost use Rattle.std.specs.Prelude.{◌≡◌, Option};
 ghost use Rattle.blsm_model.specs.declared.key.Key.{Key};
-ghost use Rattle.record_delta.specs.declared.record.Rec.{Rec};
-ghost use Rattle.record_delta.specs.Entries.{entries_weight};
+ghost use Rattle.record_delta.specs.Entries.{Entries, entries_weight};
 ghost use Rattle.tree_machine.specs.Lists.{Lists};
 ghost use Rattle.tree_machine.specs.Machine.{Machine};
 ghost use Rattle.tree_machine.specs.Merges.{Merge};
-ghost use Rattle.tree_machine.specs.Moves.{goes_to_a, with_write, end_pass};
+ghost use Rattle.tree_machine.specs.Moves.{goes_to_a, with_writes, end_pass};
 ghost use Rattle.tree_file.specs.Tree.{Tree, lists_of};
-ghost use Rattle.tree_log.specs.Log.{LogState, AreTables, IsAboveFloor, IsLogOf, appended, listed_in_a};
-ghost use Rattle.tree_log.specs.Log.{dropped_log, turned_log, weight_of_tables, with_entry};
+ghost use Rattle.tree_log.specs.Log.{LogState, AreTables, AreAboveFloor, IsLogOf, appended, listed_in_a};
+ghost use Rattle.tree_log.specs.Log.{dropped_log, turned_log, weight_of_tables, with_entries};
 
-/// An append is the machine's write: of the tables, and of the tree whose log it is. A write whose key the pass hasn't come to, and table B
-/// hasn't, goes ahead, and is then above what was dropped of table A.
+/// An append is the machine's move: of the tables, and of the tree whose log it is. What goes to table A, as no pass runs or as it joins the one that
+/// does, is above what was dropped of table A.
 pub fn entries_join()
-    ensures tables { (pass : Option Merge) (key : Key) (rec : Rec) (lists : Lists) (log : LogState) → AreTables lists log
-        → IsAboveFloor (goes_to_a pass lists.b key) key log
-        → AreTables (with_write pass key rec lists) (with_entry (goes_to_a pass lists.b key) key rec log) }
-    ensures tree { (pass : Option Merge) (key : Key) (rec : Rec) (tree : Tree)
-        → lists_of (appended (goes_to_a pass (lists_of tree).b key) (key, rec) tree) ≡ with_write pass key rec (lists_of tree) }
+    ensures tables { (pass : Option Merge) (more : Entries) (lists : Lists) (log : LogState) → AreTables lists log
+        → AreAboveFloor (goes_to_a pass lists.b more) more log
+        → AreTables (with_writes pass more lists) (with_entries (goes_to_a pass lists.b more) more log) }
+    ensures tree { (pass : Option Merge) (more : Entries) (tree : Tree)
+        → lists_of (appended (goes_to_a pass (lists_of tree).b more) more tree) ≡ with_writes pass more (lists_of tree) }
     ensures is_of { (tree : Tree) (log : LogState) → IsLogOf tree log → AreTables (lists_of tree) log }
 {}
 

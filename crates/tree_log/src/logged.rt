@@ -10,10 +10,11 @@ ghost use Rattle.mem_table.specs.Tables.{IsWhole};
 ghost use Rattle.gated_write.specs.Ends.{EndsSynced};
 ghost use Rattle.gated_log.specs.Lane.{lane_region, no_lane, Appends};
 ghost use Rattle.gated_log.specs.Lanes.{end_of, moved};
+ghost use Rattle.gated_log.specs.Records.{cost};
 ghost use Rattle.tree_file.specs.Tree.{Tree};
 ghost use Rattle.tree_file.specs.Places.{StandsOn, Becomes, TurnsRoles};
 ghost use Rattle.tree_log.specs.Log.{IsAboveFloor, IsLogOf, Grows, Turns, appended, folded_into, lane_for, listed_for, listed_in_a};
-ghost use Rattle.tree_log.specs.Log.{dropped_log, resident_in, table_for, turned_log, weight_of_tables, with_entry};
+ghost use Rattle.tree_log.specs.Log.{dropped_log, resident_in, table_for, turned_log, weight_of_tables, with_entries};
 
 use blsm_model::Key;
 use disk_trait::Disk;
@@ -55,9 +56,9 @@ fn append_to<D: Disk>(
     requires above { IsTrue (is_above table.old.floor key.now) }
     requires room { entries_weight (with_record key.now rec.now table.old.entries) + table.old.dropped ≤ table.old.reserved }
     requires length { IsTrue (D.state disk.old).tells_bytes → length (D.state disk.old).bytes ≡ file_length lanes.old.sizes }
-    ensures lanes { lanes.new ≡ (if is_ok result then moved lanes.old lane (weight key.now rec.now + 1) else lanes.old) }
-    ensures ended { OnOk result (end_of lanes.new lane ≡ end_of lanes.old lane + (weight key.now rec.now + 1)) }
-    ensures table { table.new ≡ (if is_ok result then folded_into key.now rec.now table.old else table.old) }
+    ensures lanes { lanes.new ≡ (if is_ok result then moved lanes.old lane (cost ((key.now, rec.now) ∷ [])) else lanes.old) }
+    ensures ended { OnOk result (end_of lanes.new lane ≡ end_of lanes.old lane + cost ((key.now, rec.now) ∷ [])) }
+    ensures table { table.new ≡ (if is_ok result then folded_into ((key.now, rec.now) ∷ []) table.old else table.old) }
     ensures appends { Appends lanes.old.sizes lane (end_of lanes.old lane) ((key.now, rec.now) ∷ []) (is_ok result) (D.state disk.old)
         (D.state disk.new) }
     ensures ends { OnOk result (EndsSynced 4 (D.state disk.old) (D.state disk.new)) }
@@ -177,17 +178,17 @@ impl LoggedTables {
     ) -> Result<(), Failed>
         requires fits { end_of self.old.lanes (lane_for ahead self.old) + 1 + weight key.now rec.now + 1 ≤ region_length self.old.lanes.sizes }
         requires above { IsAboveFloor ahead key.now self.old }
-        requires room { listed_for ahead (with_entry ahead key.now rec.now self.old) ≤ (table_for ahead self.old).reserved }
+        requires room { listed_for ahead (with_entries ahead ((key.now, rec.now) ∷ []) self.old) ≤ (table_for ahead self.old).reserved }
         requires length { IsTrue (D.state disk.old).tells_bytes → length (D.state disk.old).bytes ≡ file_length self.old.lanes.sizes }
 
-        ensures log { self.new ≡ (if is_ok result then with_entry ahead key.now rec.now self.old else self.old) }
-        ensures grows { OnOk result (Grows ahead (weight key.now rec.now) self.old self.new) }
-        ensures is_of { OnOk result ((tree : Tree) → IsLogOf tree self.old → IsLogOf (appended ahead (key.now, rec.now) tree) self.new) }
+        ensures log { self.new ≡ (if is_ok result then with_entries ahead ((key.now, rec.now) ∷ []) self.old else self.old) }
+        ensures grows { OnOk result (Grows ahead ((key.now, rec.now) ∷ []) self.old self.new) }
+        ensures is_of { OnOk result ((tree : Tree) → IsLogOf tree self.old → IsLogOf (appended ahead ((key.now, rec.now) ∷ []) tree) self.new) }
 
         // On an honest disk that stands on the tree whose log this is, each image of each moment has the tree, with the entry or without.
         // Once it is done the disk stands on the tree with the entry.
         ensures becomes { (tree : Tree) → IsTrue (D.state disk.old).is_honest → IsLogOf tree self.old → StandsOn self.old.lanes.sizes tree (D.state disk.old)
-            → Becomes self.old.lanes.sizes tree (appended ahead (key.now, rec.now) tree) (is_ok result) (D.state disk.old) (D.state disk.new) }
+            → Becomes self.old.lanes.sizes tree (appended ahead ((key.now, rec.now) ∷ []) tree) (is_ok result) (D.state disk.old) (D.state disk.new) }
 
         // Whatever the disk tells, it is four calls, which write in the lane's region alone and end with a sync, or fewer where one fails.
         ensures ends { OnOk result (EndsSynced 4 (D.state disk.old) (D.state disk.new)) }

@@ -1,11 +1,13 @@
 -- What the components and the runs keep where no byte of their pages changes.
-use Rattle.std.specs.Prelude.{◌≡◌, ℕ, Bool, true, IsTrue, List, Option, Some, None}
+use Rattle.std.specs.Prelude.{◌≡◌, ℕ, Bool, true, IsTrue, List, [], ◌∷◌, Option, Some, None}
 use Rattle.std.proofs.lemmas.Grind.{common_steps}
 use Rattle.std.proofs.lemmas.Bool.Decides.{nat_tests}
 use Rattle.std.proofs.Common.{◌∙◌, sym, subst, ap, refl, arith}
 use Rattle.disk_trait.specs.Region.{outside}
 use Rattle.record_delta.specs.Entries.{AreSorted, Entries, entries_weight, replayed, up_to, with_record}
+use Rattle.record_delta.specs.Several.{with_records}
 use Rattle.blsm_model.specs.Sizes.{Sizes}
+use Rattle.blsm_model.specs.declared.key.Key.{Key}
 use Rattle.page_space.specs.Space.{SpaceState}
 use Rattle.page_file.specs.Component.{RunPage, entries_of}
 use Rattle.merge_ends.proofs.MergeLemmas.{grown_merge}
@@ -20,7 +22,7 @@ use Rattle.tree_file.proofs.ListLemmas.{lists_appended_a, sorted_replayed}
 use Rattle.tree_machine.specs.Lists.{Lists}
 use Rattle.tree_runs.specs.Runs.{GuideState, RunsState, guide_at, PassHasTag, DeepHasTag}
 use Rattle.tree_runs.specs.Holding.{AreFinished, AreOf, AreTagged, IsGuidedBy, IsPassOver, IsDeepOver, cursor_of_pass}
-use Rattle.tree_runs.specs.Laws.{used_region, IsBesideRuns, HeadIsBeside, RunsStay, ListsStay, EntriesJoin, EntriesWait, LeftGrows}
+use Rattle.tree_runs.specs.Laws.{AreAhead, used_region, IsBesideRuns, HeadIsBeside, RunsStay, ListsStay, EntriesJoin, EntriesWait, LeftGrows}
 use Rattle.tree_runs.proofs.KeptMerges.{KeepsRun, KeepsPages, pass_runs_still, deep_runs_still, pass_over_still, deep_over_still}
 
 pub head_is_beside : HeadIsBeside
@@ -98,18 +100,29 @@ pub lists_stay : ListsStay
 lists_stay runs tree old new same is holds =
     over_tree runs tree tree old new same refl is holds refl refl refl refl refl
 
+-- what is behind the cursor stays
+pub all_grown_ahead : (cursor : Option Key) (more a : Entries) → AreAhead cursor more → up_to cursor (with_records more a) ≡ up_to cursor a
+all_grown_ahead cursor [] a are_ahead = refl
+all_grown_ahead cursor (e ∷ more) a are_ahead =
+    all_grown_ahead cursor more (with_record e.0 e.1 a) are_ahead.1 ∙ grown_ahead cursor e.0 e.1 a are_ahead.0
+
 pub entries_join : EntriesJoin
-entries_join runs tree old new key rec same is_ahead is holds =
-    over_tree runs tree (appended_a (key, rec) tree) old new same
-    (ap (λ (lists : Lists). up_to (cursor_of_pass runs.pass) lists.a) (lists_appended_a (key, rec) tree)
-    ∙ grown_ahead (cursor_of_pass runs.pass) key rec (replayed tree.lane_a.entries) is_ahead) is holds refl refl refl refl refl
+entries_join runs tree old new more same are_ahead is holds =
+    over_tree runs tree (appended_a more tree) old new same
+    (ap (λ (lists : Lists). up_to (cursor_of_pass runs.pass) lists.a) (lists_appended_a more tree)
+    ∙ all_grown_ahead (cursor_of_pass runs.pass) more (replayed tree.lane_a.entries) are_ahead) is holds refl refl refl refl refl
 
 pub entries_wait : EntriesWait
-entries_wait runs tree old new key rec same is holds =
-    over_tree runs tree (appended_b (key, rec) tree) old new same refl is holds refl refl refl refl refl
+entries_wait runs tree old new more same is holds =
+    over_tree runs tree (appended_b more tree) old new same refl is holds refl refl refl refl refl
 
 -- ---- numbers
 
 pub left_grows : LeftGrows
-left_grows snow a key rec is_ahead =
-    omega (arith, weight_parts snow.at a, weight_parts snow.at (with_record key rec a), ap (λ (es : Entries). entries_weight es) (grown_ahead snow.at key rec a is_ahead))
+left_grows snow a more are_ahead =
+    omega (
+      arith,
+      weight_parts snow.at a,
+      weight_parts snow.at (with_records more a),
+      ap (λ (es : Entries). entries_weight es) (all_grown_ahead snow.at more a are_ahead),
+    )

@@ -5,18 +5,19 @@ use Rattle.std.proofs.lemmas.Bool.Decides.{nat_tests}
 use Rattle.std.proofs.Common.{◌∙◌, ap, cond, refl, sym, subst, arith}
 use Rattle.std.proofs.lemmas.Bool.{true≢false}
 use Rattle.blsm_model.specs.declared.key.Key.{Key}
-use Rattle.record_delta.specs.declared.record.Rec.{Rec}
-use Rattle.record_delta.specs.Entries.{Entries, entries_weight, is_above, above, with_record}
+use Rattle.record_delta.specs.Entries.{Entries, entries_weight, is_above, above}
+use Rattle.record_delta.specs.Several.{with_records}
 use Rattle.page_file.specs.declared.file.Broken.{Broken}
 use Rattle.page_file.specs.Page.{most_used}
 use Rattle.run_writer.specs.Writer.{closed_of}
 use Rattle.merge_ends.specs.declared.finished.Finished.{Finished}
 use Rattle.merge_ends.specs.Output.{IsUpTo}
-use Rattle.merge_step.proofs.MergedLemmas.{ahead as grown_ahead}
 use Rattle.tree_machine.proofs.QuantumLemmas.{weight_parts}
 use Rattle.snow_merge.specs.Pass.{SnowState, Covers}
 use Rattle.tree_runs.specs.Runs.{PassCovers, released_by}
 use Rattle.tree_runs.specs.Holding.{cursor_of_pass}
+use Rattle.tree_runs.specs.Laws.{AreAhead}
+use Rattle.tree_runs.proofs.BesideLemmas.{all_grown_ahead}
 use Rattle.tree_runs.proofs.QuantumLemmas.{both_ok}
 
 pages_few : (n : ℕ) → nat_lt 1 n ≡ false → n ≤ 1
@@ -108,21 +109,31 @@ covers_dropped total None a covers = tt
 covers_dropped total (Some snow) a covers =
     subst (λ (k : Option Key). Covers total snow (above k a)) (sym (released_is total snow a covers)) (dropped_to_closed total snow a covers)
 
--- ---- a record that comes into the table ahead of the pass
+-- ---- entries that come into the table ahead of the pass
 
--- what is above a key below it grows as the table does
-pub above_grows : (at : Option Key) (a : Entries) (key : Key) (rec : Rec) → is_above at key ≡ true
-    → entries_weight (above at (with_record key rec a)) + entries_weight a ≡ entries_weight (above at a) + entries_weight (with_record key rec a)
-above_grows at a key rec is_ahead =
-    omega (arith, weight_parts at a, weight_parts at (with_record key rec a), ap (λ (es : Entries). entries_weight es) (grown_ahead at key rec a is_ahead))
+-- what is ahead of the cursor is above each key up to it
+pub above_cursor : (low at : Option Key) (more : Entries) → IsUpTo low at → AreAhead at more → AreAhead low more
+above_cursor low at [] up are_ahead = tt
+above_cursor low at (e ∷ more) up are_ahead = (up e.0 are_ahead.0, above_cursor low at more up are_ahead.1)
+
+-- what is above a key below them grows as the table does
+pub above_grows : (at : Option Key) (a more : Entries) → AreAhead at more
+    → entries_weight (above at (with_records more a)) + entries_weight a ≡ entries_weight (above at a) + entries_weight (with_records more a)
+above_grows at a more are_ahead =
+    omega (
+      arith,
+      weight_parts at a,
+      weight_parts at (with_records more a),
+      ap (λ (es : Entries). entries_weight es) (all_grown_ahead at more a are_ahead),
+    )
 
 -- so what is covered then goes by a total that grows as it does
-pub covers_grown : (total after : ℕ) (pass : Option SnowState) (a : Entries) (key : Key) (rec : Rec) → is_above (cursor_of_pass pass) key ≡ true
-    → after + entries_weight a ≡ total + entries_weight (with_record key rec a) → PassCovers total pass a → PassCovers after pass (with_record key rec a)
-covers_grown total after None a key rec ahead grows covers = tt
-covers_grown total after (Some snow) a key rec ahead grows covers =
-    let at = above_grows snow.at a key rec ahead in
-    let closed = above_grows snow.closed a key rec (covers.up key ahead) in
+pub covers_grown : (total after : ℕ) (pass : Option SnowState) (a more : Entries) → AreAhead (cursor_of_pass pass) more
+    → after + entries_weight a ≡ total + entries_weight (with_records more a) → PassCovers total pass a → PassCovers after pass (with_records more a)
+covers_grown total after None a more are_ahead grows covers = tt
+covers_grown total after (Some snow) a more are_ahead grows covers =
+    let at = above_grows snow.at a more are_ahead in
+    let closed = above_grows snow.closed a more (above_cursor snow.closed snow.at more covers.up are_ahead) in
     record {
       up = covers.up;
       light = λ plain none. let was = covers.light plain none in omega (arith, was, at, closed);

@@ -1,13 +1,14 @@
 -- What the components and the runs keep while others write: the log's lanes, the slots of the catalogue. And what of their map is known
 -- once they are read.
-use Rattle.std.specs.Prelude.{◌≡◌, ◌⊎◌, ℕ, ◌+◌, ◌≤◌, Bool, true, IsTrue, List, Some}
+use Rattle.std.specs.Prelude.{◌≡◌, ◌⊎◌, ℕ, ◌+◌, ◌≤◌, Bool, true, IsTrue, List, Option, Some}
+use Rattle.std.specs.List.{AllByRecursion}
 use Rattle.disk_trait.specs.Region.{Region, span, outside, IsWithin, IsSameOutside}
 use Rattle.blsm_model.specs.declared.key.Key.{Key}
 use Rattle.blsm_model.specs.Sizes.{Sizes, IsGeometry}
 use Rattle.blsm_model.specs.Geometry.{page_count}
 use Rattle.catalog_swap.specs.declared.catalog.Catalog.{Catalog}
-use Rattle.record_delta.specs.declared.record.Rec.{Rec}
-use Rattle.record_delta.specs.Entries.{Entries, entries_weight, is_above, with_record}
+use Rattle.record_delta.specs.Entries.{Entries, entries_weight, is_above}
+use Rattle.record_delta.specs.Several.{with_records}
 use Rattle.page_space.specs.PageSet.{Members}
 use Rattle.page_space.specs.Space.{SpaceState, Claims, HasRole, IsFree, IsSpace, KeepsOtherRoles, role_size, unused}
 use Rattle.page_file.specs.File.{page_start}
@@ -44,24 +45,28 @@ abbrev pub ListsStay : Type 0
 ListsStay = (runs : RunsState) (tree : Tree) (old new : List ℕ) → IsBesideRuns runs old new → AreOf runs tree old → HoldsTree runs.sizes tree new
     → AreOf runs tree new
 
--- An entry that comes into lane A joins the table that the pass takes from, ahead of its cursor.
+-- the keys of these entries are ahead of a cursor
+abbrev pub AreAhead : Option Key → Entries → Type 0
+AreAhead cursor more = AllByRecursion (λ e. is_above cursor e.0 ≡ true) more
+
+-- Entries that come into lane A join the table that the pass takes from, ahead of its cursor.
 abbrev pub EntriesJoin : Type 0
 EntriesJoin =
-    (runs : RunsState) (tree : Tree) (old new : List ℕ) (key : Key) (rec : Rec) → IsBesideRuns runs old new
-    → is_above (cursor_of_pass runs.pass) key ≡ true → AreOf runs tree old
-    → HoldsTree runs.sizes (appended_a (key, rec) tree) new → AreOf runs (appended_a (key, rec) tree) new
+    (runs : RunsState) (tree : Tree) (old new : List ℕ) (more : Entries) → IsBesideRuns runs old new
+    → AreAhead (cursor_of_pass runs.pass) more → AreOf runs tree old
+    → HoldsTree runs.sizes (appended_a more tree) new → AreOf runs (appended_a more tree) new
 
--- one that comes into lane B waits for the next pass
+-- those that come into lane B wait for the next pass
 abbrev pub EntriesWait : Type 0
 EntriesWait =
-    (runs : RunsState) (tree : Tree) (old new : List ℕ) (key : Key) (rec : Rec) → IsBesideRuns runs old new → AreOf runs tree old
-    → HoldsTree runs.sizes (appended_b (key, rec) tree) new → AreOf runs (appended_b (key, rec) tree) new
+    (runs : RunsState) (tree : Tree) (old new : List ℕ) (more : Entries) → IsBesideRuns runs old new → AreOf runs tree old
+    → HoldsTree runs.sizes (appended_b more tree) new → AreOf runs (appended_b more tree) new
 
 -- what is left for a pass grows by as much as the table does
 abbrev pub LeftGrows : Type 0
 LeftGrows =
-    (snow : SnowState) (a : Entries) (key : Key) (rec : Rec) → is_above snow.at key ≡ true
-    → left_for_pass (Some snow) (with_record key rec a) + entries_weight a ≡ left_for_pass (Some snow) a + entries_weight (with_record key rec a)
+    (snow : SnowState) (a more : Entries) → AreAhead snow.at more
+    → left_for_pass (Some snow) (with_records more a) + entries_weight a ≡ left_for_pass (Some snow) a + entries_weight (with_records more a)
 
 -- ---- the map of a tree that is read
 

@@ -2,7 +2,7 @@ use Rattle.std.proofs.Common.{ap, refl, ◌∙◌, arith}
 use Rattle.std.proofs.lemmas.List.{take_all}
 use Rattle.std.specs.Prelude.{◌<◌, length}
 use Rattle.record_delta.specs.Entries.{entries_weight}
-use Rattle.gated_log.specs.Records.{entries_of}
+use Rattle.record_delta.specs.Several.{entries_of}
 use Rattle.gated_log.proofs.RecordLemmas.{room_for, text_more, weight_more, entries_more, writes_weight}
 use Rattle.gated_log.proofs.records.put_pack.Goals as goal
 

@@ -1,7 +1,8 @@
 use Rattle.std.proofs.Common.{◌≡◌, ◌+◌, ◌++◌, length, take}
 use Rattle.record_delta.specs.Entries.{entries_weight}
 use Rattle.blsm_model.specs.Legal.{total_weight}
-use Rattle.gated_log.specs.Records.{entries_of, pack_head, spellings, AreSpelled}
+use Rattle.record_delta.specs.Several.{entries_of}
+use Rattle.gated_log.specs.Records.{pack_head, spellings, AreSpelled}
 use Rattle.gated_log.proofs.records.put_pack.Given as goal
 
 -- the entries so far
