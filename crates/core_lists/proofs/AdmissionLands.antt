@@ -1,38 +1,36 @@
 -- An admission's moves, over the lists.
-use Rattle.std.specs.Prelude.{is_some, nat_lt, ◌∷◌, []}
+use Rattle.std.specs.Prelude.{is_some, nat_lt, ◌≤◌, length}
 use Rattle.std.proofs.lemmas.Grind.{common_steps}
 use Rattle.std.proofs.lemmas.Bool.Decides.{nat_tests}
 use Rattle.std.proofs.Common.{arith}
 use Rattle.std.proofs.Common.{◌≡◌, ◌∙◌, ℕ, ◌+◌, Bool, true, false, cond, not, ◌&&◌, List, ⊎_elim, ap, sym, subst}
 use Rattle.blsm_model.specs.Sizes.{Sizes}
-use Rattle.blsm_model.specs.declared.op.Write.{Write}
 use Rattle.blsm_model.specs.declared.history.Reply.TheVariants.{Done}
 use Rattle.blsm_model.specs.Histories.{writes_of}
 use Rattle.blsm_model.specs.Legal.{total_weight}
-use Rattle.blsm_model.specs.Values.{key_of}
-use Rattle.record_delta.specs.Records.{record_of}
+use Rattle.record_delta.specs.Several.{entries_of}
 use Rattle.gear_sched.specs.Gears.{GearState}
 use Rattle.seat_book.specs.State.{noted_in}
 use Rattle.tree_machine.specs.Machine.{Machine, in_pass, pass_done, deep_done}
-use Rattle.tree_machine.specs.Moves.{begin_pass, swap_deep, swap_pass, take_write, with_peak, note}
-use Rattle.tree_machine.specs.Steps.{deep_swapped, swapped, ready_for, taken_once, pass_swapped, pass_begun_for, Well, admit_fitting}
+use Rattle.tree_machine.specs.Moves.{begin_pass, swap_deep, swap_pass, take_writes, with_peak, note}
+use Rattle.tree_machine.specs.Steps.{deep_swapped, swapped, ready_for, taken_together, pass_swapped, pass_begun_for, Well, admit_fitting}
 use Rattle.tree_machine.proofs.CarryLemmas.{deep_swapped_carries, swapped_carries, ready_carries}
 use Rattle.tree_file.specs.Tree.{Tree}
-use Rattle.tree_log.specs.Log.{appended, IsLogOf}
+use Rattle.tree_log.specs.Log.{IsLogOf}
 use Rattle.tree_runs.specs.Holding.{AreOf}
 use Rattle.core_moves.specs.declared.held.Held.{Held}
-use Rattle.core_moves.specs.Held.{IsOne, goes_ahead}
+use Rattle.core_moves.specs.Held.{IsOne}
 use Rattle.core_pace.proofs.OneLemmas.{each_move_keeps_one}
 use Rattle.core_moves.specs.Moves.{SettlesDeep, SettlesPass, with_pass_begun, with_book, begun_in, WritesIn}
 use Rattle.core_lists.specs.Admissions.{DeepSettlesTree}
 use Rattle.core_lists.proofs.SwapLands.{deep_swap_lands, pass_swap_lands, begin_lands}
-use Rattle.core_lists.proofs.WriteLands.{runs_as, write_lands, book_lands}
+use Rattle.core_lists.proofs.WriteLands.{runs_as, takes_all, writes_land, book_lands}
 use Rattle.core_lists.proofs.TestLemmas.{tests_agree_with_lists}
 use Rattle.pacing.specs.Pace.{Pace}
 use Rattle.tree_machine.specs.Layers.{IsSound, HasWay}
 use Rattle.core_pace.specs.Pacing.{HasPace}
 use Rattle.blsm_model.specs.declared.op.Op.{Op}
-use Rattle.core_lists.proofs.Terms.{IsAt, Agrees, PassSettlesTree, Readies, IsReadied}
+use Rattle.core_lists.proofs.Terms.{IsAt, Agrees, PassSettlesTree, Readies, IsReadied, with_appended}
 
 -- a test that doesn't hold fails
 fails : (b : Bool) → (b ≡ true → ⊥) → b ≡ false
@@ -117,17 +115,20 @@ readying_lands w old settled ready tree middle next m before after file between 
     }
 
 -- The admission is the machine's own, where all went well.
-pub admission_lands : (seat : ℕ) (op : Op) (write : Write) (begun written new : Held) (tree : Tree) (m : Machine) (file after : List ℕ) → writes_of op ≡ write ∷ [] → IsSound m → HasWay m
-    → IsAt begun tree (ready_for (total_weight (writes_of op)) m) file → WritesIn seat (key_of write) (record_of write) begun written → new ≡ with_book (noted_in seat op Done written.book) written
-    → (IsLogOf tree begun.log → IsLogOf (appended (goes_ahead (key_of write) begun) (key_of write, record_of write) tree) written.log)
-    → AreOf written.runs (appended (goes_ahead (key_of write) begun) (key_of write, record_of write) tree) after
-    → IsAt new (appended (goes_ahead (key_of write) begun) (key_of write, record_of write) tree) (admit_fitting m seat op (total_weight (writes_of op)) Well).state after
-admission_lands seat op write begun written new tree m file after writes sound way at moves noted of_log are_of =
+pub admission_lands : (seat : ℕ) (op : Op) (begun written new : Held) (tree : Tree) (m : Machine) (file after : List ℕ) → 1 ≤ length (writes_of op)
+    → IsSound m → HasWay m
+    → IsAt begun tree (ready_for (total_weight (writes_of op)) m) file → WritesIn seat (entries_of (writes_of op)) begun written
+    → new ≡ with_book (noted_in seat op Done written.book) written
+    → (IsLogOf tree begun.log → IsLogOf (with_appended (writes_of op) begun tree) written.log)
+    → AreOf written.runs (with_appended (writes_of op) begun tree) after
+    → IsAt new (with_appended (writes_of op) begun tree) (admit_fitting m seat op (total_weight (writes_of op)) Well).state after
+admission_lands seat op begun written new tree m file after some sound way at moves noted of_log are_of =
     let w = total_weight (writes_of op) in
     let ready = ready_for w m in
-    let next = appended (goes_ahead (key_of write) begun) (key_of write, record_of write) tree in
+    let next = with_appended (writes_of op) begun tree in
     let book = noted_in seat op Done written.book in
-    let wrote = write_lands seat write begun written tree ready file after at (ready_carries w m sound way).sound moves of_log are_of in
-    let entered = (book_lands written next (with_peak (take_write seat write ready)) after wrote).note seat op Done in
-    subst (λ (h : Held). IsAt h next (note seat op Done (with_peak (taken_once seat (writes_of op) ready))) after) (sym noted)
-    (subst (λ (ws : List Write). IsAt (with_book book written) next (note seat op Done (with_peak (taken_once seat ws ready))) after) (sym writes) entered)
+    let wrote = writes_land seat (writes_of op) begun written tree ready file after at (ready_carries w m sound way).sound moves of_log are_of in
+    let entered = (book_lands written next (with_peak (take_writes seat (writes_of op) ready)) after wrote).note seat op Done in
+    subst (λ (h : Held). IsAt h next (note seat op Done (with_peak (taken_together seat (writes_of op) ready))) after) (sym noted)
+    (subst (λ (n : Machine). IsAt (with_book book written) next (note seat op Done (with_peak n)) after)
+    (sym (takes_all seat (writes_of op) ready some)) entered)

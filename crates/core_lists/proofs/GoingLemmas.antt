@@ -41,7 +41,6 @@ use Rattle.core_lists.specs.Going.{GoesOn}
 use Rattle.core_lists.proofs.StepLands.{choices_agree}
 use Rattle.core_lists.proofs.AppendLemmas.{append_goes_on, not_past}
 use Rattle.blsm_model.specs.declared.op.Op.{Op}
-use Rattle.blsm_model.specs.declared.op.Write.{Write}
 use Rattle.core_lists.proofs.Terms.{chosen_by, IsSteady, kind_of_turn, IsOpenTo, StandsIn, MayAppend, with_appended}
 use Rattle.pacing.proofs.Terms.{fronts_by}
 
@@ -73,9 +72,10 @@ admission_fits m seat op outcome runs goes room =
     ∙ ap (λ (b : Bool). cond b (replied seat op (Full (charge m)) m) (admit_fitting m seat op (total_weight (writes_of op)) outcome))
     (not_past (charge_limit m.gears.sizes (is_del op)) (charge m + total_weight (writes_of op)) room)
 
-pub admission_goes_on : (opening : List (Key × Value)) (m : Machine) (fronts : Fronts) (seat : ℕ) (op : Op) (write : Write) (begun : Held) (tree : Tree) → MayAppend opening m fronts seat op write begun tree
-    → (then : Fronts) × GoesOn opening (admit m seat op Well).state then (with_appended write begun tree)
-admission_goes_on opening m fronts seat op write begun tree is = append_goes_on opening m fronts seat op write begun tree is
+pub admission_goes_on : (opening : List (Key × Value)) (m : Machine) (fronts : Fronts) (seat : ℕ) (op : Op) (begun : Held) (tree : Tree)
+    → MayAppend opening m fronts seat op begun tree
+    → (then : Fronts) × GoesOn opening (admit m seat op Well).state then (with_appended (writes_of op) begun tree)
+admission_goes_on opening m fronts seat op begun tree is = append_goes_on opening m fronts seat op begun tree is
 
 -- ---- a step's pace
 

@@ -12,7 +12,7 @@ use Rattle.tree_machine.proofs.MapLemmas.{map_in_is}
 use Rattle.tree_machine.proofs.CarryLemmas.{deep_swapped_carries, ready_carries}
 use Rattle.paced_tree.proofs.Moves.{settled_pace, ready_pace}
 use Rattle.paced_tree.specs.Numbers.{pace_of}
-use Rattle.paced_tree.proofs.Terms.{with_numbers_of}
+use Rattle.paced_tree.proofs.Terms.{most_on_way, with_numbers_of}
 use Rattle.pacing.specs.Kept.{IsPaced}
 use Rattle.paced_tree.proofs.Promises.{has_way}
 use Rattle.paced_tree.proofs.LaneLemmas.{lane_grows}
@@ -28,10 +28,10 @@ use Rattle.gated_log.specs.Lane.{no_lane}
 use Rattle.tree_file.specs.Tree.{Tree, lists_of, FitsSizes, HoldsTree, ReadsAsMap}
 use Rattle.tree_machine.specs.Steps.{deep_swapped, ready_for}
 use Rattle.blsm_model.specs.Rows.{map_of}
-use Rattle.record_delta.specs.declared.record.Rec.{Rec}
+use Rattle.record_delta.specs.Entries.{Entries}
 use Rattle.tree_log.specs.Log.{appended}
 use Rattle.pacing.proofs.Terms.{fronts_ready, fronts_turned, fronts_written}
-use Rattle.core_lists.proofs.Terms.{IsShown, joined, table_weight}
+use Rattle.core_lists.proofs.Terms.{IsShown, joined, table_of}
 
 -- after each step
 pub steps_show : (opening : List (Key × Value)) (m : Machine) (fronts : Fronts) (tree : Tree) → IsPacedTree opening m → m.lists ≡ lists_of tree → AreFronts (pace_of m) fronts
@@ -96,12 +96,12 @@ pub fronts_turn : (tree next : Tree) (lists after : Lists) (fronts : Fronts) →
     → HasFronts tree lists fronts → HasFronts next after (fronts_turned fronts)
 fronts_turn tree next lists after fronts lane_a lane_b a b has = grind (arith, common_steps, nat_tests)
 
--- where an entry is appended
-pub fronts_grow : (ahead : Bool) (written : Written) (key : Key) (rec : Rec) (tree : Tree) (lists : Lists) (fronts : Fronts)
+-- where entries are appended
+pub fronts_grow : (ahead : Bool) (written : Written) (more : Entries) (tree : Tree) (lists : Lists) (fronts : Fronts)
     → HasFronts tree lists fronts
-    → HasFronts (appended ahead (key, rec) tree) (joined ahead key rec lists)
-    (fronts_written (record written { ahead = ahead; after = table_weight ahead (joined ahead key rec lists) }) fronts)
-fronts_grow true written key rec tree lists fronts has =
-    record { lane_a = lane_grows tree.lane_a.entries lists.a fronts.lane_a key rec has.lane_a; lane_b = has.lane_b }
-fronts_grow false written key rec tree lists fronts has =
-    record { lane_a = has.lane_a; lane_b = lane_grows tree.lane_b.entries lists.b fronts.lane_b key rec has.lane_b }
+    → HasFronts (appended ahead more tree) (joined ahead more lists)
+    (fronts_written (record written { ahead = ahead; most = most_on_way more (table_of ahead lists) }) fronts)
+fronts_grow true written more tree lists fronts has =
+    record { lane_a = lane_grows more tree.lane_a.entries lists.a fronts.lane_a has.lane_a; lane_b = has.lane_b }
+fronts_grow false written more tree lists fronts has =
+    record { lane_a = has.lane_a; lane_b = lane_grows more tree.lane_b.entries lists.b fronts.lane_b has.lane_b }

@@ -1,5 +1,5 @@
 -- What only lemmas say: no clause names these.
-use Rattle.std.specs.Prelude.{ℕ, List, ◌≡◌, ◌↔◌, ◌-◌, true, is_some, slice_index, slice_set, Bool, false, ◌+◌, ◌≤◌, ◌∷◌, None, IsTrue, ◌<◌, ◌==◌, not, nat_lt, ⊤, []}
+use Rattle.std.specs.Prelude.{ℕ, List, ◌≡◌, ◌↔◌, ◌-◌, true, is_some, slice_index, slice_set, Bool, false, ◌+◌, ◌≤◌, None, IsTrue, ◌<◌, ◌==◌, length, not, nat_lt, ⊤}
 use Rattle.blsm_model.specs.declared.key.Key.{Key}
 use Rattle.blsm_model.specs.declared.row.Value.{Value}
 use Rattle.pacing.specs.Pace.{Pace}
@@ -14,7 +14,8 @@ use Rattle.blsm_model.specs.Format.{callers}
 use Rattle.blsm_model.specs.declared.op.Op.{Op}
 use Rattle.blsm_model.specs.declared.history.Reply.{Reply}
 use Rattle.blsm_model.specs.declared.history.Why.{Why}
-use Rattle.record_delta.specs.Entries.{entries_weight, with_record}
+use Rattle.record_delta.specs.Entries.{Entries, entries_weight}
+use Rattle.record_delta.specs.Several.{entries_of, with_records}
 use Rattle.tree_machine.specs.Lists.{memory_weight, Lists, value_in}
 use Rattle.tree_machine.specs.Moves.{note, stop}
 use Rattle.tree_machine.specs.Steps.{count_for_write, with_turn, work_noted, work_end, leave, deep_swapped, swapped, ready_for, Choice, choice}
@@ -23,8 +24,7 @@ use Rattle.tree_log.specs.Log.{listed_in_a, weight_of_tables, appended}
 use Rattle.core_moves.specs.Held.{IsOne, IsPassDone, IsDeepDone, charge_in, is_run_full, goes_ahead}
 use Rattle.core_moves.specs.Moves.{with_book, SettlesDeep, SettlesPass, begun_in, TurnsLog}
 use Rattle.blsm_model.specs.Histories.{is_met, written, writes_of}
-use Rattle.blsm_model.specs.Values.{value_at, key_of}
-use Rattle.record_delta.specs.declared.record.Rec.{Rec}
+use Rattle.blsm_model.specs.Values.{value_at}
 use Rattle.pacing.specs.Kept.{IsPaced}
 use Rattle.tree_machine.specs.Layers.{AreLayered, IsSound}
 use Rattle.paced_tree.specs.Numbers.{pace_of}
@@ -33,7 +33,6 @@ use Rattle.core_lists.specs.Admissions.{DeepSettlesTree}
 use Rattle.blsm_model.specs.declared.op.Write.{Write}
 use Rattle.blsm_model.specs.Geometry.{charge_limit}
 use Rattle.blsm_model.specs.Legal.{total_weight, is_del}
-use Rattle.record_delta.specs.Records.{record_of}
 use Rattle.tree_machine.specs.Plays.{may}
 use Rattle.tree_machine.specs.Stands.{WritesFit}
 use Rattle.tree_machine.specs.declared.step.Kind.TheVariants as kind
@@ -93,14 +92,14 @@ pub record CountsAs (m later : Machine) : Type 0 where
   pub peak : later.counts.peak ≡ m.counts.peak
   pub quanta : later.seats.quanta ≡ m.seats.quanta
 
--- the lists with one record more in a table, and the weight of that table then
-abbrev pub joined : Bool → Key → Rec → Lists → Lists
-joined true key rec lists = record lists { a = with_record key rec lists.a }
-joined false key rec lists = record lists { b = with_record key rec lists.b }
+-- the lists with entries more in a table, and a table of them
+abbrev pub joined : Bool → Entries → Lists → Lists
+joined true more lists = record lists { a = with_records more lists.a }
+joined false more lists = record lists { b = with_records more lists.b }
 
-abbrev pub table_weight : Bool → Lists → ℕ
-table_weight true lists = entries_weight lists.a
-table_weight false lists = entries_weight lists.b
+abbrev pub table_of : Bool → Lists → Entries
+table_of true lists = lists.a
+table_of false lists = lists.b
 
 -- So does the pass's, which turns the log.
 pub record PassSettlesTree (old new : Held) (tree next : Tree) : Type 0 where
@@ -144,22 +143,22 @@ pub record SettledIn (opening : List (Key × Value)) (old settled : Held) (m : M
   pub has : HasPace settled numbers
   pub one : IsOne settled
 
--- The machine runs, the seat may write, the write's condition holds, and there is room. When the write is to be appended the core stands
--- over this tree.
-pub record MayAppend (opening : List (Key × Value)) (m : Machine) (fronts : Fronts) (seat : ℕ) (op : Op) (write : Write) (begun : Held) (tree : Tree) : Type 0 where
+-- The machine runs, the seat may write, the write's condition holds, and there is room. When the command's writes are to be appended the core
+-- stands over this tree.
+pub record MayAppend (opening : List (Key × Value)) (m : Machine) (fronts : Fronts) (seat : ℕ) (op : Op) (begun : Held) (tree : Tree) : Type 0 where
   pub paced : IsPacedTree opening m
   pub within : AreFronts (pace_of m) fronts
   pub runs : m.stopped ≡ None
   pub may : IsTrue (may m seat (kind.Admit op))
   pub fits : WritesFit (kind.Admit op)
-  pub writes : writes_of op ≡ write ∷ []
+  pub some : 1 ≤ length (writes_of op)
   pub met : is_met op (value_in m.lists) ≡ true
   pub room : charge m + total_weight (writes_of op) ≤ charge_limit m.gears.sizes (is_del op)
   pub holds : HoldsMachine begun tree (ready_for (total_weight (writes_of op)) m)
   pub lanes : HasFronts tree (swapped m).lists (fronts_ready (pace_of m) fronts)
 
-abbrev pub with_appended : Write → Held → Tree → Tree
-with_appended write begun tree = appended (goes_ahead (key_of write) begun) (key_of write, record_of write) tree
+abbrev pub with_appended : List Write → Held → Tree → Tree
+with_appended ws begun tree = appended (goes_ahead (entries_of ws) begun) (entries_of ws) tree
 
 -- What steps over lists rest on: the core stands at the machine's state, its numbers are some pace's, and a quantum has a weight.
 pub record IsSteady (held : Held) (tree : Tree) (m : Machine) (file : List ℕ) : Type 0 where

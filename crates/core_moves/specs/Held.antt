@@ -3,10 +3,12 @@ use Rattle.std.specs.Prelude.{◌≡◌, ℕ, ◌+◌, ◌≤◌, Option, None, 
 use Rattle.blsm_model.specs.Geometry.{high_mark}
 use Rattle.blsm_model.specs.Lanes.{AreRoles}
 use Rattle.blsm_model.specs.declared.key.Key.{Key}
-use Rattle.record_delta.specs.Entries.{AreSorted, above, is_above, record_of_key}
+use Rattle.record_delta.specs.Entries.{AreSorted, above, is_above, record_of_key, Entries}
 use Rattle.tree_log.specs.Log.{LogState, listed_in_a, weight_of_tables}
 use Rattle.snow_merge.specs.Pass.{SnowState}
 use Rattle.tree_runs.specs.Runs.{PassCovers, made_by_pass, left_for_pass, left_for_deep, released_by}
+use Rattle.mem_table.specs.Tables.{IsWhole}
+use Rattle.tree_machine.specs.Moves.{joins_pass}
 use Rattle.tree_runs.specs.Holding.{cursor_of_pass, is_full}
 use Rattle.core_moves.specs.declared.held.Held.{Held}
 
@@ -51,11 +53,9 @@ is_deep_over held = not (is_some held.runs.deep) || (left_for_deep held.runs.dee
 abbrev pub is_run_full : Held → Bool
 is_run_full held = is_full held.runs.sizes (made_by_pass held.runs.pass)
 
--- A write of this key goes to table A: no pass runs; or its cursor hasn't come to the key, and table B hasn't the key.
-abbrev pub goes_ahead : Key → Held → Bool
-goes_ahead key held =
-    not (is_some held.runs.pass)
-    || (is_above (cursor_of_pass held.runs.pass) key && not (is_some (record_of_key key held.log.b.entries)))
+-- What a command writes goes to table A: no pass runs, or it takes the entries with it. Otherwise they all go to table B.
+abbrev pub goes_ahead : Entries → Held → Bool
+goes_ahead more held = not (is_some held.runs.pass) || joins_pass (cursor_of_pass held.runs.pass) held.log.b.entries more
 
 -- how much the components weigh, as they were last committed
 abbrev pub components_in : Held → ℕ

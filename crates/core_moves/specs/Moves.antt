@@ -1,15 +1,12 @@
 -- What each move of the core makes of what it has in memory, on any disk. Weights are in bytes.
 use Rattle.std.specs.Prelude.{◌≡◌, ◌⊎◌, ℕ, ◌+◌, is_some, not, ◌&&◌, nat_lt, if◌then◌else◌}
-use Rattle.blsm_model.specs.declared.key.Key.{Key}
-use Rattle.record_delta.specs.declared.record.Rec.{Rec}
-use Rattle.record_delta.specs.Records.{weight}
-use Rattle.record_delta.specs.Entries.{entries_weight}
+use Rattle.record_delta.specs.Entries.{Entries, entries_weight}
 use Rattle.gear_sched.specs.Gears.{GearState, entered, forgiven, took_first, took_second, passing, pass_ended, rotated, deep_ended}
 use Rattle.seat_book.specs.State.{BookState, pass_counted_in, deep_counted_in, quantum_counted_in, peaked_in}
 use Rattle.gated_log.specs.Lane.{no_lane}
 use Rattle.tree_file.specs.Tree.{Tree}
 use Rattle.tree_file.specs.Places.{TurnsRoles}
-use Rattle.tree_log.specs.Log.{LogState, IsLogOf, Grows, Turns, dropped_by, turned_log, weight_of_tables, with_entry}
+use Rattle.tree_log.specs.Log.{LogState, IsLogOf, Grows, Turns, dropped_by, turned_log, weight_of_tables, with_entries}
 use Rattle.merge_ends.specs.Output.{IsUpTo}
 use Rattle.tree_runs.specs.Runs.{PassCovers, made_by_pass, pass_begun, released_by}
 use Rattle.tree_runs.specs.Holding.{SwapsDeep, SwapsPass, Rotates, cursor_of_pass, KeepsAllButPass, KeepsAllButDeep, PassTakes, DeepTakes}
@@ -97,13 +94,13 @@ with_debts_forgiven seat old = record old { gears = forgiven old.gears seat (is_
 
 -- ---- writes, and the book
 
--- The seat's write was appended, ahead of the pass or behind it, and is in its table; the peak counts it.
-pub record WritesIn (seat : ℕ) (key : Key) (rec : Rec) (old new : Held) : Type 0 where
+-- What the seat's command writes was appended, ahead of the pass or behind it, and is in its table; the peak counts it.
+pub record WritesIn (seat : ℕ) (more : Entries) (old new : Held) : Type 0 where
   pub runs : new.runs ≡ old.runs
-  pub log : new.log ≡ with_entry (goes_ahead key old) key rec old.log
-  pub grows : Grows (goes_ahead key old) (weight key rec) old.log new.log
-  pub gears : new.gears ≡ entered old.gears seat (weight key rec)
-  pub spring : new.spring ≡ (if is_some old.runs.pass then old.spring else old.spring + weight key rec)
+  pub log : new.log ≡ with_entries (goes_ahead more old) more old.log
+  pub grows : Grows (goes_ahead more old) more old.log new.log
+  pub gears : new.gears ≡ entered old.gears seat (entries_weight more)
+  pub spring : new.spring ≡ (if is_some old.runs.pass then old.spring else old.spring + entries_weight more)
   pub book : new.book ≡ peaked_in (weight_of_tables new.log) old.book
 
 -- what is done to the book alone

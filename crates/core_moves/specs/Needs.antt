@@ -3,12 +3,11 @@ use Rattle.std.specs.Prelude.{◌≡◌, ◌+◌, ◌*◌, ◌^◌, ◌<◌, ◌
 use Rattle.blsm_model.specs.Format.{most_weight}
 use Rattle.blsm_model.specs.Geometry.{file_length}
 use Rattle.blsm_model.specs.Lanes.{AreRoles, region_length}
-use Rattle.blsm_model.specs.declared.key.Key.{Key}
 use Rattle.disk_trait.specs.Disk.{DiskState}
-use Rattle.record_delta.specs.declared.record.Rec.{Rec}
-use Rattle.record_delta.specs.Records.{weight}
+use Rattle.record_delta.specs.Entries.{Entries, entries_weight}
+use Rattle.gated_log.specs.Records.{cost}
 use Rattle.gated_log.specs.Lanes.{end_of}
-use Rattle.tree_log.specs.Log.{lane_for, listed_for, table_for, with_entry}
+use Rattle.tree_log.specs.Log.{lane_for, listed_for, table_for, with_entries}
 use Rattle.tree_runs.specs.Runs.{AreRunning, Fits}
 use Rattle.core_moves.specs.declared.held.Held.{Held}
 use Rattle.core_moves.specs.Held.{goes_ahead}
@@ -35,10 +34,10 @@ pub record IsReady (held : Held) (d : DiskState) : Type 0 where
   pub small : AreSmall held
   pub lanes : AreRoles held.runs.catalogue.lanes
 
--- A write fits its lane, its table, and the numbers of the gears.
-pub record WriteFits (key : Key) (rec : Rec) (held : Held) : Type 0 where
-  pub lane : end_of held.log.lanes (lane_for (goes_ahead key held) held.log) + 1 + weight key rec + 1 ≤ region_length held.log.lanes.sizes
-  pub table : listed_for (goes_ahead key held) (with_entry (goes_ahead key held) key rec held.log) ≤ (table_for (goes_ahead key held) held.log).reserved
-  pub pass : held.gears.pass_admitted + weight key rec < 2 ^ 64
-  pub deep : held.gears.deep_admitted + weight key rec < 2 ^ 64
-  pub spring : held.runs.pass ≡ None → held.spring + weight key rec < 2 ^ 64
+-- What a command writes fits its lane, with the gate behind it, its table, and the numbers of the gears.
+pub record WriteFits (more : Entries) (held : Held) : Type 0 where
+  pub lane : end_of held.log.lanes (lane_for (goes_ahead more held) held.log) + cost more + 1 ≤ region_length held.log.lanes.sizes
+  pub table : listed_for (goes_ahead more held) (with_entries (goes_ahead more held) more held.log) ≤ (table_for (goes_ahead more held) held.log).reserved
+  pub pass : held.gears.pass_admitted + entries_weight more < 2 ^ 64
+  pub deep : held.gears.deep_admitted + entries_weight more < 2 ^ 64
+  pub spring : held.runs.pass ≡ None → held.spring + entries_weight more < 2 ^ 64

@@ -1,18 +1,17 @@
 //! Writes, and what they weigh.
-ghost use Rattle.std.specs.Prelude.{◌≡◌, ◌+◌, ◌<◌, ◌^◌, false, is_ok, if◌then◌else◌, IsTrue, OnOk, OnErr};
+ghost use Rattle.std.specs.Prelude.{◌≡◌, ◌+◌, ◌<◌, ◌^◌, ◌&&◌, ◌||◌, ◌∷◌, [], false, not, is_ok, is_some, if◌then◌else◌, IsTrue, OnOk, OnErr};
 ghost use Rattle.disk_trait.specs.Disk.{TellsFaults};
 ghost use Rattle.disk_trait.specs.Effects.{Affects};
 ghost use Rattle.blsm_model.specs.Format.{callers};
 ghost use Rattle.blsm_model.specs.Geometry.{file_length};
-ghost use Rattle.record_delta.specs.Records.{weight};
-ghost use Rattle.record_delta.specs.Entries.{is_above};
+ghost use Rattle.record_delta.specs.Entries.{is_above, record_of_key};
 ghost use Rattle.gear_sched.specs.Gears.{first_debt, second_debt};
 ghost use Rattle.gated_write.specs.Ends.{EndsSynced};
 ghost use Rattle.tree_file.specs.Tree.{Tree};
 ghost use Rattle.tree_file.specs.Places.{Becomes};
 ghost use Rattle.tree_log.specs.Log.{IsLogOf, appended};
 ghost use Rattle.scan_view.specs.Pins.{beside_pins};
-ghost use Rattle.tree_runs.specs.Holding.{StandOver};
+ghost use Rattle.tree_runs.specs.Holding.{StandOver, cursor_of_pass};
 ghost use Rattle.core_moves.specs.Held.{IsOne, goes_ahead, charge_in};
 ghost use Rattle.core_moves.specs.Needs.{IsOn, WriteFits};
 ghost use Rattle.core_moves.specs.Moves.{WritesIn};
@@ -44,7 +43,8 @@ fn spring_after(spring: u64, in_pass: bool, weight: u64) -> u64
 impl Held {
     // Whether a write of this key goes to table A: no pass runs; or it hasn't come to the key, and table B hasn't the key.
     fn goes_ahead(&self, key: &Key) -> bool
-        ensures { result ≡ goes_ahead key.now self.now }
+        ensures { result ≡ (not (is_some self.now.runs.pass)
+            || (is_above (cursor_of_pass self.now.runs.pass) key.now && not (is_some (record_of_key key.now self.now.log.b.entries)))) }
     {
         !self.runs.in_pass()
             || (is_above(&self.runs.cursor(), key) && self.log.b().place_of(key).is_none())
@@ -63,16 +63,16 @@ impl Held {
     ) -> Result<(), Failed>
         requires seat { seat < callers }
         requires settled { first_debt self.old.gears seat + second_debt self.old.gears seat ≡ 0 }
-        requires fits { WriteFits key.now rec.now self.old }
+        requires fits { WriteFits ((key.now, rec.now) ∷ []) self.old }
         requires one { IsOne self.old }
         requires on { IsOn self.old (D.state disk.old) }
 
-        ensures writes { OnOk result (WritesIn seat key.now rec.now self.old self.new) }
-        ensures is_of { OnOk result ((tree : Tree) → IsLogOf tree self.old.log → IsLogOf (appended (goes_ahead key.now self.old) (key.now, rec.now) tree) self.new.log) }
+        ensures writes { OnOk result (WritesIn seat ((key.now, rec.now) ∷ []) self.old self.new) }
+        ensures is_of { OnOk result ((tree : Tree) → IsLogOf tree self.old.log → IsLogOf (appended (goes_ahead ((key.now, rec.now) ∷ []) self.old) ((key.now, rec.now) ∷ []) tree) self.new.log) }
         ensures becomes { (tree : Tree) → IsTrue (D.state disk.old).is_honest → IsLogOf tree self.old.log
             → StandOver self.old.runs tree (D.state disk.old)
-            → Becomes self.old.runs.sizes tree (appended (goes_ahead key.now self.old) (key.now, rec.now) tree) (is_ok result) (D.state disk.old) (D.state disk.new)
-            × OnOk result (StandOver self.new.runs (appended (goes_ahead key.now self.old) (key.now, rec.now) tree) (D.state disk.new)) }
+            → Becomes self.old.runs.sizes tree (appended (goes_ahead ((key.now, rec.now) ∷ []) self.old) ((key.now, rec.now) ∷ []) tree) (is_ok result) (D.state disk.old) (D.state disk.new)
+            × OnOk result (StandOver self.new.runs (appended (goes_ahead ((key.now, rec.now) ∷ []) self.old) ((key.now, rec.now) ∷ []) tree) (D.state disk.new)) }
         ensures on { OnOk result (IsOn self.new (D.state disk.new)) }
         ensures kept { OnErr result (self.new ≡ self.old) }
         ensures ends { OnOk result (EndsSynced 4 (D.state disk.old) (D.state disk.new)) }

@@ -3,10 +3,10 @@ use Rattle.std.proofs.Common.{◌≡◌, ◌+◌, refl, ap, sym, subst, arith}
 use Rattle.std.proofs.lemmas.Grind.{common_steps}
 use Rattle.std.proofs.lemmas.Bool.Decides.{nat_tests}
 use Rattle.disk_trait.specs.Disk.{DiskState}
-use Rattle.record_delta.specs.Records.{weight}
+use Rattle.record_delta.specs.Entries.{Entries, entries_weight}
 use Rattle.gear_sched.specs.Gears.{GearState, first_debt, second_debt, plan_for, Owes}
 use Rattle.gear_sched.specs.declared.Plan.TheVariants.{Nothing}
-use Rattle.pacing.specs.Pace.{Pace, with_forgiven}
+use Rattle.pacing.specs.Pace.{Pace, Written, with_forgiven}
 use Rattle.pacing.specs.Kept.{IsPaced}
 use Rattle.pacing.specs.Steps.{Lands, ready_for, plan_of}
 use Rattle.pacing.proofs.Writes as pacing
@@ -19,7 +19,7 @@ use Rattle.core_moves.specs.declared.held.Held.{Held}
 use Rattle.core_moves.specs.Held.{goes_ahead, IsDeepDone}
 use Rattle.core_moves.specs.Needs.{IsOn, IsReady}
 use Rattle.core_moves.specs.Moves.{begun_in, SettlesDeep, SettlesPass, with_debts_forgiven}
-use Rattle.core_pace.specs.Events.{MayWrite, plan_in}
+use Rattle.core_pace.specs.Events.{AreWritten, MayWrite, plan_in}
 use Rattle.core_pace.proofs.TestLemmas.{forgiving_has_pace}
 use Rattle.core_pace.proofs.WriteLemmas.{lands_by}
 use Rattle.core_pace.proofs.NeedLemmas.{pages_fit, writes_fit}
@@ -27,11 +27,9 @@ use Rattle.core_pace.proofs.CountLemmas.{counts_are_small}
 use Rattle.core_pace.proofs.EventLemmas.{deep_keeps, ready_keeps, may_admit_of, moves_are_told, forgiving_is_paced}
 use Rattle.core_pace.specs.Pacing.{IsPacedHeld, HasPace}
 use Rattle.std.specs.Prelude.{ℕ, ◌<◌}
-use Rattle.blsm_model.specs.declared.key.Key.{Key}
 use Rattle.blsm_model.specs.declared.op.Op.{Op}
-use Rattle.record_delta.specs.declared.record.Rec.{Rec}
 use Rattle.blsm_model.specs.Format.{callers}
-use Rattle.core_pace.proofs.Terms.{entry_to, IsBetween, CallsFit, KeepsBook, IsWritable}
+use Rattle.core_pace.proofs.Terms.{entries_to, IsBetween, CallsFit, KeepsBook, IsWritable}
 
 -- a step begins between two moves
 pub paced_is_between : (held : Held) (pace : Pace) → IsPacedHeld held pace → IsBetween held pace
@@ -52,26 +50,32 @@ settled_is_not_done old settled settles over = grind (arith, common_steps, nat_t
 pub moves_keep_book : (old settled ready : Held) (w : ℕ) → SettlesDeep old settled → SettlesPass settled ready → KeepsBook old.book settled.book × KeepsBook old.book (begun_in w ready).book
 moves_keep_book old settled ready w deep pass = (deep_keeps old settled deep, ready_keeps old settled ready w deep pass)
 
-pub admission_fits : (seat : ℕ) (op : Op) (key : Key) (rec : Rec) (old settled ready : Held) (pace : Pace)
-    → IsPacedHeld old pace → MayWrite seat (weight key rec) op old → SettlesDeep old settled → SettlesPass settled ready → IsWritable seat key rec (begun_in (weight key rec) ready)
-admission_fits seat op key rec old settled ready pace k may deep pass = record {
-  settled = subst (λ (g : GearState). first_debt g seat + second_debt g seat ≡ 0) between.numbers.gears now.1.settled;
-  fits = writes_fit key rec op (begun_in (weight key rec) ready) (ready_for pace (weight key rec)) between.numbers between.one between.told.paced between.ends now.1.has_room may.heavy;
-}
-  where
-    between : IsBetween (begun_in (weight key rec) ready) (ready_for pace (weight key rec))
-    between = (moves_are_told old settled ready pace (weight key rec) k deep pass).1
+module _ (seat : ℕ) (op : Op) (more : Entries) (old settled ready : Held) (pace : Pace) (written : AreWritten more) (k : IsPacedHeld old pace)
+    (may : MayWrite seat (entries_weight more) op old) (deep : SettlesDeep old settled) (pass : SettlesPass settled ready) where
+  abbrev begun : Held
+  begun = begun_in (entries_weight more) ready
 
-    lands : Lands (ready_for pace (weight key rec))
-        (entry_to (goes_ahead key (begun_in (weight key rec) ready)) key rec op (begun_in (weight key rec) ready))
-    lands = lands_by key rec op (begun_in (weight key rec) ready) (ready_for pace (weight key rec)) between.numbers between.one
-        (goes_ahead key (begun_in (weight key rec) ready)) refl
+  abbrev before : Pace
+  before = ready_for pace (entries_weight more)
 
-    now : IsPaced (ready_for pace (weight key rec)) × pacing.IsReady (ready_for pace (weight key rec)) seat (weight key rec)
-    now = pacing_ready pace seat (entry_to (goes_ahead key (begun_in (weight key rec) ready)) key rec op (begun_in (weight key rec) ready))
-        k.told.paced
-        (may_admit_of seat op old pace (entry_to (goes_ahead key (begun_in (weight key rec) ready)) key rec op (begun_in (weight key rec) ready))
-        refl k may lands)
+  -- where they would land
+  abbrev entry : Written
+  entry = entries_to (goes_ahead more begun) more op begun
+
+  between : IsBetween begun before
+  between = (moves_are_told old settled ready pace (entries_weight more) k deep pass).1
+
+  lands : Lands before entry
+  lands = lands_by more op begun before written.some between.numbers between.one (goes_ahead more begun) refl
+
+  now : IsPaced before × pacing.IsReady before seat (entries_weight more)
+  now = pacing_ready pace seat entry k.told.paced (may_admit_of seat op old pace entry written.some refl k may lands)
+
+  pub admission_fits : IsWritable seat more begun
+  admission_fits = record {
+    settled = subst (λ (g : GearState). first_debt g seat + second_debt g seat ≡ 0) between.numbers.gears now.1.settled;
+    fits = writes_fit more op begun before written between.numbers between.one between.told.paced between.ends now.1.has_room may.heavy;
+  }
 
 -- ---- a payment
 

@@ -8,13 +8,12 @@ use Rattle.blsm_model.specs.Geometry.{c1_mark}
 use Rattle.blsm_model.specs.Book.{Book, noted, HasRoom}
 use Rattle.blsm_model.specs.Histories.{writes_of, is_done}
 use Rattle.blsm_model.specs.Legal.{is_write, total_weight, is_del}
-use Rattle.blsm_model.specs.declared.key.Key.{Key}
 use Rattle.blsm_model.specs.declared.op.Op.{Op}
 use Rattle.blsm_model.specs.declared.history.Entry.{Entry}
 use Rattle.blsm_model.specs.declared.history.Reply.TheVariants.{Done}
 use Rattle.catalog_swap.specs.declared.catalog.Catalog.{Catalog}
-use Rattle.record_delta.specs.declared.record.Rec.{Rec}
-use Rattle.record_delta.specs.Records.{weight}
+use Rattle.record_delta.specs.Entries.{Entries, entries_weight}
+use Rattle.gated_log.specs.Records.{cost}
 use Rattle.gear_sched.specs.Gears.{GearState}
 use Rattle.pacing.specs.Ends.{AreEnds}
 use Rattle.pacing.proofs.Ends.{ends_as, ends_turned, ends_begun, ends_written}
@@ -41,7 +40,7 @@ use Rattle.core_moves.specs.declared.held.Held.{Held}
 use Rattle.core_moves.specs.Held.{IsOne, IsDeepDone, IsPassDone}
 use Rattle.core_moves.specs.Moves.{SwapsDeepIn, SwapsPassIn, with_pass_begun, SettlesDeep, SettlesPass, begun_in, with_book, with_debts_forgiven}
 use Rattle.core_pace.specs.Pacing.{HasPace, IsRunBook, IsPacedHeld, most_opened}
-use Rattle.core_pace.specs.Events.{MayWrite}
+use Rattle.core_pace.specs.Events.{AreWritten, MayWrite}
 use Rattle.core_pace.proofs.TestLemmas.{each_test_agrees, forgiving_has_pace}
 use Rattle.core_pace.proofs.SwapLemmas.{deep_swap_has_pace, pass_swap_has_pace, begin_has_pace}
 use Rattle.core_pace.proofs.WriteLemmas.{write_has_pace}
@@ -209,49 +208,55 @@ pub room_taken : (book : Book) (entry : Entry) → HasRoom book.room entry → l
 room_taken book entry room few = omega (arith, few, lowered book.room.entries entry.seat room.entries, length-append book.entries (entry ∷ []))
 
 -- a write that may be is an admission that may be, wherever it lands
-pub may_admit_of : (seat : ℕ) (op : Op) (held : Held) (pace : Pace) (written : Written) → written.is_del ≡ is_del op → IsPacedHeld held pace
+pub may_admit_of : (seat : ℕ) (op : Op) (held : Held) (pace : Pace) (written : Written) → 1 ≤ written.writes → written.is_del ≡ is_del op
+    → IsPacedHeld held pace
     → MayWrite seat written.weight op held → Lands (ready_for pace written.weight) written → MayAdmit pace seat written
-may_admit_of seat op held pace written deletes k may lands = grind (arith, common_steps, nat_tests)
+may_admit_of seat op held pace written some deletes k may lands = grind (arith, common_steps, nat_tests)
 
-module _ (seat : ℕ) (op : Op) (key : Key) (rec : Rec) (old settled ready written new : Held) (pace : Pace) (writing : is_write op ≡ true) (weighs : total_weight (writes_of op) ≡ weight key rec)
-    (k : IsPacedHeld old pace) (may : MayWrite seat (weight key rec) op old) (room : HasRoom ready.book.book.room (done_entry seat op)) (admits : Admits seat op key rec old settled ready written new) where
+module _ (seat : ℕ) (op : Op) (more : Entries) (old settled ready written new : Held) (pace : Pace) (writing : is_write op ≡ true)
+    (weighs : total_weight (writes_of op) ≡ entries_weight more) (counts : length (writes_of op) ≡ length more) (are : AreWritten more)
+    (k : IsPacedHeld old pace) (may : MayWrite seat (entries_weight more) op old) (room : HasRoom ready.book.book.room (done_entry seat op))
+    (admits : Admits seat op more old settled ready written new) where
   abbrev begun : Held
-  begun = begun_in (weight key rec) ready
+  begun = begun_in (entries_weight more) ready
 
   abbrev before : Pace
-  before = ready_for pace (weight key rec)
+  before = ready_for pace (entries_weight more)
 
   abbrev entry : Written
-  entry = written_in key rec op begun written
+  entry = written_in more op begun written
 
   abbrev next : Pace
   next = with_write before seat entry
 
   between : IsBetween begun before
-  between = (moves_are_told old settled ready pace (weight key rec) k admits.deep admits.pass).1
+  between = (moves_are_told old settled ready pace (entries_weight more) k admits.deep admits.pass).1
 
   wrote : Lands before entry × HasPace written next
-  wrote = write_has_pace seat key rec op begun written before between.numbers between.one admits.write
+  wrote = write_has_pace seat more op begun written before are.some between.numbers between.one admits.write
 
   may_admit : MayAdmit pace seat entry
-  may_admit = may_admit_of seat op old pace entry refl k may wrote.0
+  may_admit = may_admit_of seat op old pace entry are.some refl k may wrote.0
 
   book_is : written.book.book ≡ ready.book.book
-  book_is = ap (λ (b : BookState). b.book) admits.write.book ∙ ap (λ (b : BookState). b.book) (begun_book (weight key rec) ready)
+  book_is = ap (λ (b : BookState). b.book) admits.write.book ∙ ap (λ (b : BookState). b.book) (begun_book (entries_weight more) ready)
 
   seats_are : written.book.seats ≡ ready.book.seats
-  seats_are = ap (λ (b : BookState). b.seats) admits.write.book ∙ ap (λ (b : BookState). b.seats) (begun_book (weight key rec) ready)
+  seats_are = ap (λ (b : BookState). b.seats) admits.write.book ∙ ap (λ (b : BookState). b.seats) (begun_book (entries_weight more) ready)
 
   booked : IsBookOf (noted written.book.book (done_entry seat op)) written.book.seats next
   booked =
-      let was : IsBookOf ready.book.book ready.book.seats before = subst (λ (b : BookState). IsBookOf b.book b.seats before) (begun_book (weight key rec) ready) between.told.booked in
+      let was : IsBookOf ready.book.book ready.book.seats before =
+      subst (λ (b : BookState). IsBookOf b.book b.seats before) (begun_book (entries_weight more) ready) between.told.booked in
       subst (λ (b : Book). IsBookOf (noted b (done_entry seat op)) written.book.seats next) (sym book_is)
       (subst (λ (s : Seats). IsBookOf (noted ready.book.book (done_entry seat op)) s next) (sym seats_are)
-      (write_books ready.book.book ready.book.seats before seat op entry (sym weighs) between.told.paced may.caller writing was))
+      (write_books ready.book.book ready.book.seats before seat op entry (sym weighs) (sym counts) between.told.paced may.caller writing was))
 
   entries : length (noted written.book.book (done_entry seat op)).entries + sum (noted written.book.book (done_entry seat op)).room.entries ≤ most_entries
   entries =
-      let was : length ready.book.book.entries + sum ready.book.book.room.entries ≤ most_entries = subst (λ (b : BookState). length b.book.entries + sum b.book.room.entries ≤ most_entries) (begun_book (weight key rec) ready) between.told.entries in
+      let was : length ready.book.book.entries + sum ready.book.book.room.entries ≤ most_entries =
+      subst (λ (b : BookState). length b.book.entries + sum b.book.room.entries ≤ most_entries) (begun_book (entries_weight more) ready)
+      between.told.entries in
       subst (λ (b : Book). length (noted b (done_entry seat op)).entries + sum (noted b (done_entry seat op)).room.entries ≤ most_entries) (sym book_is) (room_taken ready.book.book (done_entry seat op) room was)
 
   counted : IsCounted next
@@ -268,9 +273,10 @@ module _ (seat : ℕ) (op : Op) (key : Key) (rec : Rec) (old settled ready writt
       entries = entries;
     };
     counted = counted;
-    one = one_rebooked written (noted_in seat op Done written.book) ((each_move_keeps_one begun written between.one).write seat key rec admits.write);
-    ends = subst (λ (n : ℕ). AreEnds next n (end_of_b written.log)) (sym admits.write.grows.a) (subst (λ (n : ℕ). AreEnds next (cond entry.ahead (end_of_a begun.log + (weight key rec + 1)) (end_of_a begun.log)) n) (sym admits.write.grows.b)
-        (ends_written before seat entry (end_of_a begun.log) (end_of_b begun.log) may.light wrote.0 between.ends));
+    one = one_rebooked written (noted_in seat op Done written.book) ((each_move_keeps_one begun written between.one).write seat more admits.write);
+    ends = subst (λ (n : ℕ). AreEnds next n (end_of_b written.log)) (sym admits.write.grows.a)
+        (subst (λ (n : ℕ). AreEnds next (cond entry.ahead (end_of_a begun.log + cost more) (end_of_a begun.log)) n) (sym admits.write.grows.b)
+        (ends_written before seat entry (cost more) (end_of_a begun.log) (end_of_b begun.log) are.short wrote.0 between.ends));
     version = omega (arith, between.version, ap (λ (r : RunsState). r.catalogue.version) admits.write.runs);
   }
 
@@ -278,17 +284,18 @@ module _ (seat : ℕ) (op : Op) (key : Key) (rec : Rec) (old settled ready writt
   admitted = subst (λ (h : Held). IsPacedHeld h next) (sym admits.entry) noted_held
 
   pub is_admission : IsAdmission seat op pace next
-  is_admission = record { written = entry; weighs = sym weighs; deletes = refl; may = may_admit; led = refl }
+  is_admission = record { written = entry; weighs = sym weighs; counts = sym counts; deletes = refl; may = may_admit; led = refl }
 
--- A write is one admission of the pacing.
-pub admission_is_paced : (seat : ℕ) (op : Op) (key : Key) (rec : Rec) (old settled ready written new : Held) (pace : Pace)
-    → is_write op ≡ true → total_weight (writes_of op) ≡ weight key rec → IsPacedHeld old pace → MayWrite seat (weight key rec) op old → HasRoom ready.book.book.room (done_entry seat op)
-    → Admits seat op key rec old settled ready written new
+-- What a command writes is one admission of the pacing.
+pub admission_is_paced : (seat : ℕ) (op : Op) (more : Entries) (old settled ready written new : Held) (pace : Pace)
+    → is_write op ≡ true → total_weight (writes_of op) ≡ entries_weight more → length (writes_of op) ≡ length more → AreWritten more
+    → IsPacedHeld old pace → MayWrite seat (entries_weight more) op old → HasRoom ready.book.book.room (done_entry seat op)
+    → Admits seat op more old settled ready written new
     → (next : Pace) × IsAdmission seat op pace next × IsPacedHeld new next
-admission_is_paced seat op key rec old settled ready written new pace writing weighs k may room admits = (
-  with_write (ready_for pace (weight key rec)) seat (written_in key rec op (begun_in (weight key rec) ready) written),
-  is_admission seat op key rec old settled ready written new pace writing weighs k may room admits,
-  admitted seat op key rec old settled ready written new pace writing weighs k may room admits,
+admission_is_paced seat op more old settled ready written new pace writing weighs counts are k may room admits = (
+  with_write (ready_for pace (entries_weight more)) seat (written_in more op (begun_in (entries_weight more) ready) written),
+  is_admission seat op more old settled ready written new pace writing weighs counts are k may room admits,
+  admitted seat op more old settled ready written new pace writing weighs counts are k may room admits,
 )
 
 -- ---- debts, entries and stops

@@ -4,13 +4,13 @@ use Rattle.std.proofs.lemmas.Grind.{common_steps}
 use Rattle.std.proofs.lemmas.Bool.Decides.{nat_tests}
 use Rattle.std.proofs.lemmas.Bool.{true≢false}
 use Rattle.std.proofs.lemmas.Cmp.{nat_list_cmp_total}
-use Rattle.std.specs.Prelude.{is_some}
+use Rattle.std.specs.Prelude.{[], ◌∷◌, is_some}
 use Rattle.std.specs.FinMap.{put}
 use Rattle.blsm_model.specs.declared.key.Key.{Key}
 use Rattle.blsm_model.specs.Keys.{key_cmp}
-use Rattle.record_delta.specs.declared.record.Rec.{Rec}
 use Rattle.record_delta.specs.Entries.{Entries, entries_weight, is_above, above, record_of_key, with_record}
 use Rattle.record_delta.specs.Folding.{over}
+use Rattle.record_delta.specs.Several.{with_records}
 use Rattle.mem_table.specs.Tables.{raised}
 use Rattle.mem_table.proofs.WayLemmas.{less_of_greater}
 use Rattle.page_file.specs.Page.{most_used}
@@ -23,10 +23,11 @@ use Rattle.tree_machine.proofs.FoldLemmas.{tied}
 use Rattle.tree_machine.proofs.CursorLemmas.{not_below_itself}
 use Rattle.tree_machine.proofs.QuantumLemmas.{weight_parts}
 use Rattle.tree_log.proofs.RestLemmas.{put_above}
-use Rattle.tree_log.specs.Log.{LogState, dropped_by, listed_in_a, turned_log, with_entry}
+use Rattle.tree_log.specs.Log.{LogState, dropped_by, listed_in_a, turned_log, with_entries}
 use Rattle.tree_runs.specs.Runs.{PassCovers, left_for_pass, released_by}
 use Rattle.tree_runs.specs.Holding.{cursor_of_pass}
-use Rattle.tree_runs.proofs.CoverLemmas.{above_again, covered_light, covers_dropped, covers_grown, not_up, released_up_to}
+use Rattle.tree_runs.specs.Laws.{AreAhead}
+use Rattle.tree_runs.proofs.CoverLemmas.{above_again, above_cursor, covered_light, covers_dropped, covers_grown, not_up, released_up_to}
 use Rattle.core_moves.specs.declared.held.Held.{Held}
 use Rattle.core_moves.specs.Held.{FollowsPass, IsOne, goes_ahead}
 use Rattle.core_moves.specs.Moves.{TakesOfPass, with_pass_begun}
@@ -81,12 +82,13 @@ drops total pass log covers = by pass (released_by pass) (released_up_to total p
           left = ap (λ (n : ℕ). n + left_in snow.at snow.c1) ahead;
         }
 
--- what is above a floor that is put among them stays so
-put_among : (floor : Option Key) (a : Entries) (key : Key) (rec : Rec) → is_above floor key ≡ true → above floor a ≡ a
-    → above floor (with_record key rec a) ≡ with_record key rec a
-put_among floor a key rec high all =
-    let made = over rec (record_of_key key a) in
-    put_above floor key made a high ∙ ap (put key_cmp key made) all
+-- entries above a floor that all of a list is above leave it so
+put_among : (floor : Option Key) (a more : Entries) → AreAhead floor more → above floor a ≡ a
+    → above floor (with_records more a) ≡ with_records more a
+put_among floor a [] high all = all
+put_among floor a (e ∷ more) high all =
+    let made = over e.1 (record_of_key e.0 a) in
+    put_among floor (with_record e.0 e.1 a) more high.1 (put_above floor e.0 made a high.0 ∙ ap (put key_cmp e.0 made) all)
 
 pub entries_left : (key : Option Key) (log : LogState) → (dropped_by key log).a.entries ≡ above key log.a.entries
 entries_left None log = sym (above_none log.a.entries)
@@ -146,19 +148,20 @@ follows_quantum old new c1 log follows covers =
           ap (λ (f : Option Key). above f (above (Some key) log.a.entries)) floor ∙ above_again (Some key) (Some key) log.a.entries (λ k is. is),
         )
 
-pub follows_write : (key : Key) (rec : Rec) (held : Held) (ahead : Bool) → goes_ahead key held ≡ ahead
-    → IsOne held → FollowsPass held.runs.pass held.runs.catalogue.c1.weight (with_entry ahead key rec held.log)
-follows_write key rec held true is one =
+pub follows_write : (more : Entries) (held : Held) (ahead : Bool) → goes_ahead more held ≡ ahead
+    → IsOne held → FollowsPass held.runs.pass held.runs.catalogue.c1.weight (with_entries ahead more held.log)
+follows_write more held true is one =
     let follows = one.follows in
-    let ahead = ahead_above key held is in
+    let ahead = ahead_above more held is in
+    let high = above_cursor held.log.a.floor (cursor_of_pass held.runs.pass) more (floor_below held one) ahead in
     record {
       floor = follows.floor;
       whole = follows.whole;
-      above_floor = put_among held.log.a.floor held.log.a.entries key rec (floor_below held one key ahead) follows.above_floor;
-      covers = covers_grown (listed_in_a held.log + held.runs.catalogue.c1.weight) _ held.runs.pass held.log.a.entries key rec ahead (omega arith)
+      above_floor = put_among held.log.a.floor held.log.a.entries more high follows.above_floor;
+      covers = covers_grown (listed_in_a held.log + held.runs.catalogue.c1.weight) _ held.runs.pass held.log.a.entries more ahead (omega arith)
           follows.covers;
     }
-follows_write key rec held false is one =
+follows_write more held false is one =
     let follows = one.follows in
     record { floor = follows.floor; whole = follows.whole; above_floor = follows.above_floor; covers = follows.covers }
 

@@ -7,13 +7,12 @@ use Rattle.blsm_model.specs.Geometry.{high_mark}
 use Rattle.blsm_model.specs.Lanes.{AreRoles, a_of, b_of, spare_of}
 use Rattle.blsm_model.specs.Sizes.{Sizes}
 use Rattle.blsm_model.specs.declared.key.Key.{Key}
-use Rattle.record_delta.specs.declared.record.Rec.{Rec}
-use Rattle.record_delta.specs.Entries.{AreSorted}
+use Rattle.record_delta.specs.Entries.{AreSorted, Entries}
 use Rattle.gear_sched.specs.Gears.{GearState}
 use Rattle.catalog_swap.specs.declared.catalog.Catalog.{Catalog}
-use Rattle.tree_log.specs.Log.{LogState, dropped_by, turned_log, with_entry}
+use Rattle.tree_log.specs.Log.{LogState, dropped_by, turned_log, with_entries}
 use Rattle.tree_machine.proofs.CursorLemmas.{sorted_ahead}
-use Rattle.tree_machine.proofs.FoldLemmas.{sorted_with_record}
+use Rattle.tree_machine.proofs.FoldLemmas.{sorted_with_records}
 use Rattle.tree_runs.specs.Runs.{RunsState, released_by}
 use Rattle.core_moves.specs.declared.held.Held.{Held}
 use Rattle.core_moves.specs.Held.{FollowsPass, IsOne, goes_ahead}
@@ -67,10 +66,10 @@ turned : {s t : Sizes} {ls ms : List ℕ} {l m : LogState} {g h : GearState} →
     → h.sizes ≡ g.sizes → One t ms m h
 turned one sizes lanes log gears = grind (arith, common_steps, nat_tests)
 
--- one entry more
-written : {s : Sizes} {ls : List ℕ} {l m : LogState} {g h : GearState} (key : Key) (rec : Rec) (ahead : Bool) → One s ls l g → m ≡ with_entry ahead key rec l
+-- some entries more
+written : {s : Sizes} {ls : List ℕ} {l m : LogState} {g h : GearState} (more : Entries) (ahead : Bool) → One s ls l g → m ≡ with_entries ahead more l
     → h.sizes ≡ g.sizes → One s ls m h
-written key rec ahead one log gears = grind (arith, common_steps, nat_tests, sorted_with_record)
+written more ahead one log gears = grind (arith, common_steps, nat_tests, sorted_with_records)
 
 -- the table is dropped up to a key
 dropped : {s t : Sizes} {ls ms : List ℕ} {l m : LogState} {g h : GearState} (key : Option Key) → One s ls l g → t ≡ s → ms ≡ ls → m ≡ dropped_by key l
@@ -107,10 +106,11 @@ each_move_keeps_one old new one = record {
       (follows_as refl (c1 m.others.catalogue) m.log (follows_quantum old.runs.pass new.runs.pass old.runs.catalogue.c1.weight old.log one.follows m.covers));
   deep = λ seat n m. whole new (stays was m.others.sizes (lanes m.others.catalogue) m.log (sizes m.gears))
       (follows_as m.others.pass (c1 m.others.catalogue) m.log one.follows);
-  write = λ seat key rec m. whole new
-      (stays (written {h = old.gears} key rec (goes_ahead key old) was refl refl) (ap (λ (r : RunsState). r.sizes) m.runs) (ap (λ (r : RunsState). r.catalogue.lanes) m.runs) m.log (sizes m.gears))
+  write = λ seat more m. whole new
+      (stays (written {h = old.gears} more (goes_ahead more old) was refl refl) (ap (λ (r : RunsState). r.sizes) m.runs)
+      (ap (λ (r : RunsState). r.catalogue.lanes) m.runs) m.log (sizes m.gears))
       (follows_as (ap (λ (r : RunsState). r.pass) m.runs) (ap (λ (r : RunsState). r.catalogue.c1.weight) m.runs) m.log
-      (follows_write key rec old (goes_ahead key old) refl one));
+      (follows_write more old (goes_ahead more old) refl one));
 }
   where
     was : One old.runs.sizes old.runs.catalogue.lanes old.log old.gears

@@ -1,11 +1,9 @@
 -- What only lemmas say: no clause names these.
 use Rattle.std.specs.Prelude.{◌≡◌, ◌↔◌, ℕ, ◌-◌, Bool, IsTrue, ◌&&◌, ◌<◌, is_some, ◌+◌, ◌≤◌, true, false, None, length}
-use Rattle.blsm_model.specs.declared.key.Key.{Key}
-use Rattle.record_delta.specs.declared.record.Rec.{Rec}
-use Rattle.record_delta.specs.Records.{weight}
+use Rattle.record_delta.specs.Entries.{Entries, entries_weight}
 use Rattle.pacing.specs.Ends.{AreEnds}
 use Rattle.pacing.specs.Pace.{Pace, Written, rotations, Quantum, pass_done, deep_done, pass_over, deep_over, with_forgiven}
-use Rattle.tree_log.specs.Log.{LogState, listed_for, end_of_a, end_of_b, with_entry}
+use Rattle.tree_log.specs.Log.{LogState, listed_for, end_of_a, end_of_b, with_entries}
 use Rattle.tree_runs.specs.Runs.{made_by_pass, made_by_deep, left_for_pass, left_for_deep, Fits}
 use Rattle.core_moves.specs.declared.held.Held.{Held}
 use Rattle.core_moves.specs.Held.{IsOne, IsPassDone, IsDeepDone, is_pass_over, is_deep_over, goes_ahead}
@@ -44,16 +42,23 @@ snow_quantum n old new = record {
 abbrev pub deep_quantum : ℕ → Held → Quantum
 deep_quantum n new = record { took = n; of_table = 0; made = (made_by_deep new.runs.deep).weight }
 
--- what the pacing has of a write that goes to this table
-abbrev pub entry_in : Key → Rec → Op → Bool → LogState → Written
-entry_in key rec op ahead log = record { weight = weight key rec; is_del = is_del op; ahead = ahead; after = listed_for ahead log }
+-- What the pacing has of entries that go to this table. What it weighed on the way only the lists tell.
+abbrev pub entries_in : Entries → Op → Bool → LogState → Written
+entries_in more op ahead log = record {
+  weight = entries_weight more;
+  writes = length more;
+  is_del = is_del op;
+  ahead = ahead;
+  after = listed_for ahead log;
+  most = listed_for ahead log;
+}
 
-abbrev pub written_in : Key → Rec → Op → Held → Held → Written
-written_in key rec op old new = entry_in key rec op (goes_ahead key old) new.log
+abbrev pub written_in : Entries → Op → Held → Held → Written
+written_in more op old new = entries_in more op (goes_ahead more old) new.log
 
--- and of one that would go there
-abbrev pub entry_to : Bool → Key → Rec → Op → Held → Written
-entry_to ahead key rec op held = entry_in key rec op ahead (with_entry ahead key rec held.log)
+-- and of those that would go there
+abbrev pub entries_to : Bool → Entries → Op → Held → Written
+entries_to ahead more op held = entries_in more op ahead (with_entries ahead more held.log)
 
 pub record MovesKeepOne (old new : Held) : Type 0 where
   pub deep_swap : SwapsDeepIn old new → IsOne new
@@ -63,7 +68,7 @@ pub record MovesKeepOne (old new : Held) : Type 0 where
   pub forgiving : (seat : ℕ) → IsOne (with_debts_forgiven seat old)
   pub snow : (seat n : ℕ) → TakesOfPass seat n old new → IsOne new
   pub deep : (seat n : ℕ) → TakesOfDeep seat n old new → IsOne new
-  pub write : (seat : ℕ) (key : Key) (rec : Rec) → WritesIn seat key rec old new → IsOne new
+  pub write : (seat : ℕ) (more : Entries) → WritesIn seat more old new → IsOne new
 
 -- The merge that a payment goes to, once what may be forgiven is, runs and isn't done.
 pub record PlansRun (held : Held) (pace : Pace) (seat : ℕ) : Type 0 where
@@ -73,11 +78,11 @@ pub record PlansRun (held : Held) (pace : Pace) (seat : ℕ) : Type 0 where
 abbrev pub done_entry : ℕ → Op → Entry
 done_entry seat op = record { seat = seat; op = op; reply = Done }
 
--- The swaps that are due, a begin where it is due, the write, and then its entry.
-pub record Admits (seat : ℕ) (op : Op) (key : Key) (rec : Rec) (old settled ready written new : Held) : Type 0 where
+-- The swaps that are due, a begin where it is due, the writes, and then the command's entry.
+pub record Admits (seat : ℕ) (op : Op) (more : Entries) (old settled ready written new : Held) : Type 0 where
   pub deep : SettlesDeep old settled
   pub pass : SettlesPass settled ready
-  pub write : WritesIn seat key rec (begun_in (weight key rec) ready) written
+  pub write : WritesIn seat more (begun_in (entries_weight more) ready) written
   pub entry : new ≡ with_book (noted_in seat op Done written.book) written
 
 -- the numbers, the geometry and what is told, also where a pass has begun whose write is still to come
@@ -109,10 +114,10 @@ pub record KeepsBook (old new : BookState) : Type 0 where
   pub seats : new.seats ≡ old.seats
   pub stopped : new.stopped ≡ old.stopped
 
--- After them the seat owes nothing still, and its write fits.
-pub record IsWritable (seat : ℕ) (key : Key) (rec : Rec) (held : Held) : Type 0 where
+-- After them the seat owes nothing still, and what it writes fits.
+pub record IsWritable (seat : ℕ) (more : Entries) (held : Held) : Type 0 where
   pub settled : first_debt held.gears seat + second_debt held.gears seat ≡ 0
-  pub fits : WriteFits key rec held
+  pub fits : WriteFits more held
 
 pub record MayWorkIn (seat : ℕ) (held : Held) : Type 0 where
   pub caller : seat < callers

@@ -1,10 +1,13 @@
 -- An admission, a payment and a turn, made of the moves of the core; and what is told of them.
-use Rattle.std.specs.Prelude.{◌≡◌, ℕ, ◌+◌, ◌<◌, ◌≤◌}
+use Rattle.std.specs.Prelude.{◌≡◌, ℕ, ◌+◌, ◌<◌, ◌≤◌, length}
 use Rattle.blsm_model.specs.Format.{callers, least_weight, most_weight}
 use Rattle.blsm_model.specs.Geometry.{charge_limit}
 use Rattle.blsm_model.specs.Legal.{is_del}
 use Rattle.blsm_model.specs.declared.op.Op.{Op}
+use Rattle.record_delta.specs.Entries.{Entries, entries_weight}
+use Rattle.gated_log.specs.Records.{cost}
 use Rattle.gear_sched.specs.Gears.{first_debt, second_debt, plan_for}
+use Rattle.pacing.specs.Ends.{IsNoLonger}
 use Rattle.gear_sched.specs.declared.Plan.{Plan}
 use Rattle.gear_sched.specs.declared.Plan.TheVariants.{Snow, Deep, Nothing}
 use Rattle.core_moves.specs.declared.held.Held.{Held}
@@ -20,6 +23,11 @@ pub record MayWrite (seat w : ℕ) (op : Op) (held : Held) : Type 0 where
   pub light : least_weight ≤ w
   pub heavy : w ≤ most_weight
   pub room : charge_in held + w ≤ charge_limit held.runs.sizes (is_del op)
+
+-- What a command writes: one entry or several, which take little beside their weight in a lane.
+pub record AreWritten (more : Entries) : Type 0 where
+  pub some : 1 ≤ length more
+  pub short : IsNoLonger (cost more) (entries_weight more)
 
 -- ---- a payment
 

@@ -11,7 +11,6 @@ use Rattle.blsm_model.specs.Histories.{is_met, writes_of}
 use Rattle.tree_machine.specs.Lists.{value_in}
 use Rattle.blsm_model.specs.Legal.{is_write, total_weight, is_del}
 use Rattle.blsm_model.specs.Sizes.{Sizes}
-use Rattle.blsm_model.specs.Values.{key_of}
 use Rattle.blsm_model.specs.declared.history.Reply.{Reply}
 use Rattle.blsm_model.specs.declared.history.Reply.TheVariants.{Done, FaultLost, FaultUnsure, Full}
 use Rattle.blsm_model.specs.declared.history.Why.TheVariants.{Faulted}
@@ -25,7 +24,7 @@ use Rattle.disk_trait.proofs.EffectLemmas.{affects_start}
 use Rattle.disk_trait.specs.Moments.{IsTimed}
 use Rattle.gear_sched.specs.Gears.{first_debt, second_debt}
 use Rattle.pacing.specs.Pace.{Pace}
-use Rattle.record_delta.specs.Records.{record_of}
+use Rattle.record_delta.specs.Several.{entries_of}
 use Rattle.scan_view.specs.Pins.{beside_pins}
 use Rattle.seat_book.specs.State.{BookState, may_note_in, noted_in, stopped_in}
 use Rattle.seat_book.proofs.WordLemmas.{note_has_room}
@@ -37,7 +36,7 @@ use Rattle.tree_machine.specs.declared.step.Kind.TheVariants as kind
 use Rattle.core_moves.specs.Held.{charge_in}
 use Rattle.core_moves.specs.Moves.{with_book}
 use Rattle.core_moves.specs.declared.held.Held.{Held}
-use Rattle.core_pace.specs.Events.{MayWrite}
+use Rattle.core_pace.specs.Events.{AreWritten, MayWrite}
 use Rattle.tree_core.specs.Calls.{AdmitsMet, BesideHolds, GoesOnAs}
 use Rattle.tree_core.specs.Causes.{calls_to_admit, swaps_due_in}
 use Rattle.tree_core.specs.Clock.{EndsAppended}
@@ -106,7 +105,8 @@ module _ {D : Type 0} (state : D → DiskState) (seat : ℕ) (op : Op) (old : Co
 
   -- ---- the write is taken, or a call of the disk fails
 
-  module _ (write : Write) (disk : D) (new : Held) (b : BookState) (later : IsTimed (state disk)) (writes : writes_of op ≡ write ∷ []) (ran : old.held.book.stopped ≡ None) (may_write : MayWrite seat (total_weight (writes_of op)) op old.held)
+  module _ (disk : D) (new : Held) (b : BookState) (later : IsTimed (state disk)) (are : AreWritten (entries_of (writes_of op)))
+      (ran : old.held.book.stopped ≡ None) (may_write : MayWrite seat (total_weight (writes_of op)) op old.held)
       (effect : Affects (beside_pins old.held.runs.sizes old.held.runs.space.pins) (file_length old.held.runs.sizes) (calls_to_admit old.held) (state old.disk) (state disk)) where
     -- how it was taken says what it left
     abbrev LeavesOver : Taking → Type 0
@@ -114,17 +114,21 @@ module _ {D : Type 0} (state : D → DiskState) (seat : ℕ) (op : Op) (old : Co
         (opening : List (Key × Value)) (m : Machine) → IsTrue (state old.disk).is_honest → StandsFor AnyRows opening old.held m (state old.disk) → old.held.book.stopped ≡ None → may m seat (kind.Admit op) ≡ true → WritesFit (kind.Admit op)
         → is_met op (value_in m.lists) ≡ true → TakesOver taking opening seat op m new (state old.disk) (state disk)
 
-    pub admit_taken : is_write op ≡ true → Takes Taken seat (key_of write) (record_of write) old.held new (state disk) → (state disk).faults ≡
+    pub admit_taken : is_write op ≡ true → Takes Taken seat (entries_of (writes_of op)) old.held new (state disk) → (state disk).faults ≡
         (state old.disk).faults → EndsAppended 0 (swaps_due_in old.held) (state old.disk) (state disk) → LeavesOver Taken → b ≡ noted_in seat op Done
         new.book
         → AdmitsMet state seat op admission.Admitted old (record { disk = disk; held = with_book b new; holds = old.holds })
     admit_taken writing takes calm ends lists is =
-        let keeps = taken_keeps seat (key_of write) (record_of write) old.held new (state disk) takes in
-        let pins = taking_keeps_pins Taken seat (key_of write) (record_of write) old.held new (state disk) takes in
-        let moves = λ (pace : Pace) (paced : HoldsPace old.held pace (state old.disk)). taken_moves seat op write old.held new pace (state disk) writes writing (paced.live ran).paced may_write (note_has_room old.held.book seat 0 op Done room (omega arith)) takes in
+        let keeps = taken_keeps seat (entries_of (writes_of op)) old.held new (state disk) takes in
+        let pins = taking_keeps_pins Taken seat (entries_of (writes_of op)) old.held new (state disk) takes in
+        let moves = λ (pace : Pace) (paced : HoldsPace old.held pace (state old.disk)). taken_moves seat op old.held new pace (state disk) are writing
+        (paced.live ran).paced may_write (note_has_room old.held.book seat 0 op Done room (omega arith)) takes in
         let moved = moves core.pace core.holds in
         let live = (moved.holds.live (keeps.stopped ∙ ran)).paced in
-        let goes = goes_on_by state seat (kind.Admit op) (Replied Done) old (record { disk = disk; held = with_book (noted_in seat op Done new.book) new; holds = old.holds }) core later refl can (record { holds = refl; pins = pins.pins; sizes = pins.sizes }) pins.commits effect (taken_follows seat op (key_of write) (record_of write) old.held new (state disk) takes) moves
+        let goes = goes_on_by state seat (kind.Admit op) (Replied Done) old
+        (record { disk = disk; held = with_book (noted_in seat op Done new.book) new; holds = old.holds }) core later refl can
+        (record { holds = refl; pins = pins.pins; sizes = pins.sizes }) pins.commits effect
+        (taken_follows seat op (entries_of (writes_of op)) old.held new (state disk) takes) moves
         (λ opening m honest s ok.
         let left = lists opening m honest s ran ok fits (met opening m honest s) in
         taken_steps opening seat op old.held m (state old.disk) (asked_by opening m honest s ok) ran may_write.room new (state disk) moved.next left.0 (keeps.stopped ∙ ran) live.numbers live.one.gears left.1) in
@@ -141,16 +145,21 @@ module _ {D : Type 0} (state : D → DiskState) (seat : ℕ) (op : Op) (old : Co
           untouched = λ none. absurd none;
         })
 
-    pub admit_failed : (begun : Bool) → Takes (Failed begun) seat (key_of write) (record_of write) old.held new (state disk) → HasRisen (state old.disk).faults (state disk).faults → (state disk).faults < 2 ^ 64 → LeavesOver (Failed begun)
+    pub admit_failed : (begun : Bool) → Takes (Failed begun) seat (entries_of (writes_of op)) old.held new (state disk)
+        → HasRisen (state old.disk).faults (state disk).faults → (state disk).faults < 2 ^ 64 → LeavesOver (Failed begun)
         → b ≡ noted_in seat op (cond begun FaultUnsure FaultLost) (stopped_in (Faulted (state disk).faults) new.book) → AdmitsMet state seat op
         (admission.Fault begun) old (record { disk = disk; held = with_book b new; holds = old.holds })
     admit_failed begun takes risen few lists is =
         let why = Faulted (state disk).faults in
         let reply = cond begun FaultUnsure FaultLost in
-        let keeps = failed_keeps begun seat (key_of write) (record_of write) old.held new (state disk) takes in
-        let pins = taking_keeps_pins (Failed begun) seat (key_of write) (record_of write) old.held new (state disk) takes in
-        let goes = goes_on_by state seat (kind.Admit op) (Replied reply) old (record { disk = disk; held = with_book (noted_in seat op reply (stopped_in why new.book)) new; holds = old.holds }) core later refl can (record { holds = refl; pins = pins.pins; sizes = pins.sizes }) pins.commits effect (failed_follows begun seat op reply why (key_of write) (record_of write) old.held new (state disk) takes)
-        (λ pace holds. failed_moves begun seat op write why old.held new pace (state disk) writes (holds.live ran).paced (room_for old.held.book seat op room) takes)
+        let keeps = failed_keeps begun seat (entries_of (writes_of op)) old.held new (state disk) takes in
+        let pins = taking_keeps_pins (Failed begun) seat (entries_of (writes_of op)) old.held new (state disk) takes in
+        let goes = goes_on_by state seat (kind.Admit op) (Replied reply) old
+        (record { disk = disk; held = with_book (noted_in seat op reply (stopped_in why new.book)) new; holds = old.holds }) core later refl can
+        (record { holds = refl; pins = pins.pins; sizes = pins.sizes }) pins.commits effect
+        (failed_follows begun seat op reply why (entries_of (writes_of op)) old.held new (state disk) takes)
+        (λ pace holds. failed_moves begun seat op why old.held new pace (state disk) (holds.live ran).paced
+        (room_for old.held.book seat op room) takes)
         (λ opening m honest s ok. failed_steps opening seat op old.held m (state old.disk) (asked_by opening m honest s ok) ran may_write.room
         (state disk) effect.goes_on.faults few risen new begun later (lists opening m honest s ran ok fits (met opening m honest s))) in
         subst (λ (x : BookState). AdmitsMet state seat op (admission.Fault begun) old
@@ -159,7 +168,7 @@ module _ {D : Type 0} (state : D → DiskState) (seat : ℕ) (op : Op) (old : Co
           goes = goes.0;
           beside = goes.1;
           cause = (record { ran = ran; faults = risen; stopped = refl }, may_write.room);
-          begun = begun_by begun seat (key_of write) (record_of write) old.held new (noted_in seat op reply (stopped_in why new.book)) (state disk) takes;
+          begun = begun_by begun seat (entries_of (writes_of op)) old.held new (noted_in seat op reply (stopped_in why new.book)) (state disk) takes;
           notes = notes_stopped seat op reply why old.held.book new.book (noted_in seat op reply (stopped_in why new.book)) keeps refl;
           effect = effect;
           ends = tt;

@@ -5,14 +5,13 @@ use Rattle.std.proofs.lemmas.Bool.Decides.{nat_tests}
 use Rattle.std.proofs.Common.{◌≡◌, ◌≢◌, ⊎_elim, ℕ, ◌+◌, ◌≤◌, Bool, true, false, cond, not, ◌&&◌, replicate, refl, sym, subst, arith}
 use Rattle.blsm_model.specs.Facts.{Follows}
 use Rattle.blsm_model.specs.Format.{callers}
-use Rattle.blsm_model.specs.declared.key.Key.{Key}
 use Rattle.blsm_model.specs.declared.op.Op.{Op}
 use Rattle.blsm_model.specs.declared.history.Why.{Why}
 use Rattle.blsm_model.specs.declared.history.Reply.{Reply}
 use Rattle.blsm_model.specs.declared.history.Reply.TheVariants.{Done}
 use Rattle.disk_trait.specs.Disk.{DiskState}
 use Rattle.gear_sched.specs.Gears.{GearState, first_debt, second_debt, entered, passing, pass_ended, rotated}
-use Rattle.record_delta.specs.declared.record.Rec.{Rec}
+use Rattle.record_delta.specs.Entries.{Entries}
 use Rattle.seat_book.specs.State.{BookState, noted_in, stopped_in}
 use Rattle.seat_book.specs.Seats.{KeepsSeats}
 use Rattle.seat_book.proofs.KeepLemmas.{keeps_itself, keeps_both, keeps_less, note_keeps, peak_keeps, pass_keeps, holds_follow}
@@ -95,8 +94,9 @@ readied_leaves seat w old new is =
     subst (λ (h : Held). LeavesOthers seat old h) (sym is.begun)
     (leaves_then seat old is.ready (begun_in w is.ready) (leaves_then seat old is.settled is.ready (deep_leaves seat old is.settled is.deep) (pass_leaves seat is.settled is.ready is.pass)) (begin_leaves seat w is.ready))
 
-write_leaves : (seat : ℕ) (key : Key) (rec : Rec) (old new : Held) → WritesIn seat key rec old new → LeavesOthers seat old new
-write_leaves seat key rec old new writes = leaves_by seat old new _ _ writes.gears writes.book (entry_eases seat _ old.gears) (peak_keeps seat _ old.book)
+write_leaves : (seat : ℕ) (more : Entries) (old new : Held) → WritesIn seat more old new → LeavesOthers seat old new
+write_leaves seat more old new writes = leaves_by seat old new _ _ writes.gears writes.book (entry_eases seat _ old.gears)
+    (peak_keeps seat _ old.book)
 
 -- ---- admissions
 
@@ -115,14 +115,15 @@ stopped_follows : (seat : ℕ) (op : Op) (reply : Reply) (why : Why) (old left :
 stopped_follows seat op reply why old left leaves = grind (arith, common_steps, nat_tests)
 
 -- a call failed
-pub failed_follows : (begun : Bool) (seat : ℕ) (op : Op) (reply : Reply) (why : Why) (key : Key) (rec : Rec) (old left : Held) (after : DiskState) → Takes (Failed begun) seat key rec old left after
+pub failed_follows : (begun : Bool) (seat : ℕ) (op : Op) (reply : Reply) (why : Why) (more : Entries) (old left : Held) (after : DiskState)
+    → Takes (Failed begun) seat more old left after
     → Follows seat (facts_of_held old) (facts_of_held (with_book (noted_in seat op reply (stopped_in why left.book)) left))
-failed_follows true seat op reply why key rec old left after is = stopped_follows seat op reply why old left (readied_leaves seat _ old left is)
-failed_follows false seat op reply why key rec old left after is =
+failed_follows true seat op reply why more old left after is = stopped_follows seat op reply why old left (readied_leaves seat _ old left is)
+failed_follows false seat op reply why more old left after is =
     stopped_follows seat op reply why old left (⊎_elim (λ still. same_leaves seat old left still.0) (λ settled. deep_leaves seat old left settled.0) is)
 
 -- the write was taken
-pub taken_follows : (seat : ℕ) (op : Op) (key : Key) (rec : Rec) (old new : Held) (after : DiskState) → Takes Taken seat key rec old new after
+pub taken_follows : (seat : ℕ) (op : Op) (more : Entries) (old new : Held) (after : DiskState) → Takes Taken seat more old new after
     → Follows seat (facts_of_held old) (facts_of_held (with_book (noted_in seat op Done new.book) new))
-taken_follows seat op key rec old new after is = follows_by seat old new (noted_in seat op Done new.book)
-    (leaves_then seat old is.0 new (readied_leaves seat _ old is.0 is.1) (write_leaves seat key rec is.0 new is.2)) (note_keeps seat op Done new.book)
+taken_follows seat op more old new after is = follows_by seat old new (noted_in seat op Done new.book)
+    (leaves_then seat old is.0 new (readied_leaves seat _ old is.0 is.1) (write_leaves seat more is.0 new is.2)) (note_keeps seat op Done new.book)

@@ -9,7 +9,6 @@ use Rattle.std.proofs.lemmas.Option.{none-some}
 use Rattle.blsm_model.specs.Geometry.{charge_limit}
 use Rattle.blsm_model.specs.Sizes.{Sizes}
 use Rattle.blsm_model.specs.Book.{Book, HasRoom}
-use Rattle.blsm_model.specs.declared.key.Key.{Key}
 use Rattle.blsm_model.specs.declared.op.Op.{Op}
 use Rattle.blsm_model.specs.declared.op.Write.{Write}
 use Rattle.blsm_model.specs.declared.history.Why.{Why}
@@ -18,11 +17,10 @@ use Rattle.blsm_model.specs.declared.history.Reply.{Reply}
 use Rattle.blsm_model.specs.declared.history.Reply.TheVariants.{Done, FaultLost, FaultUnsure}
 use Rattle.blsm_model.specs.Histories.{is_done, writes_of}
 use Rattle.blsm_model.specs.Legal.{is_write, total_weight}
-use Rattle.blsm_model.specs.Values.{key_of}
 use Rattle.disk_trait.specs.Disk.{DiskState}
 use Rattle.gear_sched.specs.Gears.{GearState}
-use Rattle.record_delta.specs.declared.record.Rec.{Rec}
-use Rattle.record_delta.specs.Records.{record_of, weight}
+use Rattle.record_delta.specs.Entries.{Entries, entries_weight}
+use Rattle.record_delta.specs.Several.{entries_of}
 use Rattle.pacing.specs.Pace.{Pace, charge}
 use Rattle.pacing.specs.Steps.{deep_settled, ready_for}
 use Rattle.seat_book.specs.State.{BookState, noted_in, stopped_in}
@@ -33,7 +31,7 @@ use Rattle.core_moves.specs.declared.held.Held.{Held}
 use Rattle.core_moves.specs.Held.{charge_in}
 use Rattle.core_moves.specs.Moves.{WritesIn, begun_in, with_book}
 use Rattle.core_pace.specs.Pacing.{HasPace, IsRunBook, IsPacedHeld}
-use Rattle.core_pace.specs.Events.{MayWrite}
+use Rattle.core_pace.specs.Events.{AreWritten, MayWrite}
 use Rattle.core_pace.proofs.EventLemmas.{deep_keeps, settled_between, moves_are_told, admission_is_paced, entry_is_told, stop_is_told}
 use Rattle.core_pace.proofs.CallLemmas.{paced_is_between, moves_keep_book}
 use Rattle.tree_core.specs.declared.admission.Taking.TheVariants.{Taken, Failed}
@@ -42,7 +40,7 @@ use Rattle.tree_core.proofs.ToldLemmas.{light_of}
 use Rattle.tree_core.specs.Steps.{MovesPace}
 use Rattle.tree_core.specs.Taking.{Takes}
 use Rattle.tree_core.proofs.QuietLemmas.{read_holds}
-use Rattle.tree_core.proofs.TakingLemmas.{begun_keeps, weighs}
+use Rattle.tree_core.proofs.TakingLemmas.{as_many, begun_keeps, weighs}
 use Rattle.core_pace.proofs.Terms.{KeepsBook, IsBetween}
 
 charge_of : (held : Held) (pace : Pace) → HasPace held pace → charge pace ≡ charge_in held
@@ -94,19 +92,21 @@ stopped_same seat op asked reply noted n faults b mid new stops counts is same_o
 
 -- ---- what the book keeps
 
-pub taken_keeps : (seat : ℕ) (key : Key) (rec : Rec) (old new : Held) (after : DiskState) → Takes Taken seat key rec old new after → KeepsBook old.book new.book
-taken_keeps seat key rec old new after is =
-    let keeps = (moves_keep_book old is.1.settled is.1.ready (weight key rec) is.1.deep is.1.pass).1 in
-    let same : is.0.book ≡ (begun_in (weight key rec) is.1.ready).book = ap (λ (h : Held). h.book) is.1.begun in
+pub taken_keeps : (seat : ℕ) (more : Entries) (old new : Held) (after : DiskState) → Takes Taken seat more old new after → KeepsBook old.book new.book
+taken_keeps seat more old new after is =
+    let keeps = (moves_keep_book old is.1.settled is.1.ready (entries_weight more) is.1.deep is.1.pass).1 in
+    let same : is.0.book ≡ (begun_in (entries_weight more) is.1.ready).book = ap (λ (h : Held). h.book) is.1.begun in
     record {
       book = ap (λ (b : BookState). b.book) is.2.book ∙ ap (λ (b : BookState). b.book) same ∙ keeps.book;
       seats = ap (λ (b : BookState). b.seats) is.2.book ∙ ap (λ (b : BookState). b.seats) same ∙ keeps.seats;
       stopped = ap (λ (b : BookState). b.stopped) is.2.book ∙ ap (λ (b : BookState). b.stopped) same ∙ keeps.stopped;
     }
 
-pub failed_keeps : (begun : Bool) (seat : ℕ) (key : Key) (rec : Rec) (old left : Held) (after : DiskState) → Takes (Failed begun) seat key rec old left after → KeepsBook old.book left.book
-failed_keeps true seat key rec old left after is = subst (λ (h : Held). KeepsBook old.book h.book) (sym is.begun) (moves_keep_book old is.settled is.ready (weight key rec) is.deep is.pass).1
-failed_keeps false seat key rec old left after is = ⊎_elim
+pub failed_keeps : (begun : Bool) (seat : ℕ) (more : Entries) (old left : Held) (after : DiskState) → Takes (Failed begun) seat more old left after
+    → KeepsBook old.book left.book
+failed_keeps true seat more old left after is = subst (λ (h : Held). KeepsBook old.book h.book) (sym is.begun)
+    (moves_keep_book old is.settled is.ready (entries_weight more) is.deep is.pass).1
+failed_keeps false seat more old left after is = ⊎_elim
     (λ still. subst (λ (h : Held). KeepsBook old.book h.book) (sym still.0) (record { book = refl; seats = refl; stopped = refl }))
     (λ settled. deep_keeps old left settled.0)
     is
@@ -114,23 +114,26 @@ failed_keeps false seat key rec old left after is = ⊎_elim
 -- ---- the write
 
 -- where a call failed
-pub failed_moves : (begun : Bool) (seat : ℕ) (op : Op) (write : Write) (why : Why) (old left : Held) (pace : Pace) (after : DiskState) → writes_of op ≡ write ∷ [] → IsPacedHeld old pace
+pub failed_moves : (begun : Bool) (seat : ℕ) (op : Op) (why : Why) (old left : Held) (pace : Pace) (after : DiskState) → IsPacedHeld old pace
     → ((b : Bool) → HasRoom old.book.book.room (record { seat = seat; op = op; reply = cond b FaultUnsure FaultLost }))
-    → Takes (Failed begun) seat (key_of write) (record_of write) old left after
+    → Takes (Failed begun) seat (entries_of (writes_of op)) old left after
     → MovesPace seat (kind.Admit op) (Replied (cond begun FaultUnsure FaultLost)) (with_book (noted_in seat op (cond begun FaultUnsure FaultLost) (stopped_in why left.book)) left) after pace
-failed_moves begun seat op write why old left pace after writes paced room takes = by begun takes
+failed_moves begun seat op why old left pace after paced room takes = by begun takes
   where
     room_in : (b : Bool) (book : Book) → book ≡ old.book.book → HasRoom book.room (record { seat = seat; op = op; reply = cond b FaultUnsure FaultLost })
     room_in b book same = subst (λ (k : Book). HasRoom k.room (record { seat = seat; op = op; reply = cond b FaultUnsure FaultLost })) (sym same) (room b)
 
-    by : (b : Bool) → Takes (Failed b) seat (key_of write) (record_of write) old left after
+    by : (b : Bool) → Takes (Failed b) seat (entries_of (writes_of op)) old left after
         → MovesPace seat (kind.Admit op) (Replied (cond b FaultUnsure FaultLost)) (with_book (noted_in seat op (cond b FaultUnsure FaultLost) (stopped_in why left.book)) left) after pace
     by true is = subst (λ (h : Held). MovesPace seat (kind.Admit op) (Replied FaultUnsure) (with_book (noted_in seat op FaultUnsure (stopped_in why h.book)) h) after pace) (sym is.begun)
         (record {
-          next = ready_for pace (weight (key_of write) (record_of write));
-          made = ap (λ (n : ℕ). ready_for pace n) (sym (weighs op write writes));
-          holds = stopped_holds seat op FaultUnsure why (begun_in (weight (key_of write) (record_of write)) is.ready) (ready_for pace (weight (key_of write) (record_of write))) after refl
-              (room_in true (begun_in (weight (key_of write) (record_of write)) is.ready).book.book (moves_keep_book old is.settled is.ready (weight (key_of write) (record_of write)) is.deep is.pass).1.book) (moves_are_told old is.settled is.ready pace (weight (key_of write) (record_of write)) paced is.deep is.pass).1;
+          next = ready_for pace (entries_weight (entries_of (writes_of op)));
+          made = ap (λ (n : ℕ). ready_for pace n) (sym (weighs op));
+          holds = stopped_holds seat op FaultUnsure why (begun_in (entries_weight (entries_of (writes_of op))) is.ready)
+              (ready_for pace (entries_weight (entries_of (writes_of op)))) after refl
+              (room_in true (begun_in (entries_weight (entries_of (writes_of op))) is.ready).book.book
+              (moves_keep_book old is.settled is.ready (entries_weight (entries_of (writes_of op))) is.deep is.pass).1.book)
+              (moves_are_told old is.settled is.ready pace (entries_weight (entries_of (writes_of op))) paced is.deep is.pass).1;
         })
     by false is = ⊎_elim
         (λ still. record {
@@ -147,11 +150,12 @@ failed_moves begun seat op write why old left pace after writes paced room takes
         is
 
 -- and where it was taken
-module _ (seat : ℕ) (op : Op) (write : Write) (old new : Held) (pace : Pace) (after : DiskState) (writes : writes_of op ≡ write ∷ []) (writing : is_write op ≡ true) (paced : IsPacedHeld old pace)
+module _ (seat : ℕ) (op : Op) (old new : Held) (pace : Pace) (after : DiskState) (are : AreWritten (entries_of (writes_of op)))
+    (writing : is_write op ≡ true) (paced : IsPacedHeld old pace)
     (may : MayWrite seat (total_weight (writes_of op)) op old) (room : HasRoom old.book.book.room (record { seat = seat; op = op; reply = Done }))
-    (is : Takes Taken seat (key_of write) (record_of write) old new after) where
+    (is : Takes Taken seat (entries_of (writes_of op)) old new after) where
   abbrev w : ℕ
-  w = weight (key_of write) (record_of write)
+  w = entries_weight (entries_of (writes_of op))
 
   abbrev noted : Held
   noted = with_book (noted_in seat op Done new.book) new
@@ -160,13 +164,14 @@ module _ (seat : ℕ) (op : Op) (write : Write) (old new : Held) (pace : Pace) (
   same_book = ap (λ (b : BookState). b.book) (sym (begun_keeps w is.1.ready).book) ∙ (moves_keep_book old is.1.settled is.1.ready w is.1.deep is.1.pass).1.book
 
   made : (next : Pace) × IsAdmission seat op pace next × IsPacedHeld noted next
-  made = admission_is_paced seat op (key_of write) (record_of write) old is.1.settled is.1.ready new noted pace writing (weighs op write writes) paced
-      (subst (λ (n : ℕ). MayWrite seat n op old) (weighs op write writes) may)
+  made = admission_is_paced seat op (entries_of (writes_of op)) old is.1.settled is.1.ready new noted pace writing (weighs op)
+      (sym (as_many (writes_of op))) are paced
+      (subst (λ (n : ℕ). MayWrite seat n op old) (weighs op) may)
       (subst (λ (k : Book). HasRoom k.room (record { seat = seat; op = op; reply = Done })) (sym same_book) room)
       (record {
         deep = is.1.deep;
         pass = is.1.pass;
-        write = subst (λ (h : Held). WritesIn seat (key_of write) (record_of write) h new) is.1.begun is.2;
+        write = subst (λ (h : Held). WritesIn seat (entries_of (writes_of op)) h new) is.1.begun is.2;
         entry = refl;
       })
 

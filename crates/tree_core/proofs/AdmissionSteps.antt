@@ -2,7 +2,7 @@
 use Rattle.std.specs.Prelude.{is_some, IsSome, nat_lt, ◌^◌, ◌<◌}
 use Rattle.std.proofs.lemmas.Grind.{common_steps}
 use Rattle.std.proofs.lemmas.Bool.Decides.{nat_tests}
-use Rattle.std.specs.List.{AllByRecursion}
+use Rattle.std.proofs.lemmas.List.Sums.{sum_by-cons}
 use Rattle.std.proofs.Common.{◌≡◌, ◌∙◌, ⊎_elim, inr, ℕ, ◌+◌, ◌≤◌, Bool, true, false, cond, not, ◌&&◌, IsTrue, None, Some, Option, List, [], ◌∷◌, ◌++◌, length, length-append, refl, ap, sym, subst, arith}
 use Rattle.std.proofs.lemmas.Bool.{lt-ltb}
 use Rattle.std.proofs.lemmas.Option.{none-some}
@@ -22,7 +22,7 @@ use Rattle.blsm_model.specs.declared.history.Reply.TheVariants.{Done, Full, Faul
 use Rattle.blsm_model.specs.Histories.{is_done, is_met, writes_of}
 use Rattle.blsm_model.specs.Images.{is_unsure}
 use Rattle.blsm_model.specs.Legal.{total_weight, is_del}
-use Rattle.blsm_model.specs.Values.{key_of}
+use Rattle.blsm_model.specs.Values.{key_of, weight_of}
 use Rattle.blsm_model.specs.Format.{least_weight}
 use Rattle.record_delta.specs.declared.record.Rec.{Rec}
 use Rattle.record_delta.specs.Records.{IsWithin, record_of, weight}
@@ -42,9 +42,9 @@ use Rattle.tree_machine.specs.Moves.{note, stop, with_peak}
 use Rattle.tree_machine.specs.Lists.{value_in}
 use Rattle.tree_machine.specs.Outcomes.{IsPossible, calls_behind_look, is_broken}
 use Rattle.tree_machine.specs.Plays.{may}
-use Rattle.tree_machine.specs.Stands.{FitsFormat, WritesFit}
+use Rattle.tree_machine.specs.Stands.{FitsFormat, FitTogether, WritesFit}
 use Rattle.tree_machine.proofs.GrowLemmas.{taken_book}
-use Rattle.tree_machine.proofs.WeightLemmas.{weight_of_record}
+use Rattle.tree_machine.proofs.LightLemmas.{write_is_light}
 use Rattle.tree_machine.specs.Steps.{
   Outcome,
   Well,
@@ -58,7 +58,7 @@ use Rattle.tree_machine.specs.Steps.{
   ready_for,
   replied,
   swaps_due,
-  taken_once,
+  taken_together,
 }
 use Rattle.tree_machine.proofs.FoldLemmas.{both}
 use Rattle.tree_machine.proofs.LookLemmas.{looked_admits, met_failed, met_well}
@@ -82,7 +82,7 @@ use Rattle.tree_core.specs.Steps.{IsStep}
 use Rattle.tree_core.specs.Taking.{TellsOf, TakenOver, HasLost, Spells, TakesOver, written_by}
 use Rattle.tree_core.specs.declared.admission.Taking.TheVariants.{Failed}
 use Rattle.tree_core.proofs.BoundLemmas.{rose}
-use Rattle.tree_core.proofs.TakingLemmas.{at_write}
+use Rattle.tree_core.proofs.TakingLemmas.{spelled_weighs}
 use Rattle.tree_core.proofs.TakingLists.{tells_of}
 use Rattle.disk_trait.proofs.ReadLemmas.{only_reads_start}
 use Rattle.tree_core.proofs.QuietLemmas.{quiet_step}
@@ -91,19 +91,21 @@ use Rattle.core_lists.proofs.Terms.{IsAt, CountsAs}
 -- a command's write fits the format
 pub write_fits : (op : Op) (key : Key) (rec : Rec) (n : ℕ) → Spells op key rec → IsWithin key rec → n ≡ weight key rec → least_weight ≤ n → WritesFit (kind.Admit op)
 write_fits op key rec n is within weighs least =
-    let write = written_by op in
-    let same : (P : Key → Rec → Type 0) → P key rec → P (key_of write) (record_of write) =
-    λ P holds. at_write P (key_of write) key (record_of write) rec is.key_is is.rec_is holds in
-    subst (λ (ws : List Write). AllByRecursion FitsFormat ws) (sym is.writes) (
-      record {
-        counts = is.count;
-        within = same IsWithin within;
-        tail = is.tail;
-        least = subst (λ (n : ℕ). least_weight ≤ n) (weight_of_record write) (same (λ (k : Key) (r : Rec). least_weight ≤ weight k r)
-            (subst (λ (m : ℕ). least_weight ≤ m) weighs least));
-      },
-      tt,
+    subst (λ (ws : List Write). FitTogether ws) (sym is.writes) (
+    record {
+      each = (fits, tt);
+      light = omega (arith, write_is_light (written_by op) fits, sum_by-cons weight_of (written_by op) []);
+    }
     )
+  where
+    within_here : IsWithin (key_of (written_by op)) (record_of (written_by op))
+    within_here = subst (λ (k : Key). IsWithin k (record_of (written_by op))) is.key_is (subst (λ (r : Rec). IsWithin key r) is.rec_is within)
+
+    least_here : least_weight ≤ weight_of (written_by op)
+    least_here = omega (arith, least, weighs, spelled_weighs op key rec is, ap total_weight is.writes, sum_by-cons weight_of (written_by op) [])
+
+    fits : FitsFormat (written_by op)
+    fits = record { counts = is.count; within = within_here; tail = is.tail; least = least_here }
 
 -- ---- what the next state shows
 
@@ -335,7 +337,7 @@ module _ (opening : List (Key × Value)) (seat : ℕ) (op : Op) (held : Held) (m
           (images_after opening seat op m Done wrote d after (taken_book seat (writes_of op) (ready_for w m) ∙ (ready_carries w m is.stands.paced.stands.sound (has_way opening m is.stands.paced)).book) images)
         where
           wrote : Machine
-          wrote = with_peak (taken_once seat (writes_of op) (ready_for w m))
+          wrote = with_peak (taken_together seat (writes_of op) (ready_for w m))
 
           next : Machine
           next = note seat op Done wrote

@@ -4,12 +4,11 @@ use Rattle.std.proofs.lemmas.Grind.{common_steps}
 use Rattle.std.proofs.lemmas.Bool.Decides.{nat_tests}
 use Rattle.std.proofs.Common.{◌∙◌, ap, arith}
 use Rattle.std.proofs.lemmas.Bool.{eqb-true, eq-eqb}
-use Rattle.blsm_model.specs.declared.key.Key.{Key}
 use Rattle.blsm_model.specs.declared.row.Row.{Row}
 use Rattle.blsm_model.specs.declared.row.Value.{Value}
 use Rattle.disk_trait.specs.Disk.{DiskState}
-use Rattle.record_delta.specs.declared.record.Rec.{Rec}
-use Rattle.record_delta.specs.Records.{weight}
+use Rattle.blsm_model.specs.declared.key.Key.{Key}
+use Rattle.record_delta.specs.Entries.{Entries, entries_weight}
 use Rattle.seat_book.specs.State.{BookState}
 use Rattle.tree_machine.specs.Machine.{Machine, deep_done, pass_done}
 use Rattle.tree_machine.specs.Steps.{one_if, swaps_due}
@@ -58,10 +57,11 @@ begun_append w old new r =
 pub lost_before : (old new : Held) → ((new ≡ old) × IsDeepDone old) ⊎ (SettlesDeep old new × IsPassDone new) → version new < version old + swaps_due_in old
 lost_before old new lost = grind (arith, common_steps, nat_tests)
 
-pub begun_by : (begun : Bool) (seat : ℕ) (key : Key) (rec : Rec) (old new : Held) (b : BookState) (after : DiskState) → Takes (taking.Failed begun) seat key rec old new after
+pub begun_by : (begun : Bool) (seat : ℕ) (more : Entries) (old new : Held) (b : BookState) (after : DiskState)
+    → Takes (taking.Failed begun) seat more old new after
     → HasBegun (ruling.Fault begun) old (with_book b new)
-begun_by true seat key rec old new b after r = begun_append (weight key rec) old new r
-begun_by false seat key rec old new b after lost = lost_before old new lost
+begun_by true seat more old new b after r = begun_append (entries_weight more) old new r
+begun_by false seat more old new b after lost = lost_before old new lost
 
 -- ---- by the machine
 

@@ -28,8 +28,7 @@ use Rattle.disk_trait.specs.Region.{Region, IsSameOutside}
 use Rattle.gear_sched.specs.declared.Plan.{Plan}
 use Rattle.pacing.specs.Steps.{Move}
 use Rattle.page_file.specs.declared.file.Broken.{Broken}
-use Rattle.record_delta.specs.Entries.{entries_weight}
-use Rattle.record_delta.specs.declared.record.Rec.{Rec}
+use Rattle.record_delta.specs.Entries.{Entries, entries_weight}
 use Rattle.scan_view.specs.Hold.{HoldState}
 use Rattle.scan_view.specs.Holds.{hold_of, pages_behind}
 use Rattle.scan_view.specs.Pins.{beside_pins}
@@ -72,7 +71,7 @@ use Rattle.tree_machine.specs.Steps.{
   reply_unless,
   ready_for,
   swaps_due,
-  taken_once,
+  taken_together,
   unless_stopped,
   work_turning,
   worker_turning,
@@ -126,7 +125,7 @@ deep_swap_keeps m = either (deep_done m) m (swap_deep m) m (record { holds = ref
 ready_keeps : (w : ℕ) (m : Machine) → Keeps m (ready_for w m)
 ready_keeps w m = grind (arith, common_steps, nat_tests)
 
-taking_keeps : (seat : ℕ) (ws : List Write) (m : Machine) → Keeps m (taken_once seat ws m)
+taking_keeps : (seat : ℕ) (ws : List Write) (m : Machine) → Keeps m (taken_together seat ws m)
 taking_keeps seat ws m = grind (arith, common_steps, nat_tests)
 
 admission_keeps : (m : Machine) (seat : ℕ) (op : Op) (outcome : Outcome) → Keeps m (admit m seat op outcome).state
@@ -134,7 +133,7 @@ admission_keeps m seat op outcome =
     unless m.stopped seat op m _
     (refused (refused_first m op outcome))
   where
-    done : Keeps m (taken_once seat (writes_of op) (ready_for (total_weight (writes_of op)) m))
+    done : Keeps m (taken_together seat (writes_of op) (ready_for (total_weight (writes_of op)) m))
     done = both m (ready_for (total_weight (writes_of op)) m) _ (ready_keeps (total_weight (writes_of op)) m) (taking_keeps seat (writes_of op) (ready_for (total_weight (writes_of op)) m))
 
     by : (o : Outcome) → Keeps m (admit_fitting m seat op (total_weight (writes_of op)) o).state
@@ -279,14 +278,17 @@ readied_keeps_pins w old new is =
     subst (λ (h : Held). KeepsPins 0 old h) (sym is.begun)
     (then_pins old is.ready (begun_in w is.ready) (then_pins old is.settled is.ready (deep_keeps_pins old is.settled is.deep) (pass_keeps_pins is.settled is.ready is.pass)) (begin_keeps_pins w is.ready))
 
-write_keeps_pins : (seat : ℕ) (key : Key) (rec : Rec) (old new : Held) → WritesIn seat key rec old new → KeepsPins 0 old new
-write_keeps_pins seat key rec old new is = grind (arith, common_steps, nat_tests)
+write_keeps_pins : (seat : ℕ) (more : Entries) (old new : Held) → WritesIn seat more old new → KeepsPins 0 old new
+write_keeps_pins seat more old new is = grind (arith, common_steps, nat_tests)
 
 -- an admission, however its write was taken
-pub taking_keeps_pins : (t : Taking) (seat : ℕ) (key : Key) (rec : Rec) (old new : Held) (after : DiskState) → Takes t seat key rec old new after → KeepsPins 0 old new
-taking_keeps_pins Taken seat key rec old new after is = then_pins old is.0 new (readied_keeps_pins _ old is.0 is.1) (write_keeps_pins seat key rec is.0 new is.2)
-taking_keeps_pins (Failed true) seat key rec old new after is = readied_keeps_pins _ old new is
-taking_keeps_pins (Failed false) seat key rec old new after is = ⊎_elim (λ still. same_pins old new still.0) (λ settled. deep_keeps_pins old new settled.0) is
+pub taking_keeps_pins : (t : Taking) (seat : ℕ) (more : Entries) (old new : Held) (after : DiskState) → Takes t seat more old new after
+    → KeepsPins 0 old new
+taking_keeps_pins Taken seat more old new after is = then_pins old is.0 new (readied_keeps_pins _ old is.0 is.1)
+    (write_keeps_pins seat more is.0 new is.2)
+taking_keeps_pins (Failed true) seat more old new after is = readied_keeps_pins _ old new is
+taking_keeps_pins (Failed false) seat more old new after is = ⊎_elim (λ still. same_pins old new still.0)
+    (λ settled. deep_keeps_pins old new settled.0) is
 
 -- a payment's quantum
 pub quantum_keeps_pins : (p : Plan) (result : Result ℕ Broken) (seat : ℕ) (old new : Held) → IfOk result (λ n. TakesByPlan p seat n old new) → KeepsAllButMerges (IsErr result) old new → KeepsPins 0 old new

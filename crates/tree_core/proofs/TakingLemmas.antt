@@ -1,8 +1,9 @@
 -- What the moves of an admission require and leave, on every disk.
-use Rattle.std.specs.Prelude.{is_ok, is_err, OnOk, OnErr, Result}
+use Rattle.std.specs.Prelude.{is_ok, is_err, length, OnOk, OnErr, Result}
+use Rattle.std.specs.List.{AllByRecursion}
 use Rattle.std.proofs.lemmas.Grind.{common_steps}
 use Rattle.std.proofs.lemmas.Bool.Decides.{nat_tests}
-use Rattle.std.proofs.Common.{◌≡◌, ◌∙◌, ℕ, ◌+◌, ◌≤◌, List, [], ◌∷◌, true, false, ap, sym, subst, arith}
+use Rattle.std.proofs.Common.{◌≡◌, ◌∙◌, ℕ, ◌+◌, ◌≤◌, List, [], ◌∷◌, true, false, refl, ap, sym, subst, arith}
 use Rattle.refusal.specs.Count.{HasRisen}
 use Rattle.disk_trait.specs.Disk.{DiskState, TellsFaults}
 use Rattle.disk_trait.specs.Effects.{Affects}
@@ -17,16 +18,21 @@ use Rattle.blsm_model.specs.declared.key.Key.{Key}
 use Rattle.blsm_model.specs.declared.op.Op.{Op}
 use Rattle.blsm_model.specs.declared.op.Write.{Write}
 use Rattle.blsm_model.specs.Histories.{writes_of}
-use Rattle.blsm_model.specs.Legal.{total_weight}
-use Rattle.blsm_model.specs.Values.{key_of}
+use Rattle.blsm_model.specs.Legal.{is_write, total_weight}
+use Rattle.blsm_model.specs.Format.{least_weight}
+use Rattle.blsm_model.proofs.OpLemmas.{writes_some}
 use Rattle.record_delta.specs.Records.{record_of, weight}
-use Rattle.paced_tree.proofs.Admissions.{writes_once}
-use Rattle.tree_machine.proofs.WeightLemmas.{weight_of_record}
+use Rattle.record_delta.specs.Entries.{Entries, entries_weight}
+use Rattle.record_delta.specs.Several.{entries_of}
+use Rattle.tree_machine.specs.Stands.{FitsFormat, FitTogether}
+use Rattle.tree_machine.proofs.WeightLemmas.{weigh_first, weight_of_entries, weight_of_record}
 use Rattle.record_delta.specs.declared.record.Rec.{Rec}
 use Rattle.tree_runs.specs.Runs.{AreRunning}
 use Rattle.core_moves.specs.declared.held.Held.{Held}
 use Rattle.core_moves.specs.Needs.{IsOn, WriteFits}
 use Rattle.core_moves.specs.Moves.{begun_in}
+use Rattle.core_pace.specs.Events.{AreWritten}
+use Rattle.core_pace.proofs.WriteLemmas.{are_written}
 use Rattle.tree_core.specs.Taking.{Spells, written_by}
 use Rattle.tree_core.proofs.KeepLemmas.{KeepsPins}
 
@@ -65,23 +71,40 @@ begun_on w held begun d is on running = record {
   long = λ tells. on.long tells ∙ ap file_length (sym (ap (λ (h : Held). h.runs.sizes) is ∙ (begun_keeps w held).sizes));
 }
 
--- ---- the write
+-- ---- what is written
 
-pub fits_as : (key key' : Key) (rec rec' : Rec) (held held' : Held) → key' ≡ key → rec' ≡ rec → held' ≡ held → WriteFits key rec held → WriteFits key' rec' held'
-fits_as key key' rec rec' held held' same_key same_rec same fits = grind (arith, common_steps, nat_tests)
+pub fits_as : (more more' : Entries) (held held' : Held) → more' ≡ more → held' ≡ held → WriteFits more held → WriteFits more' held'
+fits_as more more' held held' same_entries same fits =
+    subst (λ (es : Entries). WriteFits es held') (sym same_entries) (subst (λ (h : Held). WriteFits more h) (sym same) fits)
 
--- a write weighs as its record does
-pub weighs : (op : Op) (write : Write) → writes_of op ≡ write ∷ [] → total_weight (writes_of op) ≡ weight (key_of write) (record_of write)
-weighs op write writes = writes_once op write [] writes ∙ sym (weight_of_record write)
+-- writes weigh as their entries do, and are as many
+pub weighs : (op : Op) → total_weight (writes_of op) ≡ entries_weight (entries_of (writes_of op))
+weighs op = sym (weight_of_entries (writes_of op))
 
-pub at_write : (P : Key → Rec → Type 0) (key key' : Key) (rec rec' : Rec) → key' ≡ key → rec' ≡ rec → P key' rec' → P key rec
-at_write P key key' rec rec' same_key same_rec holds = subst (λ (k : Key). P k rec) same_key (subst (λ (r : Rec). P key' r) same_rec holds)
+pub as_many : (ws : List Write) → length (entries_of ws) ≡ length ws
+as_many [] = refl
+as_many (w ∷ ws) = omega (arith, as_many ws)
+
+-- those that fit the format take little beside their weight
+entries_light : (ws : List Write) → AllByRecursion FitsFormat ws → AllByRecursion (λ e. least_weight ≤ weight e.0 e.1) (entries_of ws)
+entries_light [] fit = tt
+entries_light (w ∷ ws) fit = (omega (arith, fit.0.least, weight_of_record w), entries_light ws fit.1)
+
+pub are_some : (op : Op) → is_write op ≡ true → 1 ≤ length (writes_of op)
+are_some op writing = let some = writes_some op writing in omega (arith, ap (λ (ws : List Write). length ws) some.2)
+
+pub writes_written : (op : Op) → is_write op ≡ true → FitTogether (writes_of op) → AreWritten (entries_of (writes_of op))
+writes_written op writing fits =
+    are_written (entries_of (writes_of op)) (omega (arith, are_some op writing, as_many (writes_of op))) (entries_light (writes_of op) fits.each)
+
+-- what a command's key and record are
+pub spelled : (op : Op) (key : Key) (rec : Rec) → Spells op key rec → entries_of (writes_of op) ≡ (key, rec) ∷ []
+spelled op key rec is =
+    ap entries_of is.writes ∙ ap (λ (k : Key). (k, record_of (written_by op)) ∷ []) (sym is.key_is) ∙ ap (λ (r : Rec). (key, r) ∷ []) (sym is.rec_is)
 
 -- so what it spells weighs what it writes
 pub spelled_weighs : (op : Op) (key : Key) (rec : Rec) → Spells op key rec → weight key rec ≡ total_weight (writes_of op)
-spelled_weighs op key rec is =
-    at_write (λ (k : Key) (r : Rec). weight k r ≡ total_weight (writes_of op)) key (key_of (written_by op)) rec (record_of (written_by op)) (sym is.key_is)
-    (sym is.rec_is) (sym (weighs op (written_by op) is.writes))
+spelled_weighs op key rec is = omega (arith, weighs op, ap entries_weight (spelled op key rec is), weigh_first (key, rec) [])
 
 -- ---- the calls together
 

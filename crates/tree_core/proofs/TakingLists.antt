@@ -1,11 +1,10 @@
--- What the images show of a write that is taken, on an honest disk.
+-- What the images show of a command's writes that are taken, on an honest disk.
 use Rattle.std.specs.Prelude.{false, is_ok, is_err, OnOk, Result}
 use Rattle.std.proofs.Common.{◌≡◌, ◌∙◌, ◌⊎◌, inl, inr, ⊎_elim, ℕ, ◌+◌, ◌≤◌, Bool, true, None, IsTrue, List, [], ◌∷◌, length, refl, ap, sym, subst, arith}
 use Rattle.blsm_model.specs.Sizes.{Sizes}
 use Rattle.blsm_model.specs.declared.key.Key.{Key}
 use Rattle.blsm_model.specs.declared.row.Value.{Value}
 use Rattle.blsm_model.specs.declared.op.Op.{Op}
-use Rattle.blsm_model.specs.declared.op.Write.{Write}
 use Rattle.blsm_model.specs.declared.history.Entry.{Entry}
 use Rattle.blsm_model.specs.declared.history.Reply.{Reply}
 use Rattle.blsm_model.specs.declared.history.Reply.TheVariants.{Done, FaultUnsure}
@@ -13,12 +12,11 @@ use Rattle.blsm_model.specs.Geometry.{charge_limit}
 use Rattle.blsm_model.specs.Histories.{is_met, writes_of}
 use Rattle.tree_machine.specs.Lists.{value_in}
 use Rattle.blsm_model.specs.Legal.{total_weight, is_del}
-use Rattle.blsm_model.specs.Values.{key_of}
 use Rattle.disk_trait.specs.Disk.{DiskState}
 use Rattle.disk_trait.specs.Moments.{LeavesOnly}
 use Rattle.disk_trait.proofs.MomentLemmas.{leaves_only_run, leaves_only_weaken}
-use Rattle.record_delta.specs.declared.record.Rec.{Rec}
-use Rattle.record_delta.specs.Records.{record_of}
+use Rattle.record_delta.specs.Entries.{Entries}
+use Rattle.record_delta.specs.Several.{entries_of}
 use Rattle.gear_sched.specs.Gears.{GearState}
 use Rattle.pacing.specs.Pace.{Pace}
 use Rattle.pacing.specs.Fronts.{Fronts}
@@ -27,10 +25,10 @@ use Rattle.seat_book.specs.State.{BookState}
 use Rattle.tree_machine.specs.declared.step.Kind.TheVariants as kind
 use Rattle.tree_machine.specs.Layers.{IsSound}
 use Rattle.tree_machine.specs.Machine.{Machine}
-use Rattle.tree_machine.specs.Moves.{take_write, with_peak}
+use Rattle.tree_machine.specs.Moves.{take_writes, with_peak}
 use Rattle.tree_machine.specs.Plays.{may}
 use Rattle.tree_machine.specs.Stands.{WritesFit}
-use Rattle.tree_machine.specs.Steps.{deep_swapped, ready_for, taken_once}
+use Rattle.tree_machine.specs.Steps.{deep_swapped, ready_for}
 use Rattle.tree_machine.proofs.CarryLemmas.{deep_swapped_carries, ready_carries}
 use Rattle.paced_tree.proofs.Promises.{has_way}
 use Rattle.tree_file.specs.Tree.{Tree, HoldsTree}
@@ -48,7 +46,7 @@ use Rattle.core_lists.specs.Admissions.{DeepSettlesTree}
 use Rattle.core_lists.specs.Images.{ShowsNoted, history_with}
 use Rattle.core_lists.proofs.AdmissionLands.{deep_settling_lands, readying_lands}
 use Rattle.core_lists.proofs.WeighLemmas.{all_ahead}
-use Rattle.core_lists.proofs.WriteLands.{write_lands}
+use Rattle.core_lists.proofs.WriteLands.{takes_all, writes_land}
 use Rattle.core_lists.proofs.ShowingLemmas.{standing_shows, settled_shows, swapped_shows, showing_is_kept, prefix_self}
 use Rattle.core_lists.proofs.ImageLemmas.{settled_fronts, ready_fronts, deep_swap_images, pass_swap_images}
 use Rattle.core_lists.proofs.AppendLemmas.{append_shows, unsure_shows}
@@ -79,10 +77,10 @@ PassLeaves old new ok before after = (tree : Tree) → IsTrue before.is_honest �
 abbrev pub LeavesWhole : List (Key × Value) → Machine → DiskState → DiskState → Type 0
 LeavesWhole opening m before after = LeavesOnly before after (ShowsWhole opening m) × ShowsWhole opening m after.bytes
 
--- The write's entry is appended, or the append fails.
-abbrev pub Appends : Key → Rec → Held → Bool → DiskState → DiskState → Type 0
-Appends key rec begun ok before after = (tree : Tree) → IsTrue before.is_honest → IsLogOf tree begun.log → StandOver begun.runs tree before
-    → Becomes begun.runs.sizes tree (appended (goes_ahead key begun) (key, rec) tree) ok before after
+-- A record of these entries is appended, or the append fails.
+abbrev pub Appends : Entries → Held → Bool → DiskState → DiskState → Type 0
+Appends more begun ok before after = (tree : Tree) → IsTrue before.is_honest → IsLogOf tree begun.log → StandOver begun.runs tree before
+    → Becomes begun.runs.sizes tree (appended (goes_ahead more begun) more tree) ok before after
 
 -- what an admission begins with
 pub record Begins (opening : List (Key × Value)) (old : Held) (m : Machine) (d : DiskState) : Type 0 where
@@ -261,15 +259,16 @@ begun_by r w n settled ready begun mid last ok settles turns leaves same is_begu
 }
 
 -- the seat may write, the write's condition holds, and there is room
-pub record MayTake (seat : ℕ) (op : Op) (write : Write) (old : Held) (m : Machine) : Type 0 where
+pub record MayTake (seat : ℕ) (op : Op) (old : Held) (m : Machine) : Type 0 where
   pub may : IsTrue (may m seat (kind.Admit op))
   pub fits : WritesFit (kind.Admit op)
-  pub writes : writes_of op ≡ write ∷ []
+  pub some : 1 ≤ length (writes_of op)
   pub met : is_met op (value_in m.lists) ≡ true
   pub room : charge_in old + total_weight (writes_of op) ≤ charge_limit old.runs.sizes (is_del op)
 
 module _ (opening : List (Key × Value)) (old : Held) (m : Machine) (d : DiskState) (is : Begins opening old m d) (settled : Held) (mid : DiskState) (has : HasSettled old settled d mid)
-    (seat : ℕ) (op : Op) (write : Write) (takes : MayTake seat op write old m) (ready begun : Held) (last : DiskState) (then : HasBegun (total_weight (writes_of op)) settled ready begun mid last) where
+    (seat : ℕ) (op : Op) (takes : MayTake seat op old m) (ready begun : Held) (last : DiskState)
+    (then : HasBegun (total_weight (writes_of op)) settled ready begun mid last) where
   abbrev w : ℕ
   w = total_weight (writes_of op)
 
@@ -328,14 +327,14 @@ module _ (opening : List (Key × Value)) (old : Held) (m : Machine) (d : DiskSta
     are_of = at_begun.are_of;
   }
 
-  may_append : MayAppend opening m limits seat op write begun next
+  may_append : MayAppend opening m limits seat op begun next
   may_append = record {
     paced = is.stands.paced;
     within = (is.stands.runs is.runs).within;
     runs = stopped_is opening old m d is;
     may = takes.may;
     fits = takes.fits;
-    writes = takes.writes;
+    some = takes.some;
     met = takes.met;
     room = subst (λ (n : ℕ). n + w ≤ charge_limit m.gears.sizes (is_del op)) (sym is.stands.charge_is)
         (subst (λ (s : Sizes). charge_in old + w ≤ charge_limit s (is_del op)) (sym is.stands.sizes) takes.room);
@@ -360,36 +359,39 @@ module _ (opening : List (Key × Value)) (old : Held) (m : Machine) (d : DiskSta
   fewer reply image shows = showing_is_kept m.gears.sizes opening (history_with seat op reply m) (history_with seat op reply m) (length m.book.entries + 1) (length m.book.entries) image (prefix_self (history_with seat op reply m)) (omega arith) shows
 
   abbrev appended_tree : Tree
-  appended_tree = with_appended write begun next
+  appended_tree = with_appended (writes_of op) begun next
 
   done_shows : (image : List ℕ) → HoldsEither begun.runs.sizes next appended_tree image → Shows_with Done (length m.book.entries) image
   done_shows image either = ⊎_elim
       (λ holds. without Done image (swapped_shows opening m limits next image is.stands.paced start.within readied.after_pass.holds.lists may_append.lanes holds))
-      (λ holds. fewer Done image (append_shows opening m limits seat op write begun next image may_append holds))
+      (λ holds. fewer Done image (append_shows opening m limits seat op begun next image may_append holds))
       (subst (λ (s : Sizes). HoldsEither s next appended_tree image) sizes_begun either)
 
   doubt_shows : (image : List ℕ) → HoldsEither begun.runs.sizes next appended_tree image → ShowsNoted opening seat op FaultUnsure m image
-  doubt_shows image either = unsure_shows opening m limits seat op write begun next image may_append (subst (λ (s : Sizes). HoldsEither s next appended_tree image) sizes_begun either)
+  doubt_shows image either = unsure_shows opening m limits seat op begun next image may_append
+      (subst (λ (s : Sizes). HoldsEither s next appended_tree image) sizes_begun either)
 
   -- an append commits nothing
-  same_catalogue : (b : Bool) → (appended b (key_of write, record_of write) next).catalogue.version ≡ next.catalogue.version
+  same_catalogue : (b : Bool) → (appended b (entries_of (writes_of op)) next).catalogue.version ≡ next.catalogue.version
   same_catalogue true = refl
   same_catalogue false = refl
 
   version_begun : next.catalogue.version ≡ (ready_for w m).catalogue.version
   version_begun = version_of begun next (ready_for w m) last.bytes at_begun.are_of at_begun.holds
 
-  becomes : (ok : Bool) (after : DiskState) → Appends (key_of write) (record_of write) begun ok last after → Becomes begun.runs.sizes next appended_tree ok last after
+  becomes : (ok : Bool) (after : DiskState) → Appends (entries_of (writes_of op)) begun ok last after
+      → Becomes begun.runs.sizes next appended_tree ok last after
   becomes ok after appends = appends next (then.honest (has.honest is.honest)) at_begun.holds.of_log over_begun
 
-  pub done_leaves : (after : DiskState) → Appends (key_of write) (record_of write) begun true last after → LeavesOnly d after (Shows_with Done (length m.book.entries))
+  pub done_leaves : (after : DiskState) → Appends (entries_of (writes_of op)) begun true last after
+      → LeavesOnly d after (Shows_with Done (length m.book.entries))
   done_leaves after appends = leaves_only_run (leaves_only_weaken (without Done) before.0) (leaves_only_weaken done_shows (becomes true after appends).each)
 
   -- what the moves before the write have made
   begun_between : IsBetween (begun_in w ready) (pace_ready_for is.numbers w)
   begun_between = (moves_are_told old settled ready is.numbers w is.paced has.deep then.pass).1
 
-  pub doubt_leaves : (new : Held) → new ≡ begun → (ok : Bool) (after : DiskState) → Appends (key_of write) (record_of write) begun ok last after
+  pub doubt_leaves : (new : Held) → new ≡ begun → (ok : Bool) (after : DiskState) → Appends (entries_of (writes_of op)) begun ok last after
       → TellsOf new (ready_for w m) × LeavesOnly d after (Shows_with FaultUnsure (length m.book.entries)) × ((c : List ℕ) → after.images c → ShowsNoted opening seat op FaultUnsure m c) × ShowsNoted opening seat op FaultUnsure m after.bytes
       × CommitsAs (ready_for w m) after
   doubt_leaves new same ok after appends =
@@ -401,24 +403,28 @@ module _ (opening : List (Key × Value)) (old : Held) (m : Machine) (d : DiskSta
         (λ c here. doubt_shows c (left.either.each c here)),
         doubt_shows after.bytes left.either.reads,
         either_commits (ready_for w m).gears.sizes begun.runs.sizes (ready_for w m).catalogue.version next appended_tree after
-            ((ready_carries w m is.stands.paced.stands.sound (has_way opening m is.stands.paced)).sizes ∙ sym sizes_begun) version_begun (inl (same_catalogue (goes_ahead (key_of write) begun))) left.either,
+            ((ready_carries w m is.stands.paced.stands.sound (has_way opening m is.stands.paced)).sizes ∙ sym sizes_begun) version_begun
+            (inl (same_catalogue (goes_ahead (entries_of (writes_of op)) begun))) left.either,
       )
 
   -- the write is the machine's
-  pub writes_over : (new : Held) (after : DiskState) → WritesIn seat (key_of write) (record_of write) begun new
-      → ((tree : Tree) → IsLogOf tree begun.log → IsLogOf (appended (goes_ahead (key_of write) begun) (key_of write, record_of write) tree) new.log)
+  pub writes_over : (new : Held) (after : DiskState) → WritesIn seat (entries_of (writes_of op)) begun new
+      → ((tree : Tree) → IsLogOf tree begun.log
+      → IsLogOf (appended (goes_ahead (entries_of (writes_of op)) begun) (entries_of (writes_of op)) tree) new.log)
       → ((tree : Tree) → IsTrue last.is_honest → IsLogOf tree begun.log → StandOver begun.runs tree last
-      → StandOver new.runs (appended (goes_ahead (key_of write) begun) (key_of write, record_of write) tree) after)
+      → StandOver new.runs (appended (goes_ahead (entries_of (writes_of op)) begun) (entries_of (writes_of op)) tree) after)
       → TakenOver opening seat op m new after
   writes_over new after writes of_log stands =
       let over_new = stands next (then.honest (has.honest is.honest)) at_begun.holds.of_log over_begun in
-      let wrote : IsAt new appended_tree (with_peak (take_write seat write (ready_for w m))) after.bytes =
-      write_lands seat write begun new next (ready_for w m) last.bytes after.bytes at_begun (ready_carries w m is.stands.paced.stands.sound (has_way opening m is.stands.paced)).sound writes (of_log next) over_new.are_of in
-      let goes = admission_goes_on opening m limits seat op write begun next may_append in
+      let wrote : IsAt new appended_tree (with_peak (take_writes seat (writes_of op) (ready_for w m))) after.bytes =
+      writes_land seat (writes_of op) begun new next (ready_for w m) last.bytes after.bytes at_begun
+      (ready_carries w m is.stands.paced.stands.sound (has_way opening m is.stands.paced)).sound writes (of_log next) over_new.are_of in
+      let goes = admission_goes_on opening m limits seat op begun next may_append in
       record {
         tree = appended_tree;
         fronts = goes.0;
         over = over_new;
-        holds = subst (λ (ws : List Write). HoldsMachine new appended_tree (with_peak (taken_once seat ws (ready_for w m)))) (sym takes.writes) wrote.holds;
+        holds = subst (λ (n : Machine). HoldsMachine new appended_tree (with_peak n)) (sym (takes_all seat (writes_of op) (ready_for w m) takes.some))
+            wrote.holds;
         goes = goes.1;
       }

@@ -14,12 +14,13 @@ use Rattle.blsm_model.specs.Values.{added_count, key_of}
 use Rattle.disk_trait.specs.Disk.{DiskState}
 use Rattle.disk_trait.specs.Moments.{LeavesOnly}
 use Rattle.record_delta.specs.declared.record.Rec.{Rec}
-use Rattle.record_delta.specs.Records.{record_of, weight}
+use Rattle.record_delta.specs.Records.{record_of}
+use Rattle.record_delta.specs.Entries.{Entries, entries_weight}
 use Rattle.pacing.specs.Pace.{Pace}
 use Rattle.pacing.specs.Fronts.{Fronts}
 use Rattle.tree_machine.specs.Machine.{Machine, charge, deep_done, pass_done}
 use Rattle.tree_machine.specs.Moves.{with_peak}
-use Rattle.tree_machine.specs.Steps.{Well, admit, deep_swapped, ready_for, taken_once}
+use Rattle.tree_machine.specs.Steps.{Well, admit, deep_swapped, ready_for, taken_together}
 use Rattle.seat_book.specs.State.{book_of}
 use Rattle.tree_file.specs.Tree.{Tree}
 use Rattle.tree_runs.specs.Holding.{StandOver, IsPassSwapped}
@@ -57,7 +58,7 @@ pub record PassMakesTree (old : Held) (tree next : Tree) : Type 0 where
   pub done : IsPassDone old → IsPassSwapped (is_run_full old) tree next
   pub rests : (IsPassDone old → ⊥) → next ≡ tree
 
--- What stands when the write is to be appended, after the swaps that were due and the begin.
+-- What stands when what the command writes is to be appended, after the swaps that were due and the begin.
 pub record IsReadied (w : ℕ) (old new : Held) : Type 0 where
   pub settled : Held
   pub ready : Held
@@ -65,11 +66,11 @@ pub record IsReadied (w : ℕ) (old new : Held) : Type 0 where
   pub pass : SettlesPass settled ready
   pub begun : new ≡ begun_in w ready
 
--- A write that there is room for, by its answer: it was taken; a swap failed; or its append.
-abbrev pub Takes : Taking → ℕ → Key → Rec → Held → Held → DiskState → Type 0
-Takes Taken seat key rec old new after = (begun : Held) × IsReadied (weight key rec) old begun × WritesIn seat key rec begun new × IsOn new after
-Takes (Failed true) seat key rec old new after = IsReadied (weight key rec) old new
-Takes (Failed false) seat key rec old new after = ((new ≡ old) × IsDeepDone old) ⊎ (SettlesDeep old new × IsPassDone new)
+-- Writes that there is room for, by the answer: they were taken; a swap failed; or their append.
+abbrev pub Takes : Taking → ℕ → Entries → Held → Held → DiskState → Type 0
+Takes Taken seat more old new after = (begun : Held) × IsReadied (entries_weight more) old begun × WritesIn seat more begun new × IsOn new after
+Takes (Failed true) seat more old new after = IsReadied (entries_weight more) old new
+Takes (Failed false) seat more old new after = ((new ≡ old) × IsDeepDone old) ⊎ (SettlesDeep old new × IsPassDone new)
 
 -- What the core has in memory is of this state of the machine.
 pub record TellsOf (held : Held) (m : Machine) : Type 0 where
@@ -83,7 +84,7 @@ pub record TakenOver (opening : List (Key × Value)) (seat : ℕ) (op : Op) (m :
   pub tree : Tree
   pub fronts : Fronts
   pub over : StandOver new.runs tree after
-  pub holds : HoldsMachine new tree (with_peak (taken_once seat (writes_of op) (ready_for (total_weight (writes_of op)) m)))
+  pub holds : HoldsMachine new tree (with_peak (taken_together seat (writes_of op) (ready_for (total_weight (writes_of op)) m)))
   pub goes : GoesOn opening (admit m seat op Well).state fronts tree
 
 -- Where a swap failed, it was due: that of the deep merge, or that of the pass after it. No other commit was made.

@@ -9,10 +9,9 @@ ghost use Rattle.blsm_model.specs.Format.{least_weight, most_weight};
 ghost use Rattle.blsm_model.specs.Geometry.{file_length};
 ghost use Rattle.blsm_model.specs.Histories.{is_met, looks_first, writes_of};
 ghost use Rattle.blsm_model.specs.Legal.{TailsFit, is_write, total_weight, is_del};
-ghost use Rattle.blsm_model.specs.Values.{key_of};
 ghost use Rattle.disk_trait.specs.Effects.{Affects};
 ghost use Rattle.gear_sched.specs.Gears.{first_debt, second_debt};
-ghost use Rattle.record_delta.specs.Records.{record_of};
+ghost use Rattle.record_delta.specs.Several.{entries_of};
 ghost use Rattle.seat_book.specs.State.{may_note_in, noted_in};
 ghost use Rattle.scan_view.specs.Pins.{beside_pins};
 ghost use Rattle.tree_machine.specs.declared.step.Kind.TheVariants as kind;
@@ -31,7 +30,7 @@ ghost use Rattle.tree_core.specs.Causes.{CountsFirst, Finds, IsAbout, Tries, cal
 ghost use Rattle.tree_core.specs.Ruling.{ruled_by};
 ghost use Rattle.tree_core.specs.Clock.{EndsTaken};
 ghost use Rattle.tree_core.specs.Standing.{AnyRows, StandsFor};
-ghost use Rattle.tree_core.specs.Taking.{Runs, Spells, Takes, TakesOver, TellsTaking, written_by};
+ghost use Rattle.tree_core.specs.Taking.{Runs, Spells, Takes, TakesOver, TellsTaking};
 
 use crate::lookup::look_up;
 use crate::settling::{settle_deep, settle_pass};
@@ -81,7 +80,8 @@ fn take<D: Disk>(held: &mut Held, disk: &mut D, seat: u32, op: &Op, key: &Key, r
     requires is_write { IsTrue (is_write op.now) }
     requires spelled { Spells op.now key.now rec.now }
     requires may { MayWrite seat (total_weight (writes_of op.now)) op.now held.old }
-    ensures takes { Takes result seat (key_of (written_by op.now)) (record_of (written_by op.now)) held.old held.new (D.state disk.new) }
+    requires fits { WritesFit (kind.Admit op.now) }
+    ensures takes { Takes result seat (entries_of (writes_of op.now)) held.old held.new (D.state disk.new) }
     ensures lists { (opening : List (Key × Value)) (m : Machine) → IsTrue (D.state disk.old).is_honest → StandsFor AnyRows opening held.old m (D.state disk.old)
         → held.old.book.stopped ≡ None → IsTrue (may m seat (kind.Admit op.now)) → WritesFit (kind.Admit op.now) → IsTrue
         (is_met op.now (value_in m.lists))

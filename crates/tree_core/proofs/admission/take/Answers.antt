@@ -1,14 +1,12 @@
-use Rattle.std.specs.Prelude.{is_ok, IsTrue}
+use Rattle.std.specs.Prelude.{is_ok, [], ◌∷◌, IsTrue}
 use Rattle.std.proofs.Common.{◌≡◌, ◌∙◌, inl, inr, ℕ, ◌+◌, ◌*◌, true, false, ap, sym, subst, arith}
 use Rattle.refusal.specs.Count.{HasRisen}
-use Rattle.blsm_model.specs.declared.key.Key.{Key}
 use Rattle.blsm_model.specs.Histories.{writes_of}
 use Rattle.blsm_model.specs.Legal.{total_weight}
-use Rattle.blsm_model.specs.Values.{key_of}
 use Rattle.gear_sched.specs.Gears.{first_debt, second_debt}
 use Rattle.disk_trait.proofs.EffectLemmas.{affects_wider}
-use Rattle.record_delta.specs.declared.record.Rec.{Rec}
-use Rattle.record_delta.specs.Records.{record_of, weight}
+use Rattle.record_delta.specs.Entries.{Entries, entries_weight}
+use Rattle.record_delta.specs.Several.{entries_of}
 use Rattle.pacing.specs.Steps.{deep_settled}
 use Rattle.tree_file.specs.Tree.{Tree}
 use Rattle.tree_log.specs.Log.{IsLogOf, appended}
@@ -21,11 +19,10 @@ use Rattle.core_pace.proofs.NeedLemmas.{way_is_free}
 use Rattle.core_pace.proofs.EventLemmas.{settled_between, moves_are_told}
 use Rattle.core_pace.proofs.CallLemmas.{paced_is_between, between_is_ready, settled_is_not_done, admission_fits}
 use Rattle.tree_core.specs.Causes.{calls_to_admit, is_pass_due, one_where, swaps_due_in}
-use Rattle.tree_core.specs.Taking.{written_by}
 use Rattle.tree_core.proofs.BegunLemmas.{deep_counts}
 use Rattle.tree_core.proofs.ClockLemmas.{ends_behind}
 use Rattle.tree_core.proofs.KeepLemmas.{begin_keeps_pins, deep_keeps_pins, pass_keeps_pins, same_pins, then_pins}
-use Rattle.tree_core.proofs.TakingLemmas.{ok_of, err_of, calm_of, risen_of, begun_on, fits_as, at_write, affects_then, weighs}
+use Rattle.tree_core.proofs.TakingLemmas.{ok_of, err_of, calm_of, risen_of, are_some, begun_on, fits_as, affects_then, spelled, weighs, writes_written}
 use Rattle.tree_core.proofs.TakingLists.{Begins, MayTake, settled_by, begun_by, Appends, deep_whole, lost_deep, pass_whole, lost_pass, done_leaves, doubt_leaves, writes_over}
 use Rattle.tree_core.proofs.admission.take.Goals as goal
 
@@ -121,23 +118,26 @@ begin_for-requires g c = record { runs = (ok_of c.settle_pass.result (sym c.is_e
 
 pub write-requires-clause-settled : goal.write-requires-clause-settled
 write-requires-clause-settled g c =
-    let key = key_of (written_by c.args.op.now) in
-    let rec = record_of (written_by c.args.op.now) in
-    let is_w : total_weight (writes_of c.args.op.now) ≡ weight key rec = weighs c.args.op.now (written_by c.args.op.now) c.requires.spelled.writes in
-    let is_begun : c.begin_for.new.self ≡ begun_in (weight key rec) c.settle_pass.new.held = c.begin_for.ensures.begun ∙ ap (λ (n : ℕ). begun_in n c.settle_pass.new.held) (c.weight.ensures.weight ∙ is_w) in
+    let more = entries_of (writes_of c.args.op.now) in
+    let is_w = weighs c.args.op.now in
+    let is_begun : c.begin_for.new.self ≡ begun_in (entries_weight more) c.settle_pass.new.held =
+    c.begin_for.ensures.begun ∙ ap (λ (n : ℕ). begun_in n c.settle_pass.new.held) (c.weight.ensures.weight ∙ is_w) in
     subst (λ (h : Held). first_debt h.gears c.args.seat + second_debt h.gears c.args.seat ≡ 0) (sym is_begun)
-    (admission_fits c.args.seat c.args.op.now key rec c.args.held.now c.settle_deep.new.held c.settle_pass.new.held c.requires.runs.pace c.requires.runs.live.paced
+    (admission_fits c.args.seat c.args.op.now more c.args.held.now c.settle_deep.new.held c.settle_pass.new.held c.requires.runs.pace
+    (writes_written c.args.op.now c.requires.is_write c.requires.fits) c.requires.runs.live.paced
     (subst (λ (n : ℕ). MayWrite c.args.seat n c.args.op.now c.args.held.now) is_w c.requires.may)
     (ok_of c.settle_deep.result (sym c.is_err.ensures.value ∙ c.if-is_err.false) c.settle_deep.ensures.settles) (ok_of c.settle_pass.result (sym c.is_err-2.ensures.value ∙ c.if-is_err-2.false) c.settle_pass.ensures.settles)).settled
 
 pub write-requires-clause-fits : goal.write-requires-clause-fits
 write-requires-clause-fits g c =
-    let key = key_of (written_by c.args.op.now) in
-    let rec = record_of (written_by c.args.op.now) in
-    let is_w : total_weight (writes_of c.args.op.now) ≡ weight key rec = weighs c.args.op.now (written_by c.args.op.now) c.requires.spelled.writes in
-    let is_begun : c.begin_for.new.self ≡ begun_in (weight key rec) c.settle_pass.new.held = c.begin_for.ensures.begun ∙ ap (λ (n : ℕ). begun_in n c.settle_pass.new.held) (c.weight.ensures.weight ∙ is_w) in
-    fits_as key c.args.key.now rec c.args.rec.now (begun_in (weight key rec) c.settle_pass.new.held) c.begin_for.new.self c.requires.spelled.key_is c.requires.spelled.rec_is is_begun
-    (admission_fits c.args.seat c.args.op.now key rec c.args.held.now c.settle_deep.new.held c.settle_pass.new.held c.requires.runs.pace c.requires.runs.live.paced
+    let more = entries_of (writes_of c.args.op.now) in
+    let is_w = weighs c.args.op.now in
+    let is_begun : c.begin_for.new.self ≡ begun_in (entries_weight more) c.settle_pass.new.held =
+    c.begin_for.ensures.begun ∙ ap (λ (n : ℕ). begun_in n c.settle_pass.new.held) (c.weight.ensures.weight ∙ is_w) in
+    fits_as more ((c.args.key.now, c.args.rec.now) ∷ []) (begun_in (entries_weight more) c.settle_pass.new.held) c.begin_for.new.self
+    (sym (spelled c.args.op.now c.args.key.now c.args.rec.now c.requires.spelled)) is_begun
+    (admission_fits c.args.seat c.args.op.now more c.args.held.now c.settle_deep.new.held c.settle_pass.new.held c.requires.runs.pace
+    (writes_written c.args.op.now c.requires.is_write c.requires.fits) c.requires.runs.live.paced
     (subst (λ (n : ℕ). MayWrite c.args.seat n c.args.op.now c.args.held.now) is_w c.requires.may)
     (ok_of c.settle_deep.result (sym c.is_err.ensures.value ∙ c.if-is_err.false) c.settle_deep.ensures.settles) (ok_of c.settle_pass.result (sym c.is_err-2.ensures.value ∙ c.if-is_err-2.false) c.settle_pass.ensures.settles)).fits
 
@@ -157,9 +157,8 @@ write-requires-clause-on g c =
 
 pub returns-in-Ok-clause-takes : goal.returns-in-Ok-clause-takes
 returns-in-Ok-clause-takes g c =
-    let key = key_of (written_by c.args.op.now) in
-    let rec = record_of (written_by c.args.op.now) in
-    let is_w : total_weight (writes_of c.args.op.now) ≡ weight key rec = weighs c.args.op.now (written_by c.args.op.now) c.requires.spelled.writes in (
+    let is_w = weighs c.args.op.now in
+    let is_spelled = spelled c.args.op.now c.args.key.now c.args.rec.now c.requires.spelled in (
       c.begin_for.new.self,
       record {
         settled = c.settle_deep.new.held;
@@ -168,7 +167,7 @@ returns-in-Ok-clause-takes g c =
         pass = ok_of c.settle_pass.result (sym c.is_err-2.ensures.value ∙ c.if-is_err-2.false) c.settle_pass.ensures.settles;
         begun = c.begin_for.ensures.begun ∙ ap (λ (n : ℕ). begun_in n c.settle_pass.new.held) (c.weight.ensures.weight ∙ is_w);
       },
-      at_write (λ (k : Key) (r : Rec). WritesIn c.args.seat k r c.begin_for.new.self c.write.new.self) key c.args.key.now rec c.args.rec.now c.requires.spelled.key_is c.requires.spelled.rec_is c.in-Ok.ensures.writes,
+      subst (λ (more : Entries). WritesIn c.args.seat more c.begin_for.new.self c.write.new.self) (sym is_spelled) c.in-Ok.ensures.writes,
       c.in-Ok.ensures.on,
     )
 
@@ -184,25 +183,24 @@ returns-in-Ok-clause-lists g c = λ opening m honest stands runs may fits met.
     let mid = g.D.Disk.state c.settle_deep.new.disk in
     let last = g.D.Disk.state c.settle_pass.new.disk in
     let after = g.D.Disk.state c.write.new.disk in
-    let key = key_of (written_by c.args.op.now) in
-    let rec = record_of (written_by c.args.op.now) in
+    let is_spelled = spelled c.args.op.now c.args.key.now c.args.rec.now c.requires.spelled in
     let begins : Begins opening old m before = record { honest = honest; stands = stands; runs = runs; numbers = c.requires.runs.pace; paced = c.requires.runs.live.paced } in
     let has = settled_by c.settle_deep.result old settled before mid ok c.settle_deep.ensures.settles c.settle_deep.ensures.lists c.settle_deep.ensures.effect.goes_on.is_honest in
-    let takes : MayTake c.args.seat c.args.op.now (written_by c.args.op.now) old m = record
-    { may = may; fits = fits; writes = c.requires.spelled.writes; met = met; room = c.requires.may.room } in
+    let takes : MayTake c.args.seat c.args.op.now old m = record
+    { may = may; fits = fits; some = are_some c.args.op.now c.requires.is_write; met = met; room = c.requires.may.room } in
     let then = begun_by c.settle_pass.result (total_weight (writes_of c.args.op.now)) c.weight.result settled ready begun mid last ok_then c.settle_pass.ensures.settles c.settle_pass.ensures.turns c.settle_pass.ensures.lists
     c.settle_pass.ensures.effect.goes_on.is_honest c.begin_for.ensures.begun c.weight.ensures.weight c.begin_for.ensures.lists in
-    let appends : Appends key rec begun true last after = at_write (λ (k : Key) (r : Rec). Appends k r begun true last after) key c.args.key.now rec c.args.rec.now c.requires.spelled.key_is c.requires.spelled.rec_is
+    let appends = subst (λ (more : Entries). Appends more begun true last after) (sym is_spelled)
     (λ tree here of_log over. (c.in-Ok.ensures.becomes tree here of_log over).0) in (
-      writes_over opening old m before begins settled mid has c.args.seat c.args.op.now (written_by c.args.op.now) takes ready begun last then c.write.new.self after
-          (at_write (λ (k : Key) (r : Rec). WritesIn c.args.seat k r begun c.write.new.self) key c.args.key.now rec c.args.rec.now c.requires.spelled.key_is c.requires.spelled.rec_is c.in-Ok.ensures.writes)
-          (at_write (λ (k : Key) (r : Rec). (tree : Tree) → IsLogOf tree begun.log → IsLogOf (appended (goes_ahead k begun) (k, r) tree) c.write.new.self.log) key c.args.key.now rec c.args.rec.now c.requires.spelled.key_is c.requires.spelled.rec_is
-          c.in-Ok.ensures.is_of)
-          (at_write (λ (k : Key) (r : Rec). (tree : Tree) → IsTrue last.is_honest → IsLogOf tree begun.log → StandOver begun.runs tree last
-          → StandOver c.write.new.self.runs (appended (goes_ahead k begun) (k, r) tree) after) key c.args.key.now rec c.args.rec.now
-          c.requires.spelled.key_is c.requires.spelled.rec_is
+      writes_over opening old m before begins settled mid has c.args.seat c.args.op.now takes ready begun last then c.write.new.self after
+          (subst (λ (more : Entries). WritesIn c.args.seat more begun c.write.new.self) (sym is_spelled) c.in-Ok.ensures.writes)
+          (subst (λ (more : Entries). (tree : Tree) → IsLogOf tree begun.log
+          → IsLogOf (appended (goes_ahead more begun) more tree) c.write.new.self.log)
+          (sym is_spelled) c.in-Ok.ensures.is_of)
+          (subst (λ (more : Entries). (tree : Tree) → IsTrue last.is_honest → IsLogOf tree begun.log → StandOver begun.runs tree last
+          → StandOver c.write.new.self.runs (appended (goes_ahead more begun) more tree) after) (sym is_spelled)
           (λ tree here of_log over. (c.in-Ok.ensures.becomes tree here of_log over).1)),
-      done_leaves opening old m before begins settled mid has c.args.seat c.args.op.now (written_by c.args.op.now) takes ready begun last then after appends,
+      done_leaves opening old m before begins settled mid has c.args.seat c.args.op.now takes ready begun last then after appends,
     )
 
 pub returns-in-Ok-clause-ends : goal.returns-in-Ok-clause-ends
@@ -243,9 +241,8 @@ returns-in-Ok-clause-faults g c =
 
 pub returns-in-Err-clause-takes : goal.returns-in-Err-clause-takes
 returns-in-Err-clause-takes g c =
-    let key = key_of (written_by c.args.op.now) in
-    let rec = record_of (written_by c.args.op.now) in
-    let is_w : total_weight (writes_of c.args.op.now) ≡ weight key rec = weighs c.args.op.now (written_by c.args.op.now) c.requires.spelled.writes in
+    let more = entries_of (writes_of c.args.op.now) in
+    let is_w = weighs c.args.op.now in
     record {
       settled = c.settle_deep.new.held;
       ready = c.settle_pass.new.held;
@@ -266,16 +263,16 @@ returns-in-Err-clause-lists g c = λ opening m honest stands runs may fits met.
     let mid = g.D.Disk.state c.settle_deep.new.disk in
     let last = g.D.Disk.state c.settle_pass.new.disk in
     let after = g.D.Disk.state c.write.new.disk in
-    let key = key_of (written_by c.args.op.now) in
-    let rec = record_of (written_by c.args.op.now) in
+    let is_spelled = spelled c.args.op.now c.args.key.now c.args.rec.now c.requires.spelled in
     let begins : Begins opening old m before = record { honest = honest; stands = stands; runs = runs; numbers = c.requires.runs.pace; paced = c.requires.runs.live.paced } in
     let has = settled_by c.settle_deep.result old settled before mid ok c.settle_deep.ensures.settles c.settle_deep.ensures.lists c.settle_deep.ensures.effect.goes_on.is_honest in
-    let takes : MayTake c.args.seat c.args.op.now (written_by c.args.op.now) old m = record
-    { may = may; fits = fits; writes = c.requires.spelled.writes; met = met; room = c.requires.may.room } in
+    let takes : MayTake c.args.seat c.args.op.now old m = record
+    { may = may; fits = fits; some = are_some c.args.op.now c.requires.is_write; met = met; room = c.requires.may.room } in
     let then = begun_by c.settle_pass.result (total_weight (writes_of c.args.op.now)) c.weight.result settled ready begun mid last ok_then c.settle_pass.ensures.settles c.settle_pass.ensures.turns c.settle_pass.ensures.lists
     c.settle_pass.ensures.effect.goes_on.is_honest c.begin_for.ensures.begun c.weight.ensures.weight c.begin_for.ensures.lists in
-    doubt_leaves opening old m before begins settled mid has c.args.seat c.args.op.now (written_by c.args.op.now) takes ready begun last then c.write.new.self c.in-Err.ensures.kept false after
-    (at_write (λ (k : Key) (r : Rec). Appends k r begun false last after) key c.args.key.now rec c.args.rec.now c.requires.spelled.key_is c.requires.spelled.rec_is
+    doubt_leaves opening old m before begins settled mid has c.args.seat c.args.op.now takes ready begun last then c.write.new.self
+    c.in-Err.ensures.kept false after
+    (subst (λ (more : Entries). Appends more begun false last after) (sym is_spelled)
     (λ tree here of_log over. (c.in-Err.ensures.becomes tree here of_log over).0))
 
 pub returns-in-Err-clause-effect : goal.returns-in-Err-clause-effect

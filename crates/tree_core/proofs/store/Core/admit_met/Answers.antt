@@ -2,12 +2,11 @@ use Rattle.std.specs.Prelude.{◌≡◌, true, List, None, IsTrue}
 use Rattle.std.proofs.Common.{◌∙◌, cond, refl, ap, sym, subst, arith}
 use Rattle.std.proofs.lemmas.Bool.{false≢true}
 use Rattle.blsm_model.specs.Book.{Book, HasRoom}
-use Rattle.blsm_model.specs.Histories.{is_met}
-use Rattle.blsm_model.specs.Values.{key_of}
+use Rattle.blsm_model.specs.Histories.{is_met, writes_of}
 use Rattle.blsm_model.specs.declared.history.Reply.TheVariants.{Done, Full, FaultLost, FaultUnsure}
 use Rattle.blsm_model.specs.declared.key.Key.{Key}
 use Rattle.blsm_model.specs.declared.row.Value.{Value}
-use Rattle.record_delta.specs.Records.{record_of}
+use Rattle.record_delta.specs.Several.{entries_of}
 use Rattle.seat_book.specs.State.{BookState, may_note_in}
 use Rattle.seat_book.proofs.WordLemmas.{note_has_room}
 use Rattle.tree_machine.specs.Lists.{value_in}
@@ -19,11 +18,11 @@ use Rattle.tree_core.specs.Calls.{AdmitsMet}
 use Rattle.tree_core.specs.Core.{CoreState}
 use Rattle.tree_core.specs.Standing.{AnyRows, StandsFor}
 use Rattle.tree_core.specs.Steps.{may_in}
-use Rattle.tree_core.specs.Taking.{written_by}
 use Rattle.tree_core.specs.declared.answers.Admission.TheVariants as admission
 use Rattle.tree_core.proofs.AdmissionCalls.{admit_failed, admit_full, admit_taken, may_write_at, room_for}
 use Rattle.tree_core.proofs.AdmissionLemmas.{failed_keeps, past_as, stopped_same, taken_keeps}
 use Rattle.tree_core.proofs.LastLemmas.{kept_on, may_admit}
+use Rattle.tree_core.proofs.TakingLemmas.{writes_written}
 use Rattle.tree_core.proofs.store.Core.admit_met.Goals as goal
 
 -- ---- what its parts require
@@ -49,9 +48,8 @@ take-requires-clause-may g c =
 pub note-requires-in-Taken : goal.note-requires-in-Taken
 note-requires-in-Taken g c =
     let b = c.self.inside.held.book in
-    let write = written_by c.args.op.now in
     let room = subst (λ (s : CoreState g.row.D.Denot). IsTrue (may_note_in c.args.seat 0 s.held.book)) (sym c.self.view_is) c.requires.note in
-    let keeps = taken_keeps c.args.seat (key_of write) (record_of write) c.self.inside.held c.take.new.held (g.D.Disk.state c.take.new.disk)
+    let keeps = taken_keeps c.args.seat (entries_of (writes_of c.args.op.now)) c.self.inside.held c.take.new.held (g.D.Disk.state c.take.new.disk)
     c.in-Taken.ensures.takes in
     subst (λ (k : Book). HasRoom k.room (record { seat = c.args.seat; op = c.args.op.now; reply = Done })) (sym keeps.book)
     (note_has_room b c.args.seat 0 c.args.op.now Done room (omega arith))
@@ -59,10 +57,10 @@ note-requires-in-Taken g c =
 pub note-requires-in-Failed : goal.note-requires-in-Failed
 note-requires-in-Failed g c =
     let b = c.self.inside.held.book in
-    let write = written_by c.args.op.now in
     let begun = c.in-Failed.begun in
     let room = subst (λ (s : CoreState g.row.D.Denot). IsTrue (may_note_in c.args.seat 0 s.held.book)) (sym c.self.view_is) c.requires.note in
-    let keeps = failed_keeps begun c.args.seat (key_of write) (record_of write) c.self.inside.held c.take.new.held (g.D.Disk.state c.take.new.disk)
+    let keeps = failed_keeps begun c.args.seat (entries_of (writes_of c.args.op.now)) c.self.inside.held c.take.new.held
+    (g.D.Disk.state c.take.new.disk)
     c.in-Failed.ensures.takes in
     subst (λ (k : Book). HasRoom k.room (record { seat = c.args.seat; op = c.args.op.now; reply = cond begun FaultUnsure FaultLost }))
     (sym (ap (λ (x : BookState). x.book) c.stop.ensures ∙ keeps.book)) (room_for b c.args.seat c.args.op.now room begun)
@@ -104,7 +102,8 @@ returns-in-Taken g c =
     subst (λ (s : CoreState g.row.D.Denot). AdmitsMet g.D.Disk.state c.args.seat c.args.op.now admission.Admitted s
     (record { disk = c.take.new.disk; held = with_book c.note-in-Taken.new.book c.take.new.held; holds = old.holds })) c.self.view_is
     (admit_taken g.D.Disk.state c.args.seat c.args.op.now old c.self.invariant.0 (g.met.D.Disk.timed old.disk) can room c.requires.fits met
-    (written_by c.args.op.now) c.take.new.disk c.take.new.held c.note-in-Taken.new.book (g.met.D.Disk.timed c.take.new.disk) c.requires.spelled.writes ran writing
+    c.take.new.disk c.take.new.held c.note-in-Taken.new.book (g.met.D.Disk.timed c.take.new.disk)
+    (writes_written c.args.op.now c.requires.write c.requires.fits) ran writing
     c.take.ensures.effect c.requires.write c.in-Taken.ensures.takes c.in-Taken.ensures.faults c.in-Taken.ensures.ends
     (λ opening m honest s ran ok fit met. c.in-Taken.ensures.lists opening m honest s ran ok fit met) c.note-in-Taken.ensures)
 
@@ -128,7 +127,8 @@ returns-in-Failed g c =
     subst (λ (s : CoreState g.row.D.Denot). AdmitsMet g.D.Disk.state c.args.seat c.args.op.now (admission.Fault begun) s
     (record { disk = c.take.new.disk; held = with_book c.note-in-Failed.new.book c.take.new.held; holds = old.holds })) c.self.view_is
     (admit_failed g.D.Disk.state c.args.seat c.args.op.now old c.self.invariant.0 (g.met.D.Disk.timed old.disk) can room c.requires.fits met
-    (written_by c.args.op.now) c.take.new.disk c.take.new.held c.note-in-Failed.new.book (g.met.D.Disk.timed c.take.new.disk) c.requires.spelled.writes ran writing
+    c.take.new.disk c.take.new.held c.note-in-Failed.new.book (g.met.D.Disk.timed c.take.new.disk)
+    (writes_written c.args.op.now c.requires.write c.requires.fits) ran writing
     c.take.ensures.effect begun c.in-Failed.ensures.takes c.in-Failed.ensures.faults (omega (arith, c.faults.type_inv, c.faults.ensures))
     (λ opening m honest s ran ok fit met. c.in-Failed.ensures.lists opening m honest s ran ok fit met) same)
 
