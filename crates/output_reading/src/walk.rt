@@ -113,6 +113,9 @@ fn follow<D: Disk>(
 /// weight or what was taken of C1' and C2 aren't the progress', the last one names another page than the next one, that one isn't free, or nothing
 /// of C1' and C2 above the key settles to an entry. On a disk that changed since they were walked it may name a page of C1' or C2. `Fault` comes
 /// only where the disk's count of faults rose.
+///
+/// It stays a call, so that the pages that it reads beside one another aren't in the frame of who reads the rest of a tree.
+#[inline(never)]
 pub fn walk_output<D: Disk>(
     disk: &mut D,
     geo: &Geometry,
