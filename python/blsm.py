@@ -650,11 +650,12 @@ class Store:
             options += ["--resident", "1"]
         return run_of(wanted, script, self._call("run", options, script, wanted, ships, resident), ships, resident)
 
-    def live(self, scans: int = 1) -> Live:
-        """This store, kept open: commands are answered one by one, beside so many open scans (15 at most). The file is locked until it is closed."""
+    def live(self, scans: int = 1, ships: int = 0) -> Live:
+        """This store, kept open: commands are answered one by one, beside so many open scans (15 at most). The file is locked until it is closed.
+        With a number above 0 its `ships` are the writes that were done, the first of that number."""
         from live import Live  # which stands above this module
 
-        return Live(self, scans)
+        return Live(self, scans, ships)
 
     def _one(self, command: Command) -> Reply:
         return self.run({1: [command]}).entries[0].reply.need()

@@ -107,8 +107,11 @@ def tells_stop(entry: Entry) -> bool:
 class Program:
     """The program, from its first line to its last one."""
 
-    def __init__(self, store: Store, callers: int) -> None:
-        words = [*store.program, "serve", "--callers", str(callers), "--", store.path]
+    def __init__(self, store: Store, callers: int, ships: int = 0) -> None:
+        options = ["--ships", str(ships)] if ships else []
+        words = [*store.program, "serve", "--callers", str(callers), *options, "--", store.path]
+        self.next_ship = ships  # with 0 there are none
+        self.ships: list[blsm.Ship] = []
         self.process = subprocess.Popen(words, stdin=subprocess.PIPE, stdout=subprocess.PIPE)
         self.count = 0  # of the commands that were done
         self.has_failed = False  # as a reply told
@@ -174,6 +177,14 @@ class Program:
         entry = Entry(int(found[2]), command, blsm.reply_of(found[4]), int(found[5]))
         self.has_failed |= tells_failure(entry.reply)
         self.is_stopped |= tells_stop(entry)
+        for ship in blsm.ships_of(self.next_ship, [entry]) if self.next_ship else ():
+            told = self.line()
+            if not told:
+                raise Unanswered(command)
+            if told != ship.line():
+                raise Unreadable(f"{told!r} isn't {ship.line()!r}")
+            self.ships.append(ship)
+            self.next_ship += 1
         return entry
 
     def finish(self) -> re.Match[str]:
@@ -203,13 +214,15 @@ def shut(stream: IO[bytes] | None) -> None:
 class Live:
     """A store that stays open until `close`, or the end of a `with`. `Store.live` makes it. Each call raises what the store's own would."""
 
-    def __init__(self, store: Store, scans: int = 1) -> None:
+    def __init__(self, store: Store, scans: int = 1, ships: int = 0) -> None:
+        self._first_ship = blsm.check_number(ships, 1 << 63)
+        self._ships: list[blsm.Ship] = []  # of the programs that have ended
         self._store, self._callers = store, 1 + blsm.check_number(scans, blsm.CALLERS - 1)
         self._idle = list(range(self._callers, OWN, -1))  # callers without a scan
         self._left: list[int] = []  # those whose scan is over, and who may hold rows still
         self._totals = Totals()
         self._is_closed = False
-        self._program: Program | None = Program(store, self._callers)
+        self._program: Program | None = Program(store, self._callers, self._first_ship)
 
     def __enter__(self) -> Live:
         return self
@@ -227,19 +240,30 @@ class Live:
         self._finish()
         return self._totals
 
+    @property
+    def ships(self) -> tuple[blsm.Ship, ...]:
+        """The writes that were done and told so far, for a second store to take; none where no number was given for the first one."""
+        return (*self._ships, *(self._program.ships if self._program else ()))
+
     def _finish(self) -> None:
+        self._keep_ships()
         program, self._program = self._program, None
         if program:
             self._totals = self._totals.with_program(program.finish())
 
+    def _keep_ships(self) -> None:
+        if self._program:
+            self._ships += self._program.ships
+
     def _abandon(self) -> None:
+        self._keep_ships()
         program, self._program = self._program, None
         if program:
             program.end()
 
     def _open(self) -> Program:
         if not self._program:
-            self._program = Program(self._store, self._callers)
+            self._program = Program(self._store, self._callers, self._first_ship and self._first_ship + len(self._ships))
         return self._program
 
     def _answers(self, lines: Sequence[str], commands: Sequence[Command]) -> Iterator[Entry]:

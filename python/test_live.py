@@ -93,6 +93,22 @@ class OverAStandIn(WithRoom):
         self.assertEqual(opened.batch([]), [])
         self.assertEqual(opened.close(), Totals(14, 65536, 1, 0, 0, 1))
 
+    def test_a_ship_stands_right_behind_its_entry(self) -> None:
+        self.says(OPEN, "1 1 put a 1 - => ok q0\nship 7 put a 1 -", "2 1 get a => is 1 - q0", f"{END}\nno room 3")
+        self.says("open charge 14", "1 1 new b 2 - => ok q0\nship 8 put b 2 -", END)
+        with self.store.live(ships=7) as opened:
+            opened.put("a", 1)
+            opened.get("a")
+            self.assertTrue(opened.new("b", 2))
+            self.assertEqual([ship.line() for ship in opened.ships], ["ship 7 put a 1 -", "ship 8 put b 2 -"])
+        self.assertEqual(len(opened.ships), 2)
+
+    def test_a_ship_that_is_another_is_no_ship(self) -> None:
+        self.says(OPEN, "1 1 put a 1 - => ok q0\nship 8 put a 1 -")
+        opened = self.store.live(ships=7)
+        with self.assertRaises(blsm.Unreadable):
+            opened.put("a", 1)
+
     def test_what_has_no_room_behind_a_stop_isnt_done(self) -> None:
         self.says(OPEN, "1 1 put a 1 - => fault lost q0", f"{END}\nno room 2", status=7)
         with self.assertRaises(blsm.DiskFault) as caught:
@@ -181,10 +197,10 @@ class Noted(live.Program):
 
     kept: list["Noted"] = []
 
-    def __init__(self, store: Store, callers: int) -> None:
+    def __init__(self, store: Store, callers: int, ships: int = 0) -> None:
         self.read: list[str] = []
         self.wrote: list[str] = []
-        super().__init__(store, callers)
+        super().__init__(store, callers, ships)
         self.kept.append(self)
 
     def line(self) -> str:
@@ -198,7 +214,7 @@ class Noted(live.Program):
 
     def judged(self, opening: Any) -> Any:
         """The map that it left."""
-        history = "".join(f"{line}\n" for line in self.wrote if not line.startswith("no room "))
+        history = "".join(f"{line}\n" for line in self.wrote if not line.startswith(("no room ", "ship ")))
         return judge("".join(self.read[: self.count]), history, opening, Geometry(), 0)
 
 
@@ -366,6 +382,43 @@ class Built(WithRoom):
             values.update((put.key, put.count) for put in commands[: len(answered)])
             untold = values | {put.key: put.count for put in commands[len(answered) : len(answered) + 1]}
             self.assertIn({row.key: row.count for row in self.store.rows()}, (values, untold))
+
+    def test_a_second_store_takes_the_ships(self) -> None:
+        draw = random.Random(11)
+        commands = [self.any_command(draw) for _ in range(3000)]
+        with self.store.live(scans=15, ships=5) as opened:
+            opened.batch(commands[:2000])
+            opened.work()
+            opened.batch(commands[2000:] + [Get("a")] * 2000)
+            totals = opened.close()
+        self.assertEqual(totals.programs, 2)  # each had room for 4,096 lines of a caller
+        self.assertEqual([ship.number for ship in opened.ships], list(range(5, 5 + len(opened.ships))))
+        other = Store.make(self.here / "other.blsm")
+        replies = {entry.reply for entry in other.run({1: [ship.command for ship in opened.ships]}).entries}
+        self.assertEqual(replies, {Done()})
+        self.assertEqual(list(other.rows()), list(self.store.rows()))
+        opening: Any = {}
+        for program in Noted.kept[:2]:
+            opening = program.judged(opening)
+
+    def test_a_killed_program_leaves_one_write_without_its_ship(self) -> None:
+        draw = random.Random(13)
+        written = 0
+        for _trial in range(10):
+            opened = self.store.live(ships=1)
+            process = self.process()
+            late = threading.Timer(draw.random() / 2, process.send_signal, [signal.SIGKILL])
+            late.start()
+            with self.assertRaises(Unanswered):
+                while True:
+                    opened.batch([Put(f"k{written + len(opened.ships) + i:06}", 1) for i in range(100)])
+            late.join()
+            process.wait()  # it holds the file until it has ended
+            told = [ship.command for ship in opened.ships]
+            self.assertEqual(told, [Put(f"k{written + i:06}", 1) for i in range(len(told))])
+            left = len(list(self.store.rows()))
+            self.assertIn(left - written - len(told), (0, 1))
+            written = left
 
     def test_a_reader_that_is_gone(self) -> None:
         opened = self.store.live()

@@ -128,7 +128,9 @@ module _ {D : Type 0} (state : D → DiskState) (honest_tells : (d : D) → IsTr
     completes (refused refusal.DiskFault) status lines (inr (inr (inr (inr was)))) is = absurd
         (quiet_is_no_rise granted.shelf_quiet was.settles.rose.0)
     completes (refused refusal.NotAStore) status lines (inl (ls, a, why)) is = absurd (refused_opening unreadable.NotAStore tt a.name (can (run a.name a.options) a.asked).0 why)
-    completes (refused refusal.NotAStore) status lines (inr (inl was)) is = absurd (refused_opening unreadable.NotAStore tt was.asks.name (can (serve was.asks.name was.asks.callers) was.asks.asked).0 was.refuses)
+    completes (refused refusal.NotAStore) status lines (inr (inl was)) is =
+        absurd (refused_opening unreadable.NotAStore tt was.asks.name (can (serve was.asks.name was.asks.callers was.asks.ships) was.asks.asked).0
+        was.refuses)
     completes (refused refusal.NotAStore) status lines (inr (inr (inl was))) is = absurd
         (refused_check unreadable.NotAStore tt was.name was.asked was.checks)
     completes (refused refusal.NotAStore) status lines (inr (inr (inr was))) is = absurd
@@ -138,13 +140,17 @@ module _ {D : Type 0} (state : D → DiskState) (honest_tells : (d : D) → IsTr
         let none : length (state s.0).bytes ≡ 0 = ap (λ (l : List ℕ). length l) s.4 in
         absurd (omega (arith, s.5.some, s.5.length_is s.3, none))
     completes (refused (refusal.Damaged place)) status lines (inl (ls, a, why)) is = absurd (refused_opening (unreadable.Damaged place) tt a.name (can (run a.name a.options) a.asked).0 why)
-    completes (refused (refusal.Damaged place)) status lines (inr (inl was)) is = absurd (refused_opening (unreadable.Damaged place) tt was.asks.name (can (serve was.asks.name was.asks.callers) was.asks.asked).0 was.refuses)
+    completes (refused (refusal.Damaged place)) status lines (inr (inl was)) is =
+        absurd (refused_opening (unreadable.Damaged place) tt was.asks.name
+        (can (serve was.asks.name was.asks.callers was.asks.ships) was.asks.asked).0 was.refuses)
     completes (refused (refusal.Damaged place)) status lines (inr (inr (inl was))) is = absurd
         (refused_check (unreadable.Damaged place) tt was.name was.asked was.checks)
     completes (refused (refusal.Damaged place)) status lines (inr (inr (inr was))) is = absurd
         (refused_opening (unreadable.Damaged place) tt was.name (can (settle was.name) was.asked) was.settles)
     completes (refused (refusal.Worn version)) status lines (inl (ls, a, why)) is = absurd (refused_opening (unreadable.Worn version) tt a.name (can (run a.name a.options) a.asked).0 why)
-    completes (refused (refusal.Worn version)) status lines (inr (inl was)) is = absurd (refused_opening (unreadable.Worn version) tt was.asks.name (can (serve was.asks.name was.asks.callers) was.asks.asked).0 was.refuses)
+    completes (refused (refusal.Worn version)) status lines (inr (inl was)) is =
+        absurd (refused_opening (unreadable.Worn version) tt was.asks.name
+        (can (serve was.asks.name was.asks.callers was.asks.ships) was.asks.asked).0 was.refuses)
     completes (refused (refusal.Worn version)) status lines (inr (inr (inl was))) is = absurd
         (refused_check (unreadable.Worn version) tt was.name was.asked was.checks)
     completes (refused (refusal.Worn version)) status lines (inr (inr (inr was))) is = absurd
@@ -154,19 +160,22 @@ module _ {D : Type 0} (state : D → DiskState) (honest_tells : (d : D) → IsTr
     completes (ran options history end) status lines (ls, a, same, runs) is =
         let well = is_well a.name ls a.options.workers a.options.turns (λ room. IsRoomOf room ls) history end (can (run a.name a.options) a.asked).0 runs in
         inl (is ∙ ap (λ (e : Ending). status_of (ran options history e)) well)
-    completes (served history end closing.SinkFault) status (cut, (no_fall, risen, once)) (a, s) is = absurd (quiet_is_no_rise granted.sink_quiet risen)
-    completes (served history end closing.SourceFault) status lines (a, s) is = absurd (quiet_is_no_rise granted.source_quiet s.takes.counts.1)
-    completes (served history end (closing.BadLine n)) status lines (a, s) is =
-        let (has, session) = can (serve a.name a.callers) a.asked in
+    completes (served ships history end closing.SinkFault) status (cut, (no_fall, risen, once)) (a, same, s) is =
+        absurd (quiet_is_no_rise granted.sink_quiet risen)
+    completes (served ships history end closing.SourceFault) status lines (a, same, s) is =
+        absurd (quiet_is_no_rise granted.source_quiet s.takes.counts.1)
+    completes (served ships history end (closing.BadLine n)) status lines (a, same, s) is =
+        let (has, session) = can (serve a.name a.callers a.ships) a.asked in
         let (no_page, limits, opening, legal) = honest_run a.name (lines_in history.entries) 0 0 (λ room. room ≡ room_for a.callers) history end has s.runs in
         absurd (no_bad_line limits opening (room_for a.callers) session.lines session.allowed session.room history.entries legal o.source o.source_after session.told n s.takes)
-    completes (served history end (closing.NoRoom n)) status lines (a, s) is =
-        let (has, session) = can (serve a.name a.callers) a.asked in
+    completes (served ships history end (closing.NoRoom n)) status lines (a, same, s) is =
+        let (has, session) = can (serve a.name a.callers a.ships) a.asked in
         let (no_page, limits, opening, legal) = honest_run a.name (lines_in history.entries) 0 0 (λ room. room ≡ room_for a.callers) history end has s.runs in
         absurd (no_full limits opening (room_for a.callers) session.lines session.allowed session.room history.entries legal o.source o.source_after session.told n s.takes)
-    completes (served history end closing.Ended) status lines (a, s) is =
-        let well = is_well a.name (lines_in history.entries) 0 0 (λ room. room ≡ room_for a.callers) history end (can (serve a.name a.callers) a.asked).0 s.runs in
-        inl (is ∙ ap (λ (e : Ending). status_of (served history e closing.Ended)) well)
+    completes (served ships history end closing.Ended) status lines (a, same, s) is =
+        let well = is_well a.name (lines_in history.entries) 0 0 (λ room. room ≡ room_for a.callers) history end
+        (can (serve a.name a.callers a.ships) a.asked).0 s.runs in
+        inl (is ∙ ap (λ (e : Ending). status_of (served ships history e closing.Ended)) well)
     completes (checked report) status lines cause is = inl is
     completes (settled counts) status lines cause is = inl is
     completes (tried seed count history) status lines cause is = inl is

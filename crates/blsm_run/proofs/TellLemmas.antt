@@ -2,11 +2,11 @@
 use Rattle.std.proofs.Common.{◌≡◌, ◌∙◌, ℕ, ◌≤◌, List, [], ◌++◌, Option, Some, None, Result, Ok, Err, length, take, refl, sym, ap, subst, append_assoc, inl, inr, arith, length-append}
 use Rattle.std.proofs.lemmas.List.{take-append-le}
 use Rattle.refusal.specs.declared.Failed.{Failed}
-use Rattle.blsm_model.specs.Printed.{end_text, entries_text}
+use Rattle.blsm_model.specs.Printed.{end_text}
 use Rattle.blsm_model.specs.declared.history.Entry.{Entry}
 use Rattle.blsm_model.specs.declared.history.Totals.{Totals}
 use Rattle.store_run.specs.Run.{Run}
-use Rattle.store_serve.specs.Told.{AddsPast, IsCutShort, at_first, at_last, closing_text, front_text, open_text, served_text}
+use Rattle.store_serve.specs.Told.{AddsPast, IsCutShort, at_first, at_last, closing_text, front_text, open_text, served_text, told_text}
 use Rattle.store_serve.specs.declared.closing.Closing.{Closing}
 use Rattle.store_serve.specs.declared.closing.Closing.TheVariants as closing
 use Rattle.text_io.specs.Text.{Adds, AddsFront, SinkState, Writes}
@@ -35,16 +35,16 @@ use Rattle.blsm_run.specs.Outside.{HasRisenOnce}
 -- ---- texts
 
 -- the lines, and what stands behind them
-in_two : (charge : ℕ) (entries : List Entry) (quanta : List ℕ) (totals : Totals) (c : Closing)
-    → served_text charge entries quanta totals c ≡ front_text charge entries quanta ++ (end_text totals ++ closing_text c)
-in_two charge entries quanta totals c = append_assoc (front_text charge entries quanta) (end_text totals) (closing_text c)
+in_two : (ships charge : ℕ) (entries : List Entry) (quanta : List ℕ) (totals : Totals) (c : Closing)
+    → served_text ships charge entries quanta totals c ≡ front_text ships charge entries quanta ++ (end_text totals ++ closing_text c)
+in_two ships charge entries quanta totals c = append_assoc (front_text ships charge entries quanta) (end_text totals) (closing_text c)
 
 -- the first line, and what stands behind it
-behind_first : (charge : ℕ) (entries : List Entry) (quanta : List ℕ) (totals : Totals) (c : Closing)
-    → served_text charge entries quanta totals c ≡ open_text charge ++ (entries_text 1 entries quanta ++ end_text totals ++ closing_text c)
-behind_first charge entries quanta totals c =
-    ap (λ (l : List ℕ). l ++ closing_text c) (append_assoc (open_text charge) (entries_text 1 entries quanta) (end_text totals))
-    ∙ append_assoc (open_text charge) (entries_text 1 entries quanta ++ end_text totals) (closing_text c)
+behind_first : (ships charge : ℕ) (entries : List Entry) (quanta : List ℕ) (totals : Totals) (c : Closing)
+    → served_text ships charge entries quanta totals c ≡ open_text charge ++ (told_text ships 1 entries quanta ++ end_text totals ++ closing_text c)
+behind_first ships charge entries quanta totals c =
+    ap (λ (l : List ℕ). l ++ closing_text c) (append_assoc (open_text charge) (told_text ships 1 entries quanta) (end_text totals))
+    ∙ append_assoc (open_text charge) (told_text ships 1 entries quanta ++ end_text totals) (closing_text c)
 
 with_more : (a : List ℕ) (old mid new : Option (List ℕ)) → Adds a old mid → (b : List ℕ) → Adds b mid new → AddsWithMore a old new
 with_more a None mid new first b second = tt
@@ -64,13 +64,16 @@ front_of_longer least a b (Some held) new (n, least_in, within, is) =
     let few : n ≤ length a = omega arith in
     (n, omega (arith, within, length-append a b), is ∙ ap (λ (l : List ℕ). Some (held ++ l)) (sym (take-append-le n a b few)))
 
-cut_short : (charge : ℕ) (entries : List Entry) (quanta : List ℕ) (totals : Totals) (old new : SinkState) → IsCutShort charge entries quanta old new → AddsFront (served_text charge entries quanta totals closing.SinkFault) old.held new.held
-cut_short charge entries quanta totals old new (at_first none past) =
-    subst (λ (l : List ℕ). AddsFront l old.held new.held) (sym (behind_first charge entries quanta totals closing.SinkFault))
-    (front_of_longer [] (open_text charge) (entries_text 1 entries quanta ++ end_text totals ++ closing_text closing.SinkFault) old.held new.held past)
-cut_short charge entries quanta totals old new (at_last before counts last count is_entries is_quanta long past) =
-    subst (λ (l : List ℕ). AddsFront l old.held new.held) (sym (in_two charge entries quanta totals closing.SinkFault))
-    (front_of_longer (front_text charge before counts) (front_text charge entries quanta) (end_text totals ++ closing_text closing.SinkFault) old.held new.held past)
+cut_short : (ships charge : ℕ) (entries : List Entry) (quanta : List ℕ) (totals : Totals) (old new : SinkState)
+    → IsCutShort ships charge entries quanta old new → AddsFront (served_text ships charge entries quanta totals closing.SinkFault) old.held new.held
+cut_short ships charge entries quanta totals old new (at_first none past) =
+    subst (λ (l : List ℕ). AddsFront l old.held new.held) (sym (behind_first ships charge entries quanta totals closing.SinkFault))
+    (front_of_longer [] (open_text charge) (told_text ships 1 entries quanta ++ end_text totals ++ closing_text closing.SinkFault) old.held new.held
+    past)
+cut_short ships charge entries quanta totals old new (at_last before counts last count is_entries is_quanta long past) =
+    subst (λ (l : List ℕ). AddsFront l old.held new.held) (sym (in_two ships charge entries quanta totals closing.SinkFault))
+    (front_of_longer (front_text ships charge before counts) (front_text ships charge entries quanta)
+    (end_text totals ++ closing_text closing.SinkFault) old.held new.held past)
 
 -- ---- an answer whose whole text is still to be written
 
@@ -84,20 +87,34 @@ plain_err text failed before old new same writes =
 -- ---- a session, whose lines were told
 
 -- what stands behind the lines was written
-lines_ok : (run : Run) (c : Closing) (before old new : SinkState) → Writes {T = Unit {0}} {E = Failed} (front_text run.charge run.entries run.quanta) (Ok tt) before old
+lines_ok : (ships : ℕ) (run : Run) (c : Closing) (before old new : SinkState)
+    → Writes {T = Unit {0}} {E = Failed} (front_text ships run.charge run.entries run.quanta) (Ok tt) before old
     → Writes {T = Unit {0}} {E = Failed} (end_text run.totals ++ closing_text c) (Ok tt) old new
-    → Adds (served_text run.charge run.entries run.quanta run.totals c) before.held new.held × (new.faults ≡ before.faults) × AddsWithMore (front_text run.charge run.entries run.quanta) before.held new.held
-lines_ok run c before old new first second =
-    let both = subst (λ (l : List ℕ). Writes {T = Unit {0}} {E = Failed} l (Ok tt) before new) (sym (in_two run.charge run.entries run.quanta run.totals c)) (writes_then _ _ first second) in
-    (both.ok, both.calm, with_more (front_text run.charge run.entries run.quanta) before.held old.held new.held first.ok (end_text run.totals ++ closing_text c) second.ok)
+    → Adds (served_text ships run.charge run.entries run.quanta run.totals c) before.held new.held × (new.faults ≡ before.faults)
+    × AddsWithMore (front_text ships run.charge run.entries run.quanta) before.held new.held
+lines_ok ships run c before old new first second =
+    let both = subst (λ (l : List ℕ). Writes {T = Unit {0}} {E = Failed} l (Ok tt) before new)
+    (sym (in_two ships run.charge run.entries run.quanta run.totals c)) (writes_then _ _ first second) in (
+      both.ok,
+      both.calm,
+      with_more (front_text ships run.charge run.entries run.quanta) before.held old.held new.held first.ok
+          (end_text run.totals ++ closing_text c) second.ok,
+    )
 
 -- or a front of it
-lines_err : (run : Run) (c : Closing) (failed : Failed) (before old new : SinkState) → Writes {T = Unit {0}} {E = Failed} (front_text run.charge run.entries run.quanta) (Ok tt) before old
+lines_err : (ships : ℕ) (run : Run) (c : Closing) (failed : Failed) (before old new : SinkState)
+    → Writes {T = Unit {0}} {E = Failed} (front_text ships run.charge run.entries run.quanta) (Ok tt) before old
     → Writes {T = Unit {0}} {E = Failed} (end_text run.totals ++ closing_text c) (Err failed) old new
-    → HasRisenOnce before.faults new.faults × AddsFront (served_text run.charge run.entries run.quanta run.totals c) before.held new.held × AddsWithMore (front_text run.charge run.entries run.quanta) before.held new.held
-lines_err run c failed before old new first second =
-    let both = subst (λ (l : List ℕ). Writes {T = Unit {0}} {E = Failed} l (Err failed) before new) (sym (in_two run.charge run.entries run.quanta run.totals c)) (writes_then _ _ first second) in
-    ((both.cause.failed refl, both.cause.one_fault), both.err, with_front (front_text run.charge run.entries run.quanta) before.held old.held new.held first.ok (end_text run.totals ++ closing_text c) second.err)
+    → HasRisenOnce before.faults new.faults × AddsFront (served_text ships run.charge run.entries run.quanta run.totals c) before.held new.held
+    × AddsWithMore (front_text ships run.charge run.entries run.quanta) before.held new.held
+lines_err ships run c failed before old new first second =
+    let both = subst (λ (l : List ℕ). Writes {T = Unit {0}} {E = Failed} l (Err failed) before new)
+    (sym (in_two ships run.charge run.entries run.quanta run.totals c)) (writes_then _ _ first second) in (
+      (both.cause.failed refl, both.cause.one_fault),
+      both.err,
+      with_front (front_text ships run.charge run.entries run.quanta) before.held old.held
+          new.held first.ok (end_text run.totals ++ closing_text c) second.err,
+    )
 
 -- ---- all answers
 
@@ -111,11 +128,15 @@ told_ok (made n) before old new same writes = let did = plain_ok (text_of (made 
 told_ok (ran options run end) before old new same writes =
     let did = plain_ok (text_of (ran options run end)) before old new same writes in
     (inl (refl, did.0, did.1), tt)
-told_ok (served run end closing.Ended) before old new told writes = let did = lines_ok run closing.Ended before old new told writes in (inl (refl, did.0, did.1), did.2)
-told_ok (served run end (closing.BadLine n)) before old new told writes = let did = lines_ok run (closing.BadLine n) before old new told writes in (inl (refl, did.0, did.1), did.2)
-told_ok (served run end (closing.NoRoom n)) before old new told writes = let did = lines_ok run (closing.NoRoom n) before old new told writes in (inl (refl, did.0, did.1), did.2)
-told_ok (served run end closing.SourceFault) before old new told writes = let did = lines_ok run closing.SourceFault before old new told writes in (inl (refl, did.0, did.1), did.2)
-told_ok (served run end closing.SinkFault) before old new told writes = absurd cc
+told_ok (served ships run end closing.Ended) before old new told writes =
+    let did = lines_ok ships run closing.Ended before old new told writes in (inl (refl, did.0, did.1), did.2)
+told_ok (served ships run end (closing.BadLine n)) before old new told writes =
+    let did = lines_ok ships run (closing.BadLine n) before old new told writes in (inl (refl, did.0, did.1), did.2)
+told_ok (served ships run end (closing.NoRoom n)) before old new told writes =
+    let did = lines_ok ships run (closing.NoRoom n) before old new told writes in (inl (refl, did.0, did.1), did.2)
+told_ok (served ships run end closing.SourceFault) before old new told writes =
+    let did = lines_ok ships run closing.SourceFault before old new told writes in (inl (refl, did.0, did.1), did.2)
+told_ok (served ships run end closing.SinkFault) before old new told writes = absurd cc
 told_ok (checked report) before old new same writes = let did = plain_ok (text_of (checked report)) before old new same writes in (inl (refl, did.0, did.1), tt)
 told_ok (settled counts) before old new same writes = let did = plain_ok (text_of (settled counts)) before old new same writes in
     (inl (refl, did.0, did.1), tt)
@@ -128,15 +149,20 @@ told_err (made n) failed before old new same writes = let did = plain_err (text_
 told_err (ran options run end) failed before old new same writes =
     let did = plain_err (text_of (ran options run end)) failed before old new same writes in
     (inr (refl, did.0, did.1), tt)
-told_err (served run end closing.Ended) failed before old new told writes = let did = lines_err run closing.Ended failed before old new told writes in (inr (refl, did.0, did.1), did.2)
-told_err (served run end (closing.BadLine n)) failed before old new told writes = let did = lines_err run (closing.BadLine n) failed before old new told writes in (inr (refl, did.0, did.1), did.2)
-told_err (served run end (closing.NoRoom n)) failed before old new told writes = let did = lines_err run (closing.NoRoom n) failed before old new told writes in (inr (refl, did.0, did.1), did.2)
-told_err (served run end closing.SourceFault) failed before old new told writes = let did = lines_err run closing.SourceFault failed before old new told writes in (inr (refl, did.0, did.1), did.2)
-told_err (served run end closing.SinkFault) failed before old new told writes =
+told_err (served ships run end closing.Ended) failed before old new told writes =
+    let did = lines_err ships run closing.Ended failed before old new told writes in (inr (refl, did.0, did.1), did.2)
+told_err (served ships run end (closing.BadLine n)) failed before old new told writes =
+    let did = lines_err ships run (closing.BadLine n) failed before old new told writes in (inr (refl, did.0, did.1), did.2)
+told_err (served ships run end (closing.NoRoom n)) failed before old new told writes =
+    let did = lines_err ships run (closing.NoRoom n) failed before old new told writes in (inr (refl, did.0, did.1), did.2)
+told_err (served ships run end closing.SourceFault) failed before old new told writes =
+    let did = lines_err ships run closing.SourceFault failed before old new told writes in (inr (refl, did.0, did.1), did.2)
+told_err (served ships run end closing.SinkFault) failed before old new told writes =
     let (cut, (no_fall, risen, once)) = told in
     let is : new ≡ old = writes.1 in
-    subst (λ (k : SinkState). Tells before k (served run end closing.SinkFault) SinkFault × TellsLines (served run end closing.SinkFault) before k) (sym is)
-    (inr (refl, (risen, once), cut_short run.charge run.entries run.quanta run.totals before old cut), told)
+    subst (λ (k : SinkState). Tells before k (served ships run end closing.SinkFault) SinkFault
+    × TellsLines (served ships run end closing.SinkFault) before k) (sym is)
+    (inr (refl, (risen, once), cut_short ships run.charge run.entries run.quanta run.totals before old cut), told)
 told_err (checked report) failed before old new same writes = let did = plain_err (text_of (checked report)) failed before old new same writes in (inr (refl, did.0, did.1), tt)
 told_err (settled counts) failed before old new same writes = let did = plain_err (text_of (settled counts)) failed before old new same writes in
     (inr (refl, did.0, did.1), tt)

@@ -25,7 +25,7 @@ module _ {D : Type 0} (state : D → DiskState) (o : Outside D) (seed count : �
   not_run was = let same : Some (run was.name was.options) ≡ Some (trial seed count) = sym was.asked.1 ∙ asked.1 in cc
 
   not_served : AsksToServe o → ⊥
-  not_served was = let same : Some (serve was.name was.callers) ≡ Some (trial seed count) = sym was.asked.1 ∙ asked.1 in cc
+  not_served was = let same : Some (serve was.name was.callers was.ships) ≡ Some (trial seed count) = sym was.asked.1 ∙ asked.1 in cc
 
   not_checked : {result : Result Report Unreadable} → HasChecked state o result → ⊥
   not_checked was = let same : Some (check was.name) ≡ Some (trial seed count) = sym was.asked.1 ∙ asked.1 in cc
@@ -57,7 +57,7 @@ module _ {D : Type 0} (state : D → DiskState) (o : Outside D) (seed count : �
   ends_trial sink sink_after (refused refusal.NoMemory) status cause tells = elim (by_tells sink sink_after (refused refusal.NoMemory) status tells) [ inl is ↦ inr (inr is) | inr is ↦ inr (inl is) ]
   ends_trial sink sink_after (made n) status cause tells = absurd (not_made_so cause)
   ends_trial sink sink_after (ran options history end) status cause tells = absurd (not_run cause.1)
-  ends_trial sink sink_after (served history end closing) status cause tells = absurd (not_served cause.0)
+  ends_trial sink sink_after (served ships history end closing) status cause tells = absurd (not_served cause.0)
   ends_trial sink sink_after (checked report) status cause tells = absurd (not_checked cause)
   ends_trial sink sink_after (settled counts) status cause tells = absurd (not_settled cause)
   ends_trial sink sink_after (tried s n history) status cause tells = elim (by_tells sink sink_after (tried s n history) status tells) [ inl is ↦ inl is | inr is ↦ inr (inl is) ]

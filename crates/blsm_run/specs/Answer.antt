@@ -52,7 +52,7 @@ CanBeDone state o (make name sizes) = HasDisk state o name (λ file. file ≡ []
 CanBeDone state o (run name options) = HasDisk state o name IsOpenable × TellsScript o
 CanBeDone state o (check name) = HasDisk state o name IsOpenable
 CanBeDone state o (trial seed count) = ⊤
-CanBeDone state o (serve name callers) = HasDisk state o name IsOpenable × TellsSession callers o
+CanBeDone state o (serve name callers ships) = HasDisk state o name IsOpenable × TellsSession callers o
 CanBeDone state o (settle name) = HasDisk state o name IsOpenable
 
 -- Where the outside does its part: accepted words that ask for something that can be done, and no count that rose.

@@ -53,11 +53,13 @@ pub record AsksToRun {D : Type 0} (o : Outside D) (script : Result (List Line) R
   pub asked : WasAsked o (run name options)
   pub reads : ReadsScript o.source o.source_after script
 
--- A session over the store on the disk of this name was to be served, with room for so many callers.
+-- A session over the store on the disk of this name was to be served, with room for so many callers, and this number for the first
+-- ship.
 pub record AsksToServe {D : Type 0} (o : Outside D) : Type 0 where
   pub name : List ℕ
   pub callers : ℕ
-  pub asked : WasAsked o (serve name callers)
+  pub ships : ℕ
+  pub asked : WasAsked o (serve name callers ships)
 
 -- the script wasn't read, for this
 abbrev pub AsksInVain : {D : Type 0} → Outside D → Refusal → Type 0
@@ -92,7 +94,8 @@ Cause state o (made length) = HasMade state o (Ok length)
 Cause state o (ran options history end) =
     (lines : List Line) × (a : AsksToRun o (Ok lines)) × (options ≡ a.options)
     × IsRunOnShelf state a.name lines a.options.workers a.options.turns (λ room. IsRoomOf room lines) history end o.shelf o.shelf_after
-Cause state o (served history end closing) = (a : AsksToServe o) × IsServedOnShelf state a.name a.callers history end closing o.shelf o.shelf_after o.source o.source_after
+Cause state o (served ships history end closing) =
+    (a : AsksToServe o) × (ships ≡ a.ships) × IsServedOnShelf state a.name a.callers history end closing o.shelf o.shelf_after o.source o.source_after
 Cause state o (checked report) = HasChecked state o (Ok report)
 Cause state o (settled counts) = HasSettled state o (Ok counts)
 Cause state o (tried seed count history) = WasAsked o (trial seed count) × (o.source_after ≡ o.source) × (o.shelf_after ≡ o.shelf) × (disk : Faultless) × IsTrialOf seed count history disk

@@ -42,8 +42,8 @@ pub data Outcome : Type 0 where
   made : ℕ → Outcome
   -- the script was run as the options say, and how the run ended
   ran : Options → Run → Ending → Outcome
-  -- a session was served, how its run ended, and why it did
-  served : Run → Ending → Closing → Outcome
+  -- a session was served, whose first ship was to have this number, how its run ended, and why it did
+  served : ℕ → Run → Ending → Closing → Outcome
   checked : Report → Outcome
   settled : Settled → Outcome
   -- the script of so many commands from this seed was run
@@ -73,7 +73,7 @@ refusal_of_making not_made.Fault = refusal.DiskFault
 abbrev pub outcome_of : Result Answer Refusal → Outcome
 outcome_of (Ok (answer.Made length)) = made length
 outcome_of (Ok (answer.Ran options finished)) = ran options (run_of finished) finished.ending
-outcome_of (Ok (answer.Served s)) = served (run_of s.finished) s.finished.ending s.closing
+outcome_of (Ok (answer.Served ships s)) = served ships (run_of s.finished) s.finished.ending s.closing
 outcome_of (Ok (answer.Checked report)) = checked report
 outcome_of (Ok (answer.Settled counts)) = settled counts
 outcome_of (Ok (answer.Tried seed count finished)) = tried seed count (run_of finished)
@@ -129,7 +129,7 @@ status_of (refused (refusal.Worn version)) = Damaged
 status_of (refused refusal.NoMemory) = NoMemory
 status_of (made length) = Done
 status_of (ran options run end) = status_of_ending end
-status_of (served run end closing) = status_of_session end closing
+status_of (served ships run end closing) = status_of_session end closing
 status_of (checked report) = Done
 status_of (settled counts) = Done
 status_of (tried seed count run) = Done
@@ -186,7 +186,7 @@ text_of (refused (refusal.Worn version)) = codes "worn " ++ decimal version ++ n
 text_of (refused refusal.NoMemory) = codes "no memory" ++ newline
 text_of (made length) = codes "made " ++ decimal length ++ newline
 text_of (ran options run end) = run_text options run
-text_of (served run end closing) = served_text run.charge run.entries run.quanta run.totals closing
+text_of (served ships run end closing) = served_text ships run.charge run.entries run.quanta run.totals closing
 text_of (checked report) = report_text report
 text_of (settled counts) = settled_text counts
 text_of (tried seed count run) = summary_text seed count run.entries run.quanta run.totals
@@ -203,19 +203,21 @@ Tells sink sink_after outcome status =
 abbrev pub AddsWithMore : List ℕ → Option (List ℕ) → Option (List ℕ) → Type 0
 AddsWithMore text old new = IfSome old (λ held. (more : List ℕ) × (new ≡ Some (held ++ text ++ more)))
 
--- A session's lines are told one by one: what was written has the lines of all entries, and perhaps more of the text; or the sink failed at a line, once,
--- and all lines but the last entry's had been written whole, so that one command at most is done that isn't told. The source's count stands then, as
--- `Cause` has it: so the source isn't asked before the last line is out.
+-- A session's lines are told one by one: what was written has the lines of all entries, and their ships, and perhaps more of the text; or the sink
+-- failed at a line, once, and all lines and ships but the last entry's had been written whole, so that one command at most is done that isn't told,
+-- or whose ship isn't. The source's count stands then, as `Cause` has it: so the source isn't asked before the last line is out.
 abbrev pub TellsLines : Outcome → SinkState → SinkState → Type 0
-TellsLines (served run end closing.SinkFault) sink sink_after = IsTold closing.SinkFault run.charge run.entries run.quanta sink sink_after
-TellsLines (served run end closing) sink sink_after = AddsWithMore (front_text run.charge run.entries run.quanta) sink.held sink_after.held
+TellsLines (served ships run end closing.SinkFault) sink sink_after =
+    IsTold closing.SinkFault ships run.charge run.entries run.quanta sink sink_after
+TellsLines (served ships run end closing) sink sink_after =
+    AddsWithMore (front_text ships run.charge run.entries run.quanta) sink.held sink_after.held
 TellsLines outcome sink sink_after = ⊤
 
 -- ---- before the answer is told
 
 -- a session has told its lines, as far as it came, and nothing else has told anything
 abbrev pub HasTold : Outcome → SinkState → SinkState → Type 0
-HasTold (served run end closing) sink sink_after = IsTold closing run.charge run.entries run.quanta sink sink_after
+HasTold (served ships run end closing) sink sink_after = IsTold closing ships run.charge run.entries run.quanta sink sink_after
 HasTold outcome sink sink_after = sink_after ≡ sink
 
 -- what is still to be written of a session's text, or that its sink failed
@@ -225,5 +227,5 @@ WritesRest closing totals result sink sink_after = Writes (end_text totals ++ cl
 
 -- and of any text
 abbrev pub WritesAnswer : Outcome → Result (Unit {0}) Failed → SinkState → SinkState → Type 0
-WritesAnswer (served run end closing) result sink sink_after = WritesRest closing run.totals result sink sink_after
+WritesAnswer (served ships run end closing) result sink sink_after = WritesRest closing run.totals result sink sink_after
 WritesAnswer outcome result sink sink_after = Writes (text_of outcome) result sink sink_after

@@ -153,7 +153,7 @@ fn print_done<K: Sink>(sink: &mut K, answer: &Answer) -> Result<(), Failed>
     match answer {
         Answer::Made(length) => print_numbered(sink, b"made ", *length),
         Answer::Ran(options, run) => print_run(sink, *options, run),
-        Answer::Served(served) => print_rest(sink, served),
+        Answer::Served(_, served) => print_rest(sink, served),
         Answer::Checked(report) => print_report(sink, report),
         Answer::Settled(settled) => print_settled(sink, settled),
         Answer::Tried(seed, count, run) => print_summary(
@@ -226,7 +226,7 @@ fn status_for(answer: &Result<Answer, Refusal>) -> Status
         Ok(Answer::Made(_) | Answer::Checked(_) | Answer::Settled(_) | Answer::Tried(..)) =>
             Status::Done,
         Ok(Answer::Ran(_, run)) => status_of_run(run),
-        Ok(Answer::Served(served)) => status_of_session(served),
+        Ok(Answer::Served(_, served)) => status_of_session(served),
         Err(refusal) => status_of_refusal(*refusal),
     }
 }

@@ -14,8 +14,8 @@ pub(crate) enum Answer {
     Made(u64),
     /// A script was run, of which is printed what the options say.
     Ran(Options, Finished),
-    /// A session was served, and all up to its end was told but where the sink failed.
-    Served(Served),
+    /// A session was served, whose first ship was to have this number, and all up to its end was told but where the sink failed.
+    Served(u64, Served),
     /// A store was checked.
     Checked(Report),
     /// A store was settled by its opening.

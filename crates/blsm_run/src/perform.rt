@@ -50,7 +50,8 @@ fn run<R: Threads + Wait + Sync, S: Source, H: Shelf, G: Gate + Sync>(
     Ok(Answer::Ran(options, finished))
 }
 
-// Serves the lines of the source over the store on the disk of a name, with room for the callers for which the words ask.
+// Serves the lines of the source over the store on the disk of a name, with room for the callers for which the words ask, and
+// the first ship of this number.
 fn serve<S: Source, K: Sink, H: Shelf>(
     alloc: Global,
     source: &mut S,
@@ -58,16 +59,18 @@ fn serve<S: Source, K: Sink, H: Shelf>(
     shelf: &mut H,
     name: &str,
     callers: u32,
+    ships: u64,
 ) -> Result<Answer, Refusal>
     requires some { 1 ≤ callers }
     requires few { callers ≤ most_callers }
-    ensures cause { (words : List (List ℕ)) → AreAccepted words → asked_by words ≡ Some (serve name.now callers)
+    requires number { ships ≤ most_ship }
+    ensures cause { (words : List (List ℕ)) → AreAccepted words → asked_by words ≡ Some (serve name.now callers ships)
         → Cause H.D.state (outside words (S.state source.old) (S.state source.new) (H.state shelf.old) (H.state shelf.new)) (outcome_of result) }
     ensures made { IfOk result HasMadeAnswer }
     ensures told { HasTold (outcome_of result) (K.state sink.old) (K.state sink.new) }
 {
-    let served = serve_on_shelf(alloc, shelf, name, callers, source, sink)?;
-    Ok(Answer::Served(served))
+    let served = serve_on_shelf(alloc, shelf, name, callers, ships, source, sink)?;
+    Ok(Answer::Served(ships, served))
 }
 
 // Does what a request asks for, which the words gave.
@@ -91,7 +94,11 @@ fn carry_out<R: Threads + Wait + Sync, S: Source, K: Sink, H: Shelf, G: Gate + S
             shelf, name, &geometry,
         )?)),
         Request::Run { name, options } => run(rt, alloc, source, shelf, name, options, gate),
-        Request::Serve { name, callers } => serve(alloc, source, sink, shelf, name, callers),
+        Request::Serve {
+            name,
+            callers,
+            ships,
+        } => serve(alloc, source, sink, shelf, name, callers, ships),
         Request::Check { name } => Ok(Answer::Checked(check_on_shelf(alloc, shelf, name)?)),
         Request::Settle { name } => Ok(Answer::Settled(settle_on_shelf(alloc, shelf, name)?)),
         Request::Trial { seed, count } => Ok(Answer::Tried(

@@ -6,6 +6,7 @@ ghost use Rattle.tree_machine.specs.Machine.{seats};
 ghost use Rattle.store_trial.specs.Trial.{IsRoomOf};
 ghost use Rattle.tree_session.specs.Lines.{AreRunnable};
 ghost use Rattle.store_run.specs.Run.{run_of};
+ghost use Rattle.ship_text.specs.Ships.{most_first};
 ghost use Rattle.store_serve.specs.Told.{IsTold};
 ghost use Rattle.blsm_run.specs.Stores.{ChecksOnShelf, MakesOnShelf, RunsOnShelf, ServesOnShelf, SettlesOnShelf};
 
@@ -101,27 +102,31 @@ pub(crate) fn settle_on_shelf<H: Shelf>(
     settled
 }
 
-/// Serves the lines of the source over the store on the disk of a name, with room for so many callers. Each line is told as it was done.
+/// Serves the lines of the source over the store on the disk of a name, with room for so many callers. Each line is told as it was done,
+/// and its ship behind it, the first with this number; with 0 none is.
 #[inline(never)]
 pub(crate) fn serve_on_shelf<H: Shelf, S: Source, K: Sink>(
     alloc: Global,
     shelf: &mut H,
     name: &str,
     count: u32,
+    ships: u64,
     source: &mut S,
     sink: &mut K,
 ) -> Result<Served, Unreadable>
     requires some { 1 ≤ count }
     requires few { count ≤ callers }
+    requires number { ships ≤ most_first }
     ensures serves { ServesOnShelf H.D.state name.now count (H.state shelf.old) (H.state shelf.new) (S.state source.old) (S.state source.new) result }
-    ensures told { IfOk result (λ served. IsTold served.closing (run_of served.finished).charge (run_of served.finished).entries (run_of served.finished).quanta
+    ensures told { IfOk result
+        (λ served. IsTold served.closing ships (run_of served.finished).charge (run_of served.finished).entries (run_of served.finished).quanta
         (K.state sink.old) (K.state sink.new)) }
     ensures silent { IsErr result → K.state sink.new ≡ K.state sink.old }
 {
     let Ok(fetched) = shelf.fetch(name, false) else {
         return Err(Unreadable::Fault);
     };
-    let (disk, served) = serve_over(alloc, fetched, share(count), source, sink);
+    let (disk, served) = serve_over(alloc, fetched, share(count), ships, source, sink);
     shelf.give_back(name, disk);
     served
 }

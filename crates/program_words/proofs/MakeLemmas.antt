@@ -33,8 +33,9 @@ pub all_given : (name : Option Text) (workers turns ships resident : Option ℕ)
 all_given name workers turns ships resident n w t s r h1 h2 h3 h4 h5 = grind (arith, common_steps, nat_tests)
 
 -- what `serve` asks for
-pub nobody_served : (name : Option Text) (callers : Option ℕ) → None ≡ name → None ≡ serve_by name callers
-nobody_served name callers h1 = grind (arith, common_steps, nat_tests)
+pub nobody_served : (name : Option Text) (callers ships : Option ℕ) → None ≡ name → None ≡ serve_by name callers ships
+nobody_served name callers ships h1 = grind (arith, common_steps, nat_tests)
 
-pub served : (name : Option Text) (callers : Option ℕ) (n : Text) (c : ℕ) → Some n ≡ name → Some c ≡ callers → Some (serve n c) ≡ serve_by name callers
-served name callers n c h1 h2 = grind (arith, common_steps, nat_tests)
+pub served : (name : Option Text) (callers ships : Option ℕ) (n : Text) (c s : ℕ) → Some n ≡ name → Some c ≡ callers → Some s ≡ ships
+    → Some (serve n c s) ≡ serve_by name callers ships
+served name callers ships n c s h1 h2 h3 = grind (arith, common_steps, nat_tests)

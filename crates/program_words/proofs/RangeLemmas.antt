@@ -71,8 +71,9 @@ run_fits : (name : Option Text) (workers turns ships resident : Option ℕ) (ask
     → Bounds ships_number ships → run_by name workers turns ships resident ≡ Some asked → IsInRange asked
 run_fits name workers turns ships resident asked h1 h2 h3 h4 = grind (arith, common_steps, nat_tests)
 
-serve_fits : (name : Option Text) (callers : Option ℕ) (asked : Asked) → Bounds callers_number callers → serve_by name callers ≡ Some asked → IsInRange asked
-serve_fits name callers asked h1 h2 = grind (arith, common_steps, nat_tests)
+serve_fits : (name : Option Text) (callers ships : Option ℕ) (asked : Asked) → Bounds callers_number callers → Bounds ships_number ships
+    → serve_by name callers ships ≡ Some asked → IsInRange asked
+serve_fits name callers ships asked h1 h2 h3 = grind (arith, common_steps, nat_tests)
 
 check_fits : (name : Option Text) (asked : Asked) → option_map check name ≡ Some asked → IsInRange asked
 check_fits name asked h1 = grind (arith, common_steps, nat_tests)
@@ -99,7 +100,8 @@ command_fits name rows asked is =
     (λ fourth. either (bytes_eq name (codes "trial")) (trial_in rows) _ asked fourth
     (trial_fits (number_in seed_number rows) (number_in count_number rows) asked (bounded seed_number rows) (bounded count_number rows))
     (λ fifth. either (bytes_eq name (codes "serve")) (serve_in rows) _ asked fifth
-    (serve_fits (file_in rows) (number_in callers_number rows) asked (bounded callers_number rows))
+    (serve_fits (file_in rows) (number_in callers_number rows) (number_in ships_number rows) asked (bounded callers_number rows)
+    (bounded ships_number rows))
     (λ last. either (bytes_eq name (codes "settle")) (option_map settle (file_in rows)) None asked last (settle_fits (file_in rows) asked)
     (none_fits asked))))))
 

@@ -83,13 +83,17 @@ trial_first : AskFor (codes "trial" ∷ codes "--seed" ∷ codes "0" ∷ codes "
 unfolding clap_on_literals
 trial_first = (refl, refl)
 
-serve_file : AskFor (on_file (codes "serve") []) (serve (codes "F") 16)
+serve_file : AskFor (on_file (codes "serve") []) (serve (codes "F") 16 0)
 unfolding clap_on_literals
 serve_file = (refl, refl)
 
-serve_one : AskFor (codes "serve" ∷ codes "--callers" ∷ codes "1" ∷ codes "F" ∷ []) (serve (codes "F") 1)
+serve_one : AskFor (codes "serve" ∷ codes "--callers" ∷ codes "1" ∷ codes "F" ∷ []) (serve (codes "F") 1 0)
 unfolding clap_on_literals
 serve_one = (refl, refl)
+
+serve_ships : AskFor (codes "serve" ∷ codes "--ships" ∷ codes "9223372036854775808" ∷ codes "F" ∷ []) (serve (codes "F") 16 9223372036854775808)
+unfolding clap_on_literals
+serve_ships = (refl, refl)
 
 settle_file : AskFor (on_file (codes "settle") []) (settle (codes "F"))
 unfolding clap_on_literals
@@ -157,6 +161,10 @@ too_many_turns = refl
 ship_too_great : fault (on_file (codes "run") (codes "--ships" ∷ codes "9223372036854775809" ∷ [])) ≡ kind.ValueValidation ∷ []
 unfolding clap_on_literals
 ship_too_great = refl
+
+served_ship_too_great : fault (on_file (codes "serve") (codes "--ships" ∷ codes "9223372036854775809" ∷ [])) ≡ kind.ValueValidation ∷ []
+unfolding clap_on_literals
+served_ship_too_great = refl
 
 resident_two : fault (on_file (codes "run") (codes "--resident" ∷ codes "2" ∷ [])) ≡ kind.ValueValidation ∷ []
 unfolding clap_on_literals

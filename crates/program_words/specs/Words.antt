@@ -52,7 +52,7 @@ most_workers = 8
 abbrev pub most_turns : ℕ
 most_turns = 1000000
 
--- the greatest number that the first ship of a run may have
+-- the greatest number that the first ship of a run or a session may have
 abbrev pub most_ship : ℕ
 most_ship = 9223372036854775808
 
@@ -120,9 +120,11 @@ trial_command = with_rule
     (with_rule (new_app (codes "trial")) (as_required (number_rule seed_number)))
     (as_required (number_rule count_number))
 
--- `serve FILE`, with its callers
+-- `serve FILE`, with its callers, and the number of the first ship
 abbrev pub serve_command : App
-serve_command = with_rule (on_file (codes "serve")) (with_default (codes "16") (number_rule callers_number))
+serve_command = with_rule
+    (with_rule (on_file (codes "serve")) (with_default (codes "16") (number_rule callers_number)))
+    (with_default (codes "0") (number_rule ships_number))
 
 abbrev pub no_command : App
 no_command = new_app (codes "blsm")
@@ -153,24 +155,24 @@ pub record IsCommand (app : App) (command : Command) : Type 0 where
 
 -- ---- what words ask for
 
--- a store to be made, one to run a script over as the options say, one to look at, one to serve so many callers over, one to settle, each in the
--- file of a name; a trial, by its seed and its count
+-- a store to be made, one to run a script over as the options say, one to look at, one to serve so many callers over, with this number for the
+-- first ship, one to settle, each in the file of a name; a trial, by its seed and its count
 pub data Asked : Type 0 where
   make : List ℕ → Sizes → Asked
   run : List ℕ → Options → Asked
   check : List ℕ → Asked
   trial : ℕ → ℕ → Asked
-  serve : List ℕ → ℕ → Asked
+  serve : List ℕ → ℕ → ℕ → Asked
   settle : List ℕ → Asked
 
 -- what is asked for is a store of a geometry, a run with few workers, few turns and a small number, a trial of a seed of 64 bits and of a
--- step to as many as a script has lines, or a session of one caller to sixteen
+-- step to as many as a script has lines, or a session of one caller to sixteen and a small number
 abbrev pub IsInRange : Asked → Type 0
 IsInRange (make name sizes) = IsGeometry sizes
 IsInRange (run name options) = (options.workers ≤ most_workers) × (options.turns ≤ most_turns) × (options.ships ≤ most_ship)
 IsInRange (check name) = ⊤
 IsInRange (trial seed count) = (seed < 2 ^ 64) × (1 ≤ count) × (count ≤ most_lines)
-IsInRange (serve name callers) = (1 ≤ callers) × (callers ≤ most_callers)
+IsInRange (serve name callers ships) = (1 ≤ callers) × (callers ≤ most_callers) × (ships ≤ most_ship)
 IsInRange (settle name) = ⊤
 
 -- the number that a text is, where it is one in the option's range, by the test that `clap` tries too
@@ -209,12 +211,12 @@ abbrev pub run_in : List Row → Option Asked
 run_in rows =
     run_by (file_in rows) (number_in workers_number rows) (number_in turns_number rows) (number_in ships_number rows) (number_in resident_number rows)
 
-abbrev pub serve_by : Option Text → Option ℕ → Option Asked
-serve_by (Some name) (Some callers) = Some (serve name callers)
-serve_by _ _ = None
+abbrev pub serve_by : Option Text → Option ℕ → Option ℕ → Option Asked
+serve_by (Some name) (Some callers) (Some ships) = Some (serve name callers ships)
+serve_by _ _ _ = None
 
 abbrev pub serve_in : List Row → Option Asked
-serve_in rows = serve_by (file_in rows) (number_in callers_number rows)
+serve_in rows = serve_by (file_in rows) (number_in callers_number rows) (number_in ships_number rows)
 
 abbrev pub trial_by : Option ℕ → Option ℕ → Option Asked
 trial_by (Some seed) (Some count) = Some (trial seed count)
@@ -245,7 +247,7 @@ asked_of (request.Make name geometry) = make name.now geometry
 asked_of (request.Run name options) = run name.now options
 asked_of (request.Check name) = check name.now
 asked_of (request.Trial seed count) = trial seed count
-asked_of (request.Serve name callers) = serve name.now callers
+asked_of (request.Serve name callers ships) = serve name.now callers ships
 asked_of (request.Settle name) = settle name.now
 
 -- what the reading of the words answers

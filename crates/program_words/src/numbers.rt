@@ -17,7 +17,7 @@ pub(crate) const MAX_WORKERS: u64 = 8;
 /// The greatest number of turns that each of them takes.
 pub(crate) const MAX_TURNS: u64 = 1_000_000;
 
-/// The greatest number of a run's first ship.
+/// The greatest number of the first ship of a run or a session.
 pub(crate) const MAX_SHIP: u64 = 9_223_372_036_854_775_808;
 
 /// The greatest number of callers of a session.

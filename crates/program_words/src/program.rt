@@ -87,13 +87,15 @@ fn run<'a>(alloc: Global) -> Result<Command<'a>, AllocError>
     with_arg(with_ships, resident)
 }
 
-// `serve`, with its callers.
+// `serve`, with its callers, and the number of its first ship.
 #[inline(never)]
 fn serve<'a>(alloc: Global) -> Result<Command<'a>, AllocError>
     ensures { IfOk result (IsCommand serve_app) }
 {
     let callers = number(alloc, "callers", 1, MAX_CALLERS).default_value("16");
-    with_arg(on_file(alloc, "serve"), callers)
+    let with_callers = with_arg(on_file(alloc, "serve"), callers);
+    let ships = number(alloc, "ships", 0, MAX_SHIP).default_value("0");
+    with_arg(with_callers, ships)
 }
 
 // `trial`, with its seed and its count.

@@ -19,17 +19,35 @@ pub struct Options {
 #[derive(Clone, Copy, PartialEq, Eq, Debug)]
 pub enum Request<'a> {
     /// A new store of this geometry in the file of this name.
-    Make { name: &'a str, geometry: Geometry },
+    Make {
+        name: &'a str,
+        geometry: Geometry,
+    },
     /// A script to be run over the store in the file of this name.
-    Run { name: &'a str, options: Options },
+    Run {
+        name: &'a str,
+        options: Options,
+    },
     /// A look at the store in the file of this name.
-    Check { name: &'a str },
+    Check {
+        name: &'a str,
+    },
     /// The settling of the store in the file of this name.
-    Settle { name: &'a str },
+    Settle {
+        name: &'a str,
+    },
     /// A trial of so many steps, from 1 to 65,536, drawn from this seed.
-    Trial { seed: u64, count: u32 },
-    /// A session over the store in the file of this name, with room for the callers from 1 to this one, 16 at most.
-    Serve { name: &'a str, callers: u32 },
+    Trial {
+        seed: u64,
+        count: u32,
+    },
+    /// A session over the store in the file of this name, with room for the callers from 1 to this one, 16 at most. The first ship that is told has
+    /// the number `ships`, at most 2^63; with 0 none is told.
+    Serve {
+        name: &'a str,
+        callers: u32,
+        ships: u64,
+    },
 }
 
 /// Why words were not read.

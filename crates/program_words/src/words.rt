@@ -79,9 +79,11 @@ fn serve_of<'a>(matches: &ArgMatches<'a>) -> Option<Request<'a>>
 {
     let name = matches.get_str("FILE")?;
     let callers = number_of(matches, "callers", 1, MAX_CALLERS)?;
+    let ships = number_of(matches, "ships", 0, MAX_SHIP)?;
     Some(Request::Serve {
         name,
         callers: callers as u32,
+        ships,
     })
 }
 

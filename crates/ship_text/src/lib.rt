@@ -5,5 +5,5 @@
 mod print;
 mod reading;
 
-pub use print::{MAX_FIRST, print_ship, print_ships};
+pub use print::{MAX_FIRST, print_ship, print_ship_of, print_ships};
 pub use reading::{MAX_NUMBER, MOST_SHIPS, Ship, ShipFault, Ships, printed_is_read, read_ships};

@@ -55,8 +55,9 @@ fn is_shipped(annals: &Annals, place: u32) -> bool
     annals.op(place).is_write() && matches!(annals.short_reply(place), Some(ShortReply::Done))
 }
 
-// Prints the ship of the entry at a place, if it has one, and answers the number of the next one.
-fn print_ship_of<K: Sink>(
+/// Prints the ship of the entry at a place, if it has one, with this number, and answers the number of the next one. What the piece had is gone where
+/// there is one. Where the sink fails, a front of the line was written, and not the whole. It takes no memory.
+pub fn print_ship_of<K: Sink>(
     sink: &mut K,
     piece: &mut Piece,
     annals: &Annals,

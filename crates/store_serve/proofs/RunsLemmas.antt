@@ -164,14 +164,16 @@ asked_of [] = refl
 asked_of (e ∷ es) = ap (λ (rest : List (ℕ × Op)). (e.seat, e.op) ∷ rest) (asked_of es)
 
 -- What a session did of a store that was opened, and what is told of it.
-pub record ServedOver {D : Type 0} (state : D → DiskState) (room : Room) (closing : Closing) (run : Run) (first last : D) (s t : SourceState) (k h : SinkState) : Type 0 where
+pub record ServedOver {D : Type 0} (state : D → DiskState) (room : Room) (ships : ℕ) (closing : Closing) (run : Run) (first last : D)
+    (s t : SourceState) (k h : SinkState) : Type 0 where
   pub over : RanOver state room (lines_in run.entries) 0 0 run first last
   pub in_order : asked_in run.entries ≡ asked (lines_in run.entries)
   pub takes : TakesLines run.entries closing room s t
-  pub told : IsTold closing run.charge run.entries run.quanta k h
+  pub told : IsTold closing ships run.charge run.entries run.quanta k h
 
-module _ {D : Type 0} (state : D → DiskState) (timed : (d : D) → IsTimed (state d)) (room : Room) (closing : Closing) (first : D) (old mid new : CoreState D) (s t : SourceState) (k h : SinkState)
-    (o : Opened state room first old) (did : DidLines state closing old mid s t k h) (leaves : LeftBy state callers mid new) where
+module _ {D : Type 0} (state : D → DiskState) (timed : (d : D) → IsTimed (state d)) (room : Room) (ships : ℕ) (closing : Closing) (first : D)
+    (old mid new : CoreState D) (s t : SourceState) (k h : SinkState)
+    (o : Opened state room first old) (did : DidLines state ships closing old mid s t k h) (leaves : LeftBy state callers mid new) where
   is_run : RunsAll state (lines_in new.held.book.book.entries) 0 0 old new
   is_run = subst (λ (b : Book). RunsAll state (lines_in b.entries) 0 0 old new) (sym leaves.book)
       (runs_all state (lines_in mid.held.book.book.entries) old mid new
@@ -181,10 +183,10 @@ module _ {D : Type 0} (state : D → DiskState) (timed : (d : D) → IsTimed (st
   takes_all = subst (λ (b : Book). TakesLines b.entries closing room s t) (sym leaves.book)
       (subst (λ (r : Room). TakesLines mid.held.book.book.entries closing r s t) (ap (λ (b : BookState). b.book.room) o.opened.book) did.takes)
 
-  told_all : IsTold closing (charge_in old.held) new.held.book.book.entries new.held.book.book.quanta k h
-  told_all = subst (λ (b : Book). IsTold closing (charge_in old.held) b.entries b.quanta k h) (sym leaves.book) did.told
+  told_all : IsTold closing ships (charge_in old.held) new.held.book.book.entries new.held.book.book.quanta k h
+  told_all = subst (λ (b : Book). IsTold closing ships (charge_in old.held) b.entries b.quanta k h) (sym leaves.book) did.told
 
-  at_end : (last : D) → last ≡ new.disk → ServedOver state room closing (run_at (charge_in old.held) new.held) first last s t k h
+  at_end : (last : D) → last ≡ new.disk → ServedOver state room ships closing (run_at (charge_in old.held) new.held) first last s t k h
   at_end last same = record {
     over = ran_over state timed room (lines_in new.held.book.book.entries) 0 0 first old new o is_run (run_at (charge_in old.held) new.held) refl last same;
     in_order = asked_of new.held.book.book.entries;
@@ -192,5 +194,6 @@ module _ {D : Type 0} (state : D → DiskState) (timed : (d : D) → IsTimed (st
     told = told_all;
   }
 
-  pub served_over : (run : Run) → run ≡ run_at (charge_in old.held) new.held → (last : D) → last ≡ new.disk → ServedOver state room closing run first last s t k h
-  served_over run is last same = subst (λ (r : Run). ServedOver state room closing r first last s t k h) (sym is) (at_end last same)
+  pub served_over : (run : Run) → run ≡ run_at (charge_in old.held) new.held → (last : D) → last ≡ new.disk
+      → ServedOver state room ships closing run first last s t k h
+  served_over run is last same = subst (λ (r : Run). ServedOver state room ships closing r first last s t k h) (sym is) (at_end last same)

@@ -3,11 +3,13 @@
 #![tactic(auto)]
 
 mod closing;
+mod laws;
 mod next;
 mod room;
 mod serve;
 mod session;
 
 pub use closing::{Closing, print_closing};
+pub use laws::plain_session;
 pub use room::share;
 pub use serve::{Served, serve_over};

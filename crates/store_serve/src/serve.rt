@@ -7,6 +7,7 @@ ghost use Rattle.blsm_model.specs.declared.row.Value.{Value};
 ghost use Rattle.disk_trait.specs.Disk.{TellsFaultsBy};
 ghost use Rattle.disk_trait.specs.Moments.{LeavesOnly};
 ghost use Rattle.recover_open.specs.Opening.{HasLengthOf, KeepsMapOf, ReadsAsNone};
+ghost use Rattle.ship_text.specs.Ships.{most_first};
 ghost use Rattle.store_file.specs.Layout.{superblock_length};
 ghost use Rattle.store_run.specs.Headline.{Headline};
 ghost use Rattle.store_run.specs.Run.{AreCounted, CameToEnd, HasCauses, IsEnding, IsRunInOrder, run_of};
@@ -46,7 +47,8 @@ fn leave_all<D: Disk + Drop>(core: &mut Core<D>)
 }
 
 /// Opens the store on a disk and does the lines of the source on it as they come, on one thread, each told before the source is asked for more. The
-/// disk comes back whatever happens.
+/// disk comes back whatever happens. Right behind an entry that is a write and was done its ship is told, the first with this number, at most 2^63;
+/// with 0 none is.
 ///
 /// The refusals are those of `open_store`; then source and sink are as they were. Where the sink failed nothing more was done.
 #[inline(never)]
@@ -54,11 +56,13 @@ pub fn serve_over<D: Disk + Drop, S: Source, K: Sink>(
     alloc: Global,
     disk: D,
     room: Room,
+    ships: u64,
     source: &mut S,
     sink: &mut K,
 ) -> (D, Result<Served, Unreadable>)
     requires entries { sum room.entries ≤ most_entries }
     requires rows { sum room.rows ≤ most_rows_asked }
+    requires number { ships ≤ most_first }
 
     // The headline of a run of the lines that were done, with nobody else at work, and in order.
     ensures ran { IfOk result.1 (λ served. (sizes : Sizes) × HasLengthOf sizes (D.state disk)
@@ -82,11 +86,12 @@ pub fn serve_over<D: Disk + Drop, S: Source, K: Sink>(
     ensures untouched { IsTrue (D.state disk).is_honest → ReadsAsNone (D.state disk).bytes
         → LeavesOnly (D.state disk) (D.state result.0) (D.state disk).images }
 
-    // What was taken of the source, and what was told. One command at most is done that isn't told, and the source isn't asked before all are.
+    // What was taken of the source, and what was told. One command at most is done that isn't told, or whose ship isn't, and the source isn't asked
+    // before all are.
     ensures takes { IfOk result.1
         (λ served. TakesLines (run_of served.finished).entries served.closing room (S.state source.old) (S.state source.new)) }
     ensures told { IfOk result.1
-        (λ served. IsTold served.closing (run_of served.finished).charge (run_of served.finished).entries (run_of served.finished).quanta
+        (λ served. IsTold served.closing ships (run_of served.finished).charge (run_of served.finished).entries (run_of served.finished).quanta
         (K.state sink.old) (K.state sink.new)) }
     ensures unasked { IsErr result.1 → S.state source.new ≡ S.state source.old }
     ensures silent { IsErr result.1 → K.state sink.new ≡ K.state sink.old }
@@ -97,7 +102,7 @@ pub fn serve_over<D: Disk + Drop, S: Source, K: Sink>(
     };
     core.kept();
     let charge = core.charge();
-    let closing = do_lines(alloc, &mut core, source, sink);
+    let closing = do_lines(alloc, &mut core, ships, source, sink);
     leave_all(&mut core);
     let (disk, finished) = finish(core, charge);
     (disk, Ok(Served { finished, closing }))

@@ -62,6 +62,21 @@ fn a_session_of_four_lines(rt: HostRuntime) {
 }
 
 #[test]
+fn ships_right_behind_their_entries(rt: HostRuntime) {
+    let words = ["blsm", "serve", NAME, "--ships", "7"];
+    let text = "open charge 0
+1 1 put a 5 hi => ok q0
+ship 7 put a 5 hi
+2 1 get a => is 5 hi q0
+3 1 del a => ok q0
+ship 8 del a
+4 1 get a => none q0
+end c0 16 of 65536 callers 0 workers 0 swaps 0 0
+";
+    serves(&rt, rt.alloc(), &words, SCRIPT, (0, text));
+}
+
+#[test]
 fn a_session_of_no_line(rt: HostRuntime) {
     let text = "open charge 0\nend c0 0 of 65536 callers 0 workers 0 swaps 0 0\n";
     serves(&rt, rt.alloc(), &SERVE, b"", (0, text));

@@ -93,6 +93,9 @@ serve-requires-clause-some g c = λ κs lives. (rw c.in-Serve.is at c.requires.r
 pub serve-requires-clause-few : goal.serve-requires-clause-few
 serve-requires-clause-few g c = λ κs lives. (rw c.in-Serve.is at c.requires.range).1
 
+pub serve-requires-clause-number : goal.serve-requires-clause-number
+serve-requires-clause-number g c = λ κs lives. (rw c.in-Serve.is at c.requires.range).2
+
 pub returns-in-Serve-clause-cause : goal.returns-in-Serve-clause-cause
 returns-in-Serve-clause-cause g c = λ words accepted asked. c.serve.ensures.cause words accepted (rw c.in-Serve.is at asked)
 

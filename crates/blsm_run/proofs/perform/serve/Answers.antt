@@ -11,7 +11,7 @@ returns-in_err-served-clause-cause g c = λ words accepted asked.
     let o = outside words (g.S.Source.state c.args.source.now) (g.S.Source.state c.serve_on_shelf.new.source) (g.H.Shelf.state c.args.shelf.now) (g.H.Shelf.state c.serve_on_shelf.new.shelf) in
     let why = c.in_err-served.field-0.0 in
     passed_on state o c.from_residual.result (refusal_of_store why) c.from_residual.ensures.1
-    (stopped state o why (inr (inl (record { asks = record { name = c.args.name.now; callers = c.args.callers; asked = (accepted, asked) }; unread = c.in_err-served.ensures.serves.1; refuses = c.in_err-served.ensures.serves.0 }))))
+    (stopped state o why (inr (inl (record { asks = record { name = c.args.name.now; callers = c.args.callers; ships = c.args.ships; asked = (accepted, asked) }; unread = c.in_err-served.ensures.serves.1; refuses = c.in_err-served.ensures.serves.0 }))))
 
 pub returns-in_err-served-clause-told : goal.returns-in_err-served-clause-told
 returns-in_err-served-clause-told g c =
@@ -19,8 +19,11 @@ returns-in_err-served-clause-told g c =
     (not_told c.from_residual.result (refusal_of_store c.in_err-served.field-0.0) (g.K.Sink.state c.args.sink.now) c.from_residual.ensures.1)
 
 pub returns-clause-cause : goal.returns-clause-cause
-returns-clause-cause g c = λ words accepted asked.
-    (record { name = c.args.name.now; callers = c.args.callers; asked = (accepted, asked) }, c.in_ok-served.ensures.serves)
+returns-clause-cause g c = λ words accepted asked. (
+  record { name = c.args.name.now; callers = c.args.callers; ships = c.args.ships; asked = (accepted, asked) },
+  refl,
+  c.in_ok-served.ensures.serves,
+)
 
 pub returns-clause-told : goal.returns-clause-told
 returns-clause-told g c = c.in_ok-served.ensures.told

@@ -35,13 +35,16 @@ pub do_lines-closing-requires-clause-rests : goal.do_lines-closing-requires-clau
 do_lines-closing-requires-clause-rests g c = opened_rests (no_entries c.args.room) (g.D.Disk.state c.in-Ok.core.disk).faults c.in-Ok.core.held c.in-Ok.ensures.opened
 
 -- all that is said of it
-served : (g : _) (c : After-finish-disk g) → ServedOver g.D.Disk.state c.args.room c.do_lines-closing.result (run_of c.finish-disk.result.1) c.args.disk c.finish-disk.result.0 (g.S.Source.state c.args.source.now)
+served : (g : _) (c : After-finish-disk g)
+    → ServedOver g.D.Disk.state c.args.room c.args.ships c.do_lines-closing.result (run_of c.finish-disk.result.1) c.args.disk c.finish-disk.result.0
+    (g.S.Source.state c.args.source.now)
     (g.S.Source.state c.do_lines-closing.new.source) (g.K.Sink.state c.args.sink.now) (g.K.Sink.state c.do_lines-closing.new.sink)
 served g c =
     let state = g.D.Disk.state in
     let old = c.in-Ok.core in
     let opened = c.in-Ok.ensures.opened in
-    served_over state g.met.D.Disk.timed c.args.room c.do_lines-closing.result c.args.disk old c.do_lines-closing.new.core c.leave_all.new.core (g.S.Source.state c.args.source.now) (g.S.Source.state c.do_lines-closing.new.source)
+    served_over state g.met.D.Disk.timed c.args.room c.args.ships c.do_lines-closing.result c.args.disk old c.do_lines-closing.new.core
+    c.leave_all.new.core (g.S.Source.state c.args.source.now) (g.S.Source.state c.do_lines-closing.new.source)
     (g.K.Sink.state c.args.sink.now) (g.K.Sink.state c.do_lines-closing.new.sink)
     (record {
       opened = opened;
